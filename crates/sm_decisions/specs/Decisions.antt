@@ -33,7 +33,7 @@ pub record AreAwaiting (w : State) (ids : List StreamId) : Type 0 where
 abbrev pub with_effects : List StreamId → State → State
 with_effects ids w = run (map (λ id. Lose id true) ids) w
 
--- What servers have that have their slots is what the record says with the effects of some streams, with the base in handover numbers.
+-- The servers that have their slots have what the record says with the effects of some streams, with the base in handover numbers.
 pub record AreTold (f : Fleet) : Type 0 where
   pub ids : List StreamId
   pub awaiting : AreAwaiting (controller f).w ids

@@ -2,17 +2,20 @@
 ghost use Rattle.sm_network.specs.FleetLaws.{EachFleet};
 ghost use Rattle.sm_decisions.specs.Decisions.{ApprovesAlike, EffectsAreTold, StartsAlike};
 
-/// Whichever orders and publications have had their effects, the question for a restart is answered as it would be if they were recorded.
+/// States that the question for a restart is answered as if all effects were recorded, whichever orders and
+/// publications have had theirs.
 pub fn approves_alike()
     ensures { EachFleet ApprovesAlike }
 {}
 
-/// Whichever orders and publications have had their effects, a checked plan begins exactly if it would if they were recorded.
+/// States that a checked plan begins exactly if it would with all effects recorded, whichever orders and publications
+/// have had theirs.
 pub fn starts_alike()
     ensures { EachFleet StartsAlike }
 {}
 
-/// What servers have that have their slots is what the record says with the effects of some streams: so the other two laws are about what is so.
+/// States that the servers that have their slots have what the record says with the effects of some streams. So the
+/// other two laws are about what is so.
 pub fn effects_are_told()
     ensures { EachFleet EffectsAreTold }
 {}

@@ -1,6 +1,6 @@
 -- Steps that need nobody: signals, waits for posted signals, and ends of streams. The driver makes them by itself, each time that of
 -- the lowest stream of the lowest plan that can make one.
--- `IsFreeIn`, `IsFreeAlone` and `posts_signal` are for private functions' contracts: whoever reads public contracts need not read them.
+-- `IsFreeIn`, `IsFreeAlone` and `posts_signal` are internal: you need not read them for the public contracts.
 use Rattle.std.specs.Prelude.{◌≡◌, ◌&&◌, ℕ, Bool, true, false, Option, Some, None, List, [], ◌∷◌, is_none, length, map, if◌then◌else◌}
 use Rattle.sm_reservation.specs.declared.stream_id.StreamId.{StreamId}
 use Rattle.sm_plan_code.specs.declared.instruction.Instr.{Instr}

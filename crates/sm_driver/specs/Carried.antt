@@ -7,7 +7,7 @@ use Rattle.sm_protocol.specs.State.{State}
 abbrev pub was_carried : List Bool → ℕ → Bool
 was_carried carried v = slice_index_or carried v false
 
--- the marks of so many servers, where those alone count that are down
+-- the marks of this many servers, of which only those that are down count
 abbrev pub carried_down : List Bool → ℕ → (ℕ → Bool) → List Bool
 carried_down carried servers down = map (λ v. was_carried carried v && down v) (range_with_len 0 servers)
 

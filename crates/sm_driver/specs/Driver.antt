@@ -1,5 +1,5 @@
 -- A driver, and what its commands make of what is recorded.
--- `IsDriving` and `HasLostNone` are the driver's own: whoever reads public contracts need not read them.
+-- `IsDriving` and `HasLostNone` are internal: you need not read them for the public contracts.
 use Rattle.std.specs.Prelude.{◌≡◌, ℕ, ◌+◌, ◌==◌, ◌||◌, Bool, false, true, List, Option, Some, None, length, nat_lt, slice_set, ◌&&◌}
 use Rattle.sm_reservation.specs.declared.stream_id.StreamId.{StreamId}
 use Rattle.sm_plan_code.specs.Plan.{PlanModel}
@@ -69,7 +69,7 @@ pub record IsOfJournal (old new : DriverModel) : Type 0 where
 abbrev pub HasLostNone : State → Type 0
 HasLostNone w = (id : StreamId) → ¬ HasLost w id
 
--- What holds of every driver whose log has so many places: no stream stands before a step that needs nobody, no call was lost, the
+-- The facts that hold of every driver whose log has this many places: no stream stands before a step that needs nobody, no call was lost, the
 -- permits are those of the servers that are down, no two alike, and carried servers are down.
 pub record IsDriving (places : ℕ) (d : DriverModel) : Type 0 where
   pub free : next_free (record_of d) ≡ None
@@ -112,7 +112,7 @@ pub record HasEndedRestart (v permit : ℕ) (server_base : Option ℕ) (old new 
   pub permits : new.permits ≡ slice_set old.permits v None
   pub journal : IsOfJournal (record old { carried = slice_set old.carried v false }) new
 
--- What the end of a restart comes to: the server's restart has ended, or all is as it was.
+-- The outcome of the end of a restart: the server's restart has ended, or all is as it was.
 abbrev pub HasCome : RestartEffect → ℕ → Option ℕ → DriverModel → DriverModel → Type 0
 HasCome (Up v) permit server_base old new = HasEndedRestart v permit server_base old new
 HasCome (Unsettled v) permit server_base old new = new ≡ old

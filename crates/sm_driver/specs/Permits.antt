@@ -1,5 +1,5 @@
 -- Permits of restarts: each server that is down has one, and its restart ends by that one alone.
--- `AreGivenPermits` is the driver's own: whoever reads public contracts need not read it.
+-- `AreGivenPermits` is internal: you need not read it for the public contracts.
 use Rattle.std.specs.Prelude.{◌≡◌, ◌≤◌, ◌<◌, ◌⊎◌, ℕ, ◌+◌, ◌*◌, Bool, false, Option, Some, None, List, is_some, length, map, nat_le, slice_index_or, if◌then◌else◌}
 use Rattle.std.specs.List.{range_with_len}
 use Rattle.std.specs.Option.{option_or}
@@ -32,11 +32,11 @@ restart_effect fence server_base (Some v) = if is_settled fence server_base then
 abbrev pub new_permit : ℕ → ℕ → ℕ
 new_permit base v = base + MOST_PLACES + 1 + v
 
--- the permit that a server has at an opening if it is down: one that it had before, or else a new one
+-- the permit that a server has at an opening if it is down: one that it had before, or otherwise a new one
 abbrev pub opening_permit : ℕ → List (Option ℕ) → (ℕ → Bool) → ℕ → Option ℕ
 opening_permit base before down v = if down v then option_or (permit_of before v) (Some (new_permit base v)) else None
 
--- the permits at an opening of so many servers, some of which had permits before
+-- the permits at an opening of this many servers, some of which had permits before
 abbrev pub opening_permits : ℕ → List (Option ℕ) → ℕ → (ℕ → Bool) → List (Option ℕ)
 opening_permits base before servers down = map (opening_permit base before down) (range_with_len 0 servers)
 
@@ -46,7 +46,7 @@ pub record AreEarlierPermits (base : ℕ) (permits : List (Option ℕ)) : Type 0
   pub apart : (u v permit : ℕ) → permit_of permits u ≡ Some permit → permit_of permits v ≡ Some permit → u ≡ v
 
 -- Permits of a driver whose log has come to this length above this base, no two alike: each is an earlier one or one of an approval in
--- the log, or else one that the opening gave.
+-- the log, or otherwise one that the opening gave.
 pub record AreGivenPermits (base recorded : ℕ) (permits : List (Option ℕ)) : Type 0 where
   pub given : (v permit : ℕ) → permit_of permits v ≡ Some permit → (permit ≤ base + recorded) ⊎ ((base + MOST_PLACES < permit) × (permit ≤ base + 2 * MOST_PLACES))
   pub apart : (u v permit : ℕ) → permit_of permits u ≡ Some permit → permit_of permits v ≡ Some permit → u ≡ v

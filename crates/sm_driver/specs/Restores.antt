@@ -1,5 +1,5 @@
--- What servers are told that have lost all they had.
--- `handover_in_cell` is for a private function's contract: whoever reads public contracts need not read it.
+-- The messages to servers that have lost all they had.
+-- `handover_in_cell` is internal: you need not read it for the public contracts.
 use Rattle.std.specs.Prelude.{ℕ, ◌+◌, ◌==◌, Bool, false, Option, Some, None, List, length, map, slice_index_or}
 use Rattle.std.specs.List.{range_with_len}
 use Rattle.sm_server.specs.declared.call.Cell.{Cell}
@@ -7,7 +7,7 @@ use Rattle.sm_server.specs.declared.call.Cell.TheVariants.{Prepared, Forwarding}
 use Rattle.sm_protocol.specs.State.{State}
 use Rattle.sm_network.specs.Net.{cell_above}
 
--- What a server is told: under which nonce it asked, the number at or below which orders are old to it from then on, and its cells,
+-- The message to a server: under which nonce it asked, the number at or below which orders are old to it from then on, and its cells,
 -- by the shards' numbers.
 pub record RestoreModel : Type 0 where
   pub nonce : ℕ

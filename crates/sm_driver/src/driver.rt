@@ -134,7 +134,8 @@ impl Driver {
         message_of(self.machine(), self.base(), id)
     }
 
-    /// Writes all streams that stand before orders or publications into a list, by plan, then by stream. What the list had is gone.
+    /// Writes all streams that stand before orders or publications into a list, by plan, then by stream. The list's old
+    /// entries are gone.
     pub fn awaiting(&self, list: &mut Vec<StreamId>) -> Result<(), AllocError>
         ensures { OnOk result (list.new.items ≡ awaiting_of (record_of self.now)) }
     {
@@ -268,8 +269,8 @@ impl Driver {
         RestartEffect::Up(server)
     }
 
-    /// Restores a server that has lost all it had, and asks under a nonce: keeps what it is told, and returns true. If it was told under
-    /// this nonce last, returns false, and nothing changes.
+    /// Restores a server that has lost all it had, and asks under a nonce: keeps what it is told, and returns true.
+    /// Returns false if it was told under this nonce last; then nothing changes.
     pub fn restore(
         &mut self,
         alloc: Global,

@@ -1,4 +1,4 @@
-//! Which order and which publication a stream stands before.
+//! The order and the publication that a stream stands before.
 ghost use Rattle.std.specs.Prelude.{◌≡◌, ◌≤◌, ◌<◌, ◌++◌, OnOk, length, option_map};
 ghost use Rattle.std.specs.Option.{option_to_list};
 ghost use Rattle.sm_protocol.specs.State.{numbers_end};
@@ -117,7 +117,7 @@ fn push_streams(machine: &Machine, plan: u32, list: &mut Vec<StreamId>) -> Resul
     Ok(())
 }
 
-/// Writes all streams that wait for answers into a list, by plan, then by stream. What the list had is gone.
+/// Writes all streams that wait for answers into a list, by plan, then by stream. The list's old entries are gone.
 pub fn awaiting(machine: &Machine, list: &mut Vec<StreamId>) -> Result<(), AllocError>
     ensures { OnOk result (list.new.items ≡ awaiting_of (state_of machine.now)) }
 {

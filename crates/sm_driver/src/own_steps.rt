@@ -64,7 +64,8 @@ fn free_in(machine: &Machine, plan: u32) -> Option<StreamId>
     None
 }
 
-/// Makes every step that needs nobody, each time that of the lowest stream that can make one, where only streams of this plan can.
+/// Makes every step that needs nobody, each time that of the lowest stream that can make one. Streams of other plans
+/// can make none at the call.
 pub(crate) fn advance_plan(director: &mut Director, plan: u32)
     requires known { plan < length (state_of director.old).plans }
     requires alone { IsFreeIn (state_of director.old) plan }
@@ -77,8 +78,8 @@ pub(crate) fn advance_plan(director: &mut Director, plan: u32)
     }
 }
 
-/// Makes every step that needs nobody, each time that of the lowest stream that can make one, where only this stream can. Once it posts
-/// a signal, others of its plan may go on too.
+/// Makes every step that needs nobody, each time that of the lowest stream that can make one. Other streams can make
+/// none at the call. Once it posts a signal, others of its plan may go on too.
 pub(crate) fn advance(director: &mut Director, id: StreamId)
     requires { IsFreeAlone (state_of director.old) id }
     ensures advanced { IsAdvanced (state_of director.old) (state_of director.new) }

@@ -32,7 +32,8 @@ fn permit_of(permits: &[Option<u64>], server: u32) -> Option<u64>
     permits.get(server as usize).copied().flatten()
 }
 
-/// Returns the permit that a server has at an opening over a placement, if it is down: the one that it had before, or else a new one.
+/// Returns the permit that a server has at an opening over a placement, if it is down: the one that it had before, or
+/// otherwise a new one.
 fn opening_permit(
     placement: &Placement,
     base: u64,

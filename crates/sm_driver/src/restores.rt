@@ -1,4 +1,4 @@
-//! Restores: what servers are told that have lost all they had.
+//! Restores: the messages to servers that have lost all they had.
 ghost use Rattle.std.specs.Prelude.{◌≡◌, ◌≤◌, ◌<◌, IfOk, Some, None, length, replicate, slice_set};
 ghost use Rattle.std.specs.Option.{option_copied};
 ghost use Rattle.sm_protocol.specs.State.{numbers_end};
@@ -124,7 +124,7 @@ impl Restores {
         }
     }
 
-    /// Keeps what a server is told now.
+    /// Keeps the latest restore of a server.
     pub fn set(&mut self, server: ServerId, restore: ServerRestore)
         requires { server < length self.old }
         ensures { self.new ≡ slice_set self.old server (Some restore) }

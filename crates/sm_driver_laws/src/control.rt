@@ -1,12 +1,14 @@
 //! The driver as a controller.
 ghost use Rattle.sm_driver_laws.specs.ControlLaws.{AnswersHaveEntries, CommandsAreEntries};
 
-/// If a driver is a controller, what a command makes of the driver is what the command's entries make of the controller.
+/// States that if a driver is a controller, what a command makes of the driver is what the command's entries make of
+/// the controller.
 pub fn commands_are_entries()
     ensures { CommandsAreEntries }
 {}
 
-/// Each answer that the driver takes has an entry: of the order, or of the publication, that the stream stands before.
+/// States that each answer that the driver takes has an entry: of the order, or of the publication, that the stream
+/// stands before.
 pub fn answers_have_entries()
     ensures { AnswersHaveEntries }
 {}

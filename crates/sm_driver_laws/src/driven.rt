@@ -10,15 +10,15 @@ use sm_network::{
     servers_are_at_ends, servers_are_near, servers_are_recorded, some_fleet_can_go_on,
 };
 
-/// Whatever commands come, and whatever else happens to servers and network, the fleet is one that its laws are about, and the driver is
-/// its controller.
+/// States that the fleet is one that its laws are about, and the driver is its controller, whatever commands come, and
+/// whatever else happens to servers and network.
 pub fn driven_is_controlled()
     ensures { EachDriven IsFleetDriven }
 {
     fleet_is_reached();
 }
 
-/// Each command writes events of the fleet that all fit.
+/// States that each command writes events of the fleet that all fit.
 pub fn commands_are_events()
     ensures { EachDriven CommandsAreEvents }
 {
@@ -26,7 +26,7 @@ pub fn commands_are_events()
     fleet_is_reached();
 }
 
-/// All laws of the fleet hold of the fleet of a driver.
+/// States that all laws of the fleet hold of the fleet of a driver.
 pub fn driven_is_safe()
     ensures { EachDriven IsDrivenSafely }
 {
@@ -49,19 +49,19 @@ pub fn driven_is_safe()
     fleet_can_finish();
 }
 
-/// The fleet's controller sends exactly the driver's messages.
+/// States that the fleet's controller sends exactly the driver's messages.
 pub fn sends_as_driven()
     ensures { EachDriven SendsAsDriven }
 {
     driven_is_controlled();
 }
 
-/// The first driver of a journal is the controller of a fleet that opens.
+/// States that the first driver of a journal is the controller of a fleet that opens.
 pub fn drivers_open()
     ensures { DriversOpen }
 {}
 
-/// The driver that opens on the settlement of a reopening is the controller of a fleet in force.
+/// States that the driver that opens on the settlement of a reopening is the controller of a fleet in force.
 pub fn reopened_drivers_open()
     ensures { EachSettling ReopenedDriversOpen }
 {

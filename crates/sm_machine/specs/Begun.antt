@@ -1,6 +1,5 @@
 -- A plan that was begun: its streams as they stand, and its signals with what they carry.
--- `with_course`, `with_carried` and `IsBegunParts` are steps of the code's own way, which private functions' contracts cite: whoever reads the public
--- ones need not read them.
+-- `with_course`, `with_carried` and `IsBegunParts` are internal: you need not read them for the public contracts.
 use Rattle.std.specs.Prelude.{◌≡◌, ℕ, Option, None, List, [], length, slice_index_or, slice_set}
 use Rattle.sm_reservation.specs.Capacity.{HoldModel}
 use Rattle.sm_plan_code.specs.Plan.{PlanModel}
@@ -13,7 +12,7 @@ pub record CarriedModel : Type 0 where
   -- what the signal carries; none once it was awaited
   pub grant : Option HoldModel
 
--- what stands where the plan has no such signal
+-- the default if the plan has no such signal
 abbrev pub no_carried : CarriedModel
 no_carried = record { mark = no_mark; grant = None }
 
@@ -27,7 +26,7 @@ pub record BegunModel : Type 0 where
   -- how many streams have not made their ends
   pub unfinished : ℕ
 
--- what stands where no plan was begun
+-- the default if no plan was begun
 abbrev pub no_begun : BegunModel
 no_begun = record { plan = no_start.plan; since = 0; courses = []; signals = []; unfinished = 0 }
 

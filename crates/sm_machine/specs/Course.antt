@@ -1,6 +1,6 @@
 -- A stream that was begun: how far it has come, and what it holds.
--- Public functions' contracts come to `CourseModel` and `no_course` alone, by `state_of`. The others are steps of the code's own way, which
--- private functions' contracts cite: whoever reads the public ones need not read them.
+-- Public functions' contracts come to `CourseModel` and `no_course` alone, by `state_of`. The others are internal: you
+-- need not read them for the public contracts.
 use Rattle.std.specs.Prelude.{◌≡◌, ℕ, not, Option, Some, None, is_some}
 use Rattle.sm_reservation.specs.Hold.{Hold, no_hold}
 use Rattle.sm_reservation.specs.HoldOf.{hold_of}
@@ -14,19 +14,19 @@ pub record CourseModel : Type 0 where
   pub progress : Progress
   -- the log's length behind its last step; none before its first
   pub since : Option ℕ
-  -- what it holds; none once it has made its end
+  -- what it holds; none once it has finished
   pub grant : Option HoldModel
 
--- what stands where the plan has no such stream
+-- the default if the plan has no such stream
 abbrev pub no_course : CourseModel
 no_course = record { progress = fresh; since = None; grant = None }
 
--- the rights of a grant, and none where there is no grant
+-- the rights of a grant, and none if there is no grant
 abbrev pub hold_in : Option HoldModel → Hold
 hold_in None = no_hold
 hold_in (Some kept) = hold_of kept.rights
 
--- the rights of a grant as the lists that it keeps, which are empty where there is no grant
+-- the rights of a grant as the lists that it keeps, which are empty if there is no grant
 abbrev pub rights_in : Option HoldModel → Rights
 rights_in None = no_rights
 rights_in (Some kept) = kept.rights
@@ -51,6 +51,6 @@ abbrev pub capacity_in : Option HoldModel → ℕ
 capacity_in None = 0
 capacity_in (Some kept) = kept.capacity
 
--- a stream has a grant until it has made its end
+-- a stream has a grant until it has finished
 abbrev pub IsCourse : CourseModel → Type 0
 IsCourse x = is_some x.grant ≡ not x.progress.done

@@ -1,6 +1,5 @@
--- What happens to a machine under one who has all rights that it gives away.
--- `HasHappenedAs` and `HasHappenedIf` are steps of the code's own way, which private functions' contracts cite: whoever reads the public ones need not
--- read them.
+-- Events at a machine under one who has all rights that it gives away.
+-- `HasHappenedAs` and `HasHappenedIf` are internal: you need not read them for the public contracts.
 use Rattle.std.specs.Prelude.{◌≡◌, ◌≢◌, Option, Some, None}
 use Rattle.sm_protocol.specs.declared.event.Played.{Played}
 use Rattle.sm_protocol.specs.declared.event.Played.TheVariants as played
@@ -14,7 +13,7 @@ pub record HasHappenedAs (m : MachineModel) (e : Happening) (answer : Played) (n
   pub event : happens (state_of m) e ≡ (Answered answer, state_of n)
   pub setup : n.placement.setup ≡ m.placement.setup
 
--- the same of an event, if there is one; where there is none, it is unknown, and nothing has changed
+-- the same of an event, if there is one; if there is none, it is unknown, and nothing has changed
 abbrev pub HasHappenedIf : MachineModel → Option Happening → Played → MachineModel → Type 0
 HasHappenedIf m None answer n = (answer ≡ played.Unknown) × (n ≡ m)
 HasHappenedIf m (Some e) answer n = HasHappenedAs m e answer n
@@ -25,7 +24,7 @@ pub record IsDirected (m : MachineModel) (e : Happening) (answer : Played) (n : 
   pub running : answer ≢ played.Halted
   pub setup : n.placement.setup ≡ m.placement.setup
 
--- the same of an event, if there is one; where there is none, it is unknown, and nothing has changed
+-- the same of an event, if there is one; if there is none, it is unknown, and nothing has changed
 abbrev pub IsDirectedIf : MachineModel → Option Happening → Played → MachineModel → Type 0
 IsDirectedIf m None answer n = (answer ≡ played.Unknown) × (n ≡ m)
 IsDirectedIf m (Some e) answer n = IsDirected m e answer n

@@ -1,5 +1,5 @@
 -- Which streams of a plan engage a server.
--- Steps of the code's own way, which private functions' contracts cite: whoever reads the public ones need not read them.
+-- Internal definitions: you need not read them for the public contracts.
 use Rattle.std.specs.Prelude.{◌&&◌, ℕ, Bool, not, Option, Some, None, length, slice_index_or, if◌then◌else◌}
 use Rattle.std.specs.List.{list_any}
 use Rattle.sm_placement.specs.Sums.{first_from}
@@ -13,7 +13,7 @@ use Rattle.sm_machine.specs.Begun.{BegunModel, course_at}
 abbrev pub engages_in : BegunModel → ℕ → ℕ → Bool
 engages_in n v i = not (course_at n i).progress.done && list_any (is_mentioned v) (slice_index_or n.plan.streams i no_stream).code
 
--- the stream, where it engages the server
+-- the stream, if it engages the server
 abbrev pub engaging : BegunModel → ℕ → ℕ → ℕ → Option StreamId
 engaging n k v i = if engages_in n v i then Some (stream_id k i) else None
 

@@ -1,6 +1,6 @@
 -- Hands of events: what of a hand is the protocol's, and the room that it has for what events add.
--- Public functions' contracts come to `hand_plan`, `hand_of`, `game_of`, `AreFor`, `AreLeft` and `IsSameHand` alone. The others are steps of the
--- code's own way, which private functions' contracts cite: whoever reads the public ones need not read them.
+-- Public functions' contracts come to `hand_plan`, `hand_of`, `game_of`, `AreFor`, `AreLeft` and `IsSameHand` alone.
+-- The others are internal: you need not read them for the public contracts.
 use Rattle.std.specs.Prelude.{◌≡◌, ◌≤◌, ◌<◌, ℕ, suc, ◌+◌, ◌++◌, Bool, true, false, Option, Some, None, List, [], ◌∷◌, length, map, slice_index_or, vec_capacity}
 use Rattle.std.specs.List.{sum_by, insert}
 use Rattle.sm_placement.specs.Setup.{Setup}
@@ -14,7 +14,7 @@ use Rattle.sm_machine.specs.declared.hand.Hand as declared
 use Rattle.sm_machine.specs.Machine.{MachineModel}
 use Rattle.sm_machine.specs.State.{state_of}
 
--- the plan at a place, None where no plan is left
+-- the plan at a place, None if no plan is left
 abbrev pub hand_plan : Option CheckedModel → Option PlanModel
 hand_plan None = None
 hand_plan (Some p) = Some p.plan
@@ -74,7 +74,7 @@ pub record IsTurn (m : MachineModel) (h : declared.Hand) (e : Event) (answer : P
 
 -- ---- places in a list
 
--- the place of the first element that passes, None where none does
+-- the place of the first element that passes, None if none does
 abbrev pub IsFirstPlace : {T : Type 0} → (T → Bool) → List T → Option ℕ → Type 0
 IsFirstPlace {T} test xs None = (k : ℕ) (d : T) → k < length xs → test (slice_index_or xs k d) ≡ false
 IsFirstPlace {T} test xs (Some i) = (i < length xs) × ((d : T) → test (slice_index_or xs i d) ≡ true) × ((k : ℕ) (d : T) → k < i → test (slice_index_or xs k d) ≡ false)

@@ -1,6 +1,6 @@
 -- The log as it is kept: what was recorded, how many places there are, and what lets a ticket be judged without reading it.
--- Public functions' contracts come to `JournalModel` alone. The others are steps of the code's own way, which private functions' contracts cite:
--- whoever reads the public ones need not read them.
+-- Public functions' contracts come to `JournalModel` alone. The others are internal: you need not read them for the
+-- public contracts.
 use Rattle.std.specs.Prelude.{◌≡◌, ◌≤◌, ◌<◌, ℕ, Bool, false, ◌||◌, List, Option, length, slice_index_or}
 use Rattle.sm_protocol.specs.declared.event.Event.{Event}
 use Rattle.sm_protocol.specs.declared.event.Logged.{Logged}

@@ -1,5 +1,5 @@
 -- Steps over links that may lose calls, refills, and how many steps were made.
--- `HasHappened` is a step of the code's own way, which private functions' contracts cite: whoever reads the public ones need not read it.
+-- `HasHappened` is internal: you need not read it for the public contracts.
 use Rattle.std.specs.Prelude.{◌≡◌, ℕ, ◌==◌, ◌&&◌, not, Bool, true, false, Option, Some, None, Result, Ok, Err}
 use Rattle.sm_reservation.specs.declared.stream_id.StreamId.{StreamId}
 use Rattle.sm_plan_code.specs.declared.instruction.Instr.{Instr}
@@ -23,7 +23,7 @@ is_lost Through = false
 is_lost LostBefore = true
 is_lost LostAfter = true
 
--- the event of a step, where the try of a call, if it makes one, has this passage
+-- the event of a step, if the try of a call, if it makes one, has this passage
 abbrev pub event_over : StreamId → Passage → Happening
 event_over id Through = Step id
 event_over id LostBefore = Lose id false
@@ -44,8 +44,8 @@ abbrev pub is_lost_answer : Played → Bool
 is_lost_answer played.Lost = true
 is_lost_answer _ = false
 
--- A stream has made a step over a link. The link was asked once, under the number of the try, where the step tries a call,
--- and else not at all.
+-- A stream has made a step over a link. The link was asked once, under the number of the try, if the step tries a call,
+-- and otherwise not at all.
 pub record IsStepOver {L : Type 0} (asked : L → StreamId → ℕ → Passage → L → Type 0) (old new : L) (w : State) (id : StreamId) (answer : Played) (v : State) : Type 0 where
   pub passage : Passage
   pub event : happens w (event_over id passage) ≡ (Answered answer, v)

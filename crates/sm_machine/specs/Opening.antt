@@ -1,6 +1,5 @@
 -- The placement at the opening, as rows.
--- `is_before` and `AreCellsBefore` are steps of the code's own way, which private functions' contracts cite: whoever reads the public ones need not
--- read them.
+-- `is_before` and `AreCellsBefore` are internal: you need not read them for the public contracts.
 use Rattle.std.specs.Prelude.{◌≡◌, ℕ, Bool, ◌==◌, ◌&&◌, ◌||◌, nat_lt, List, Option, None, if◌then◌else◌}
 use Rattle.std.specs.List.{list_any}
 use Rattle.sm_server.specs.declared.call.Cell.{Cell}
@@ -18,7 +17,7 @@ pub record OpeningRows : Type 0 where
   pub down : List ℕ
   pub limit : ℕ
 
--- the cells that rows name, Absent where they name none
+-- the cells that rows name, Absent if they name none
 abbrev pub cells_of_rows : List NamedCell → ℕ → ℕ → Cell
 cells_of_rows rows = put_all rows (λ s v. Absent)
 

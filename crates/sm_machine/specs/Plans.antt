@@ -1,5 +1,5 @@
 -- Plans in a tree, by their numbers.
--- Steps of the code's own way, as a private tree keeps its plans: whoever reads public contracts need not read them.
+-- Internal definitions, as a private tree keeps its plans: you need not read them for the public contracts.
 use Rattle.std.specs.Prelude.{◌+◌, ◌≤◌, List, [], ◌∷◌, length}
 use Rattle.sm_machine.specs.Begun.{BegunModel}
 use Rattle.sm_machine.specs.declared.plan_tree.Node.{Node}

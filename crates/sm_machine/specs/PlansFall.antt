@@ -1,5 +1,5 @@
 -- Each tree below a plan has fewer plans than all have.
--- A step of the code's own way, by which the recursion of a private tree ends: whoever reads public contracts need not read it.
+-- An internal definition, by which the recursion of a private tree ends: you need not read it for the public contracts.
 use Rattle.std.specs.Prelude.{◌≡◌, ◌≤◌, ◌+◌, max, List, [], ◌∷◌, length}
 use Rattle.std.proofs.Common.{arith}
 use Rattle.sm_machine.specs.declared.plan_tree.Node.{Node}

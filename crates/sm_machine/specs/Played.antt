@@ -1,4 +1,4 @@
--- What a step is answered, as the log and lists of events have it.
+-- The answer to a step, as the log and lists of events have it.
 use Rattle.sm_protocol.specs.declared.event.Played.{Played}
 use Rattle.sm_protocol.specs.declared.event.Played.TheVariants as played
 use Rattle.sm_machine.specs.declared.step.Step.{Step}

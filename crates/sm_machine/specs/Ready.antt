@@ -1,5 +1,5 @@
--- What each kind of step asks for.
--- Steps of the code's own way, which private functions' contracts cite: whoever reads the public ones need not read them.
+-- The conditions of each kind of step.
+-- Internal definitions: you need not read them for the public contracts.
 use Rattle.std.specs.Prelude.{◌≡◌, ◌<◌, ◌^◌, ℕ, ◌-◌, Option, None, IfSome, true, false, length}
 use Rattle.std.specs.Option.{ForSome}
 use Rattle.sm_reservation.specs.HoldOf.{hold_of}
@@ -67,7 +67,7 @@ pub record IsReadyToTake (x : Whole) (id : StreamId) (q : ℕ) : Type 0 where
   pub fits : CanJoin (hold_in (x.grants id.plan id.stream)) (hold_in (x.parcels id.plan q))
   pub capacity : HasCapacityIn (x.grants id.plan id.stream) (rights_in (x.parcels id.plan q))
 
--- the stream makes its end
+-- the stream finishes
 pub record IsReadyToEnd (x : Whole) (id : StreamId) : Type 0 where
   pub begun : is_begun x.state id ≡ true
   pub running : (progress_of x.state id).done ≡ false

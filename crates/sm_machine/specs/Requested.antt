@@ -1,6 +1,6 @@
 -- Requests as a machine answers them.
--- Public functions' contracts cite `played_by` and `tickets_in` alone. The others are steps of the code's own way, which private functions'
--- contracts cite: whoever reads the public ones need not read them.
+-- Public functions' contracts cite `played_by` and `tickets_in` alone. The others are internal: you need not read them
+-- for the public contracts.
 use Rattle.std.specs.Prelude.{◌≡◌, ◌<◌, ℕ, Option, List, [], ◌∷◌, false}
 use Rattle.std.specs.Option.{option_to_list}
 use Rattle.sm_protocol.specs.declared.event.Event.{Event}

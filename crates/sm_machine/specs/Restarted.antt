@@ -1,6 +1,6 @@
 -- Restarts as a machine answers them.
--- Public functions' contracts cite `approval_of` and `restart_of` alone. The others are steps of the code's own way, which private functions'
--- contracts cite: whoever reads the public ones need not read them.
+-- Public functions' contracts cite `approval_of` and `restart_of` alone. The others are internal: you need not read
+-- them for the public contracts.
 use Rattle.std.specs.Prelude.{◌-◌, ℕ, None, true, false, Result, Ok, Err}
 use Rattle.sm_placement.specs.Place.{set_down}
 use Rattle.sm_task_controller.specs.declared.decision.Denied.{Denied}

@@ -1,6 +1,5 @@
 -- The servers that codes mention, as a flag for each server up to the last of them.
--- Steps of the code's own way, which private functions' contracts cite, and what a `ReadyPlan` keeps: whoever reads the public ones need not
--- read them.
+-- Internal definitions, and what a `ReadyPlan` keeps: you need not read them for the public contracts.
 use Rattle.std.specs.Prelude.{◌≡◌, ◌<◌, ℕ, Bool, false, ◌||◌, List, [], Option, Some, length, slice_index_or}
 use Rattle.std.specs.List.{list_any}
 use Rattle.sm_reservation.specs.Amounts.{same_listed}
@@ -22,7 +21,7 @@ pub record AreMentionedBy (streams : List StreamModel) (sets : List (List Bool))
   pub count : length sets ≡ length streams
   pub each : (i : ℕ) → i < length streams → AreMentioned (slice_index_or streams i no_stream).code (slice_index_or sets i [])
 
--- the set has grown by a server, where one is given
+-- the set has grown by a server, if one is given
 abbrev pub HasGrownBy : Option ℕ → List Bool → List Bool → Type 0
 HasGrownBy server old new = (v : ℕ) → is_in new v ≡ (is_in old v || same_listed server (Some v))
 

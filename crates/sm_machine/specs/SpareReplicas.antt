@@ -1,5 +1,5 @@
--- What the loops over the shards of a server that goes down or comes up ask for.
--- Steps of the code's own way, which private functions' contracts cite: whoever reads the public ones need not read them.
+-- Conditions of the loops over the shards of a server that goes down or comes up.
+-- Internal definitions: you need not read them for the public contracts.
 use Rattle.std.specs.Prelude.{◌≡◌, ◌<◌, ◌≤◌, ◌+◌, ◌^◌, ℕ, Bool, true}
 use Rattle.sm_placement.specs.Place.{Place, is_live_at}
 use Rattle.sm_reservation.specs.Hold.{Hold}

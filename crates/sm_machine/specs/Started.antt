@@ -1,5 +1,5 @@
--- What a start of a plan asks for, and what it leaves.
--- `IsStarted` is a step of the code's own way, which private functions' contracts cite: whoever reads the public ones need not read it.
+-- The conditions of a plan's start, and what it leaves.
+-- `IsStarted` is internal: you need not read it for the public contracts.
 use Rattle.std.specs.Prelude.{◌≡◌, ◌<◌, ℕ, length, slice_index}
 use Rattle.sm_placement.specs.Setup.{Sizes}
 use Rattle.sm_verifier.specs.Checked.{CheckedModel}

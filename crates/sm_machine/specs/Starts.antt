@@ -1,6 +1,6 @@
 -- Plans that are ready to start, and what a start gives.
--- Public functions' contracts cite `AreTokens` alone. The others are steps of the code's own way, which private functions' contracts cite, and
--- what a `ReadyPlan` keeps: whoever reads the public ones need not read them.
+-- Public functions' contracts cite `AreTokens` alone. The others are internal, and what a `ReadyPlan` keeps: you need
+-- not read them for the public contracts.
 use Rattle.std.specs.Prelude.{◌≡◌, ◌<◌, ◌≤◌, nat_lt, nat_le, ◌||◌, if◌then◌else◌, false, Option, None, ◌++◌, ◌∷◌, [], ℕ, zero, suc, Some, List, length, map, slice_index, slice_index_or}
 use Rattle.sm_reservation.specs.Rights.{Rights, no_rights}
 use Rattle.sm_reservation.specs.Capacity.{HoldModel, most_keys}
@@ -26,11 +26,11 @@ use Rattle.sm_protocol.specs.declared.event.BeginFault.TheVariants as fault
 use Rattle.sm_verifier.specs.Step.{parcels_of}
 use Rattle.sm_protocol.specs.Happens.{started}
 
--- a grant of nothing, with capacity for so many keys
+-- a grant of nothing, with capacity for this many keys
 abbrev pub empty_kept : ℕ → HoldModel
 empty_kept n = record { rights = no_rights; capacity = n }
 
--- a stream that has made nothing and holds nothing, with so much capacity
+-- a stream that has made nothing and holds nothing, with this capacity
 abbrev pub ready_course : ℕ → CourseModel
 ready_course n = record { progress = fresh; since = None; grant = Some (empty_kept n) }
 
@@ -91,7 +91,7 @@ pub record AreFilled (streams : List StreamModel) (n : ℕ) (old new : List Cour
 
 -- ---- what a machine has after a start
 
--- the grant has this, with so much capacity
+-- the grant has this, with this capacity
 pub record IsGranted (p : Rights) (n : ℕ) (grant : Option HoldModel) : Type 0 where
   pub hold : hold_in grant ≡ plus no_hold p
   pub capacity : capacity_in grant ≡ n
@@ -110,7 +110,7 @@ pub record IsBegunIn (x : Whole) (p : CheckedModel) (y : Whole) : Type 0 where
   pub running : y.running ≡ x.running
   pub free : y.free ≡ x.free
 
--- why the plan does not start, where memory is there: what holds it up, too few places of the log, or too many plans
+-- why the plan does not start, if memory is there: what holds it up, too few places of the log, or too many plans
 abbrev pub fault_after : Whole → PlanModel → Option Holding → Option BeginFault
 fault_after x plan (Some why) = Some (fault.Holding why)
 fault_after x plan None =
@@ -118,7 +118,7 @@ fault_after x plan None =
     else if nat_le MOST_PLANS x.running || nat_lt MOST_NUMBER (length x.state.plans) then Some fault.TooManyPlans
     else None
 
--- why a machine does not start the plan, where memory is there; none where it starts it
+-- why a machine does not start the plan, if memory is there; none where it starts it
 abbrev pub begin_fault : Whole → PlanModel → Option BeginFault
 begin_fault x plan = fault_after x plan (first_holding x.state.sizes x.state.place x.pool plan)
 

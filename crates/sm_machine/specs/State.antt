@@ -1,6 +1,6 @@
 -- The state of the protocol that a machine is in, with the rights that it keeps.
--- Public functions' contracts come to `state_of` alone, by way of `Whole`, `state_parts` and `whole_of`. The others are steps of the code's own way,
--- which private functions' contracts cite: whoever reads the public ones need not read them.
+-- Public functions' contracts come to `state_of` alone, by way of `Whole`, `state_parts` and `whole_of`. The others are
+-- internal: you need not read them for the public contracts.
 use Rattle.std.specs.Prelude.{ℕ, Option, map, reverse, slice_index_or, None, ◌-◌}
 use Rattle.sm_placement.specs.Sums.{put2}
 use Rattle.sm_placement.specs.Setup.{Setup, sizes_of}
@@ -22,7 +22,7 @@ pub record Whole : Type 0 where
   pub setup : Setup
   -- the rights that nobody has
   pub pool : Hold
-  -- what each stream holds, by the plan's number and its own; none once it has made its end
+  -- what each stream holds, by the plan's number and its own; none once it has finished
   pub grants : ℕ → ℕ → Option HoldModel
   -- what each signal carries; none once it was awaited
   pub parcels : ℕ → ℕ → Option HoldModel

@@ -1,5 +1,5 @@
--- What steps leave.
--- Steps of the code's own way, which private functions' contracts cite: whoever reads the public ones need not read them.
+-- The states that steps leave.
+-- Internal definitions: you need not read them for the public contracts.
 use Rattle.std.specs.Prelude.{ℕ, ◌-◌, ◌==◌, true, None, if◌then◌else◌}
 use Rattle.sm_placement.specs.Sums.{put, put2}
 use Rattle.sm_reservation.specs.Hold.{plus}
@@ -23,7 +23,7 @@ taken w id q = record w {
   log = logged w (Step id) Moved;
 }
 
--- the stream has made its end, what it held is in the pool, and so many places of the log are free
+-- the stream has finished, what it held is in the pool, and this many places of the log are free
 abbrev pub ended_whole : Whole → StreamId → ℕ → Whole
 ended_whole x id free = record x {
   state = (ended x.state id).1;

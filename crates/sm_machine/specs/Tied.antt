@@ -1,5 +1,5 @@
--- What a machine's pool, its streams' grants and its parcels under way are, at a state of the protocol.
--- Steps of the code's own way, which private functions' contracts cite: whoever reads the public ones need not read them.
+-- A machine's pool, its streams' grants and its parcels under way, at a state of the protocol.
+-- Internal definitions: you need not read them for the public contracts.
 use Rattle.std.specs.Prelude.{◌≡◌, ◌<◌, ℕ, zero, suc, Bool, true, List, length, not, if◌then◌else◌}
 use Rattle.sm_placement.specs.Sums.{count_below}
 use Rattle.sm_reservation.specs.declared.stream_id.StreamId.{StreamId}

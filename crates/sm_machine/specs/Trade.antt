@@ -1,5 +1,5 @@
--- What a stream gives up and gets with an instruction.
--- Steps of the code's own way, which private functions' contracts cite: whoever reads the public ones need not read them.
+-- The rights that a stream gives up and gets with an instruction.
+-- Internal definitions: you need not read them for the public contracts.
 use Rattle.std.specs.Prelude.{◌≡◌, ◌<◌, ◌≤◌, ℕ, Bool, true, false, Option, IsOk}
 use Rattle.sm_placement.specs.Setup.{Sizes}
 use Rattle.sm_reservation.specs.Rights.{Rights}

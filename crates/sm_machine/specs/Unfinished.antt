@@ -1,5 +1,5 @@
 -- The plans that are unfinished, by their numbers.
--- Steps of the code's own way, which private functions' contracts cite: whoever reads the public ones need not read them.
+-- Internal definitions: you need not read them for the public contracts.
 use Rattle.std.specs.Prelude.{◌≡◌, ℕ, zero, suc, ◌==◌, ◌++◌, ◌∷◌, [], List, length, slice_index_or, if◌then◌else◌}
 use Rattle.sm_machine.specs.Begun.{BegunModel, no_begun}
 

@@ -1,6 +1,5 @@
--- What every machine keeps.
--- Steps of the code's own way, which private functions' contracts cite, and what a `Machine` keeps: whoever reads the public ones need not
--- read them.
+-- The facts that every machine keeps.
+-- Internal definitions, and what a `Machine` keeps: you need not read them for the public contracts.
 use Rattle.std.specs.Prelude.{◌≡◌, ◌<◌, ◌≤◌, ℕ, Option, Some, None, true, false, length}
 use Rattle.sm_reservation.specs.Rights.{Rights, no_rights}
 use Rattle.sm_reservation.specs.Capacity.{HoldModel, most_keys}

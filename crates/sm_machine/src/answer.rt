@@ -1,4 +1,4 @@
-//! What a request is answered.
+//! Answers to requests.
 ghost use Rattle.std.specs.Prelude.{◌≡◌, ◌∷◌, [], if◌then◌else◌};
 ghost use Rattle.std.specs.Option.{option_to_list};
 ghost use Rattle.sm_protocol.specs.Hand.{tickets_of, spends};
@@ -9,7 +9,7 @@ use crate::ticket::Ticket;
 use sm_protocol::Played;
 use sm_server::{ServerId, ShardId};
 
-/// What a request is answered.
+/// The answer to a request.
 pub enum Answer {
     /// The server executed it.
     Executed { server: ServerId },
@@ -19,13 +19,13 @@ pub enum Answer {
     NotOwner,
     /// The server is down.
     Unavailable,
-    /// The log has no free place. The ticket comes back, where the request came with one.
+    /// The log has no free place. The ticket comes back, if the request came with one.
     LogFull(Option<Ticket>),
     /// The log has no such pass, or its request was passed on already. The ticket comes back.
     Unknown(Ticket),
 }
 
-/// The answer to a request for a shard that a server was to serve.
+/// Returns the answer to a request for a shard that a server was to serve.
 pub(crate) fn answer_to(shard: ShardId, server: ServerId, reply: Played) -> Answer
     requires { IsReply reply }
     ensures answer { played_by result ≡ reply }
@@ -47,7 +47,7 @@ pub(crate) fn answer_to(shard: ShardId, server: ServerId, reply: Played) -> Answ
     }
 }
 
-/// The answer to a request that came with a ticket, which is spent by it or comes back.
+/// Returns the answer to a request that came with a ticket. The answer spends the ticket, or it comes back.
 pub(crate) fn answer_with(ticket: Ticket, reply: Played) -> Answer
     requires { IsReply reply }
     ensures answer { played_by result ≡ reply }
@@ -62,7 +62,7 @@ pub(crate) fn answer_with(ticket: Ticket, reply: Played) -> Answer
     answer_to(shard, server, reply)
 }
 
-/// An answer, and the ticket that comes with it.
+/// Returns an answer, and the ticket that comes with it.
 pub(crate) fn split(answer: Answer) -> (Played, Option<Ticket>)
     ensures played { result.0 ≡ played_by answer }
     ensures ticket { option_to_list result.1 ≡ tickets_in answer }
@@ -85,7 +85,7 @@ pub(crate) fn split(answer: Answer) -> (Played, Option<Ticket>)
     }
 }
 
-/// A ticket that meets this answer is spent.
+/// Tells whether a ticket that meets this answer is spent.
 pub(crate) fn spends_ticket(answer: &Played) -> bool
     ensures { result ≡ spends answer.now }
 {

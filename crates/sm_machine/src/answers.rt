@@ -21,7 +21,7 @@ impl Model for Answers {
 }
 
 impl Answers {
-    /// No answers, with room for so many.
+    /// Makes a list of no answers, with room for this many.
     pub fn with_room(alloc: Global, count: usize) -> Result<Answers, AllocError>
         ensures none { IfOk result (λ a. a.told ≡ []) }
         ensures room { IfOk result (λ a. count ≤ a.room) }
@@ -30,7 +30,7 @@ impl Answers {
         Ok(Answers { list })
     }
 
-    /// One answer more.
+    /// Adds an answer.
     pub fn add(&mut self, answer: Played)
         requires { length self.old.told < self.old.room }
         ensures told { self.new.told ≡ self.old.told ++ answer ∷ [] }
@@ -39,7 +39,7 @@ impl Answers {
         add_left(&mut self.list, Some(answer));
     }
 
-    /// All answers.
+    /// Returns all answers.
     pub fn into_list(self) -> Vec<Played>
         ensures { result.items ≡ self.told }
     {

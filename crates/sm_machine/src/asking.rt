@@ -9,7 +9,7 @@ use sm_protocol::{Event, Played};
 use sm_server::{ServerId, ShardId};
 
 impl Engine {
-    /// A request for a shard comes to a server, directly or with the ticket of its pass.
+    /// Asks a server for a shard, directly or with the ticket of the request's pass.
     pub fn ask(
         &mut self,
         shard: ShardId,

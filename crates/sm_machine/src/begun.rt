@@ -36,7 +36,7 @@ use std::marker::Model;
 /// A signal of a plan that was begun.
 pub(crate) struct Carried {
     posted: bool,
-    /// What it carries; None once it was awaited.
+    /// The rights that it carries; None once it was awaited.
     grant: Option<Grant>,
 }
 
@@ -50,7 +50,7 @@ impl Model for Carried {
 }
 
 impl Carried {
-    /// A signal that was not posted, with an empty grant that has capacity for its parcel.
+    /// Makes a signal that was not posted, with an empty grant that has capacity for its parcel.
     pub fn new(grant: Grant) -> Carried
         ensures { result ≡ record { mark = record { posted = false; awaited = false }; grant = Some grant } }
     {
@@ -60,7 +60,7 @@ impl Carried {
         }
     }
 
-    /// A law: what it carries is in order.
+    /// States that what it carries is in order.
     pub fn in_order(&self)
         ensures order { IsGrantInOrder self.now.grant }
         ensures there { is_some self.now.grant ≡ not self.now.mark.awaited }
@@ -71,14 +71,14 @@ impl Carried {
         }
     }
 
-    /// The signal was posted.
+    /// Tells whether the signal was posted.
     pub fn is_posted(&self) -> bool
         ensures { result ≡ self.now.mark.posted }
     {
         self.posted
     }
 
-    /// The signal is posted: a stream gives its parcel up.
+    /// Posts the signal: a stream gives its parcel up.
     fn post(&mut self, course: &mut Course, parcel: &Parcel)
         requires running { course.old.progress.done ≡ false }
         requires there { self.old.mark.awaited ≡ false }
@@ -98,7 +98,7 @@ impl Carried {
         }
     }
 
-    /// The signal is awaited: a stream takes its parcel.
+    /// Takes the signal: a stream gets its parcel.
     fn wait(&mut self, course: &mut Course)
         requires running { course.old.progress.done ≡ false }
         requires there { self.old.mark.awaited ≡ false }
@@ -126,7 +126,7 @@ impl Carried {
         }
     }
 
-    /// It ends with the pool, with what it carries. Takes no memory.
+    /// Ends the signal with the pool, and with what it carries. Takes no memory.
     fn close(self, pool: &ClosedPool) {
         let Carried { posted: _, grant } = self;
         match grant {
@@ -148,7 +148,7 @@ fn close_courses(courses: Vec<Course>, pool: &ClosedPool) {
     courses.destroy_empty();
 }
 
-/// Signals end with the pool.
+/// Ends signals with the pool.
 fn close_signals(signals: Vec<Carried>, pool: &ClosedPool) {
     let mut signals = signals;
     for _ in 0..signals.len() {
@@ -170,7 +170,7 @@ pub(crate) struct Begun {
     signals: Vec<Carried>,
     /// The servers that the code of each stream mentions.
     mentioned: Vec<MentionedServers>,
-    /// How many streams have not made their ends.
+    /// The number of streams that have not finished.
     unfinished: u32,
 }
 
@@ -186,7 +186,7 @@ impl Model for Begun {
 }
 
 impl Begun {
-    /// A plan of nothing. Takes no memory.
+    /// Makes a plan of nothing. Takes no memory.
     pub fn blank(alloc: Global) -> Begun {
         let parts = Parts {
             budget: 0,
@@ -206,7 +206,7 @@ impl Begun {
         }
     }
 
-    /// A plan that is begun now, with its streams, its signals, and the servers that each stream mentions.
+    /// Makes a plan that is begun now, with its streams, its signals, and the servers that each stream mentions.
     pub fn new(
         plan: Plan,
         since: u32,
@@ -230,7 +230,7 @@ impl Begun {
         }
     }
 
-    /// The plan.
+    /// Returns the plan.
     pub fn plan(&self) -> &Plan
         ensures value { result.now ≡ self.now.plan }
         ensures parts { IsBegunParts self.now }
@@ -238,7 +238,7 @@ impl Begun {
         &self.plan
     }
 
-    /// How many streams it has.
+    /// Returns the number of streams of the plan.
     pub fn stream_count(&self) -> usize
         ensures value { result ≡ length self.now.plan.streams }
         ensures parts { IsBegunParts self.now }
@@ -246,7 +246,7 @@ impl Begun {
         self.courses.len()
     }
 
-    /// How far a stream has come.
+    /// Returns how far a stream has come.
     pub fn progress(&self, stream: usize) -> Progress
         requires { stream < length self.now.plan.streams }
         ensures { result ≡ (course_at self.now stream).progress }
@@ -254,7 +254,7 @@ impl Begun {
         self.courses[stream].progress()
     }
 
-    /// The instruction that a stream makes next.
+    /// Returns the instruction that a stream makes next.
     pub fn next_instruction(&self, stream: usize) -> Option<Instr>
         requires { stream < length self.now.plan.streams }
         ensures { result ≡ slice_get (slice_index_or self.now.plan.streams stream no_stream).code (course_at self.now stream).progress.at }
@@ -264,7 +264,7 @@ impl Begun {
         parts.code.get(at).copied()
     }
 
-    /// The code of a stream mentions the server. One look, however long the code is.
+    /// Tells whether the code of a stream mentions the server. It looks once, however long the code is.
     pub fn mentions(&self, stream: usize, server: ServerId) -> bool
         requires { stream < length self.now.plan.streams }
         ensures { result ≡ list_any (is_mentioned server) (slice_index_or self.now.plan.streams stream no_stream).code }
@@ -272,7 +272,7 @@ impl Begun {
         self.mentioned[stream].has(server)
     }
 
-    /// How many tries of calls a stream may make.
+    /// Returns the number of tries of calls that a stream may make.
     pub fn allowance(&self, stream: usize) -> u64
         requires { stream < length self.now.plan.streams }
         ensures value { result ≡ (slice_index_or self.now.plan.streams stream no_stream).budget + (slice_index_or self.now.plan.streams stream no_stream).retries + (course_at self.now stream).progress.refills }
@@ -283,7 +283,7 @@ impl Begun {
         u64::from(parts.budget) + u64::from(parts.retries) + u64::from(refills)
     }
 
-    /// How many recorded steps a stream makes on its way, with the tries that it has made.
+    /// Returns the number of recorded steps that a stream makes on its way, with the tries that it has made.
     pub fn steps_made(&self, stream: usize) -> u64
         requires known { stream < length self.now.plan.streams }
         requires tries { (course_at self.now stream).progress.tries ≤ (slice_index_or self.now.plan.streams stream no_stream).budget + (slice_index_or self.now.plan.streams stream no_stream).retries + (course_at self.now stream).progress.refills }
@@ -295,7 +295,7 @@ impl Begun {
         tries + count_no_calls(&parts.code) as u64 + 1
     }
 
-    /// A stream comes to another place.
+    /// Sets a stream's progress.
     pub fn set_progress(&mut self, stream: usize, progress: Progress)
         requires known { stream < length self.old.plan.streams }
         requires done { progress.done ≡ (course_at self.old stream).progress.done }
@@ -305,7 +305,7 @@ impl Begun {
         self.courses[stream].set_progress(progress);
     }
 
-    /// The log's length when a stream came to its position: behind its last step, or at the start.
+    /// Returns the log's length when a stream came to its position: behind its last step, or at the start.
     pub fn since(&self, stream: usize) -> u32
         requires { stream < length self.now.plan.streams }
         ensures { result ≡ since_by self.now.since (course_at self.now stream).since }
@@ -325,7 +325,7 @@ impl Begun {
         self.courses[stream].set_since(since);
     }
 
-    /// A stream gives up what an instruction needs for what it gives.
+    /// Gives up what an instruction needs of a stream's rights, for what it gives.
     pub fn trade(&mut self, stream: usize, config: &Config, instr: &Instr) -> Change
         requires stream { stream < length self.old.plan.streams }
         requires running { (course_at self.old stream).progress.done ≡ false }
@@ -340,7 +340,7 @@ impl Begun {
         self.courses[stream].trade(config, instr)
     }
 
-    /// One stream less has not made its end. Answers whether it was the last.
+    /// Counts one more stream as finished. Returns whether it was the last.
     pub fn finish_one(&mut self) -> bool
         ensures left { self.new ≡ record self.old { unfinished = self.old.unfinished - 1 } }
         ensures last { result ≡ (self.old.unfinished == 1) }
@@ -351,7 +351,7 @@ impl Begun {
         last
     }
 
-    /// A law: what a stream holds is in order.
+    /// States that what a stream holds is in order.
     pub fn held_in_order(&self, stream: usize)
         requires { stream < length self.now.plan.streams }
         ensures order { IsGrantInOrder (course_at self.now stream).grant }
@@ -360,7 +360,7 @@ impl Begun {
         self.courses[stream].in_order();
     }
 
-    /// A law: what a signal carries is in order.
+    /// States that what a signal carries is in order.
     pub fn carried_in_order(&self, signal: usize)
         requires { signal < length self.now.plan.signals }
         ensures order { IsGrantInOrder (carried_at self.now signal).grant }
@@ -369,7 +369,7 @@ impl Begun {
         self.signals[signal].in_order();
     }
 
-    /// A signal was posted.
+    /// Tells whether a signal was posted.
     pub fn is_posted(&self, signal: usize) -> bool
         requires { signal < length self.now.plan.signals }
         ensures { result ≡ (carried_at self.now signal).mark.posted }
@@ -377,7 +377,7 @@ impl Begun {
         self.signals[signal].is_posted()
     }
 
-    /// A stream posts a signal, and gives its parcel up.
+    /// Posts a signal: a stream gives its parcel up.
     pub fn post(&mut self, stream: usize, signal: usize)
         requires known { stream < length self.old.plan.streams }
         requires signal { signal < length self.old.plan.signals }
@@ -397,7 +397,7 @@ impl Begun {
         self.signals[signal].post(course, parcel);
     }
 
-    /// A stream takes the parcel of a signal that was posted.
+    /// Gives a stream the parcel of a signal that was posted.
     pub fn wait(&mut self, stream: usize, signal: usize)
         requires known { stream < length self.old.plan.streams }
         requires signal { signal < length self.old.plan.signals }
@@ -414,7 +414,7 @@ impl Begun {
         self.signals[signal].wait(course);
     }
 
-    /// A stream makes its end, and gives what it holds up.
+    /// Ends a stream, and returns what it held.
     pub fn end(&mut self, stream: usize) -> Grant
         requires known { stream < length self.old.plan.streams }
         requires running { (course_at self.old stream).progress.done ≡ false }
@@ -425,7 +425,7 @@ impl Begun {
         self.courses[stream].end()
     }
 
-    /// Each stream takes what it declares out of a pool. Takes no memory.
+    /// Fills each stream with what it declares, out of a pool. Takes no memory.
     pub fn fill(&mut self, pool: &mut Pool)
         requires { CanFillAll self.old (pool_hold pool.old) }
         ensures others { self.new ≡ record self.old { courses = self.new.courses } }
@@ -441,7 +441,7 @@ impl Begun {
         }
     }
 
-    /// It ends with the pool, with what its streams hold and its signals carry. Takes no memory.
+    /// Ends the plan with the pool, and with what its streams hold and its signals carry. Takes no memory.
     pub fn close(self, pool: &ClosedPool) {
         let Begun {
             plan: _,

@@ -62,14 +62,15 @@ impl Director {
         Ok(Director { machine })
     }
 
-    /// The machine.
+    /// Returns the machine.
     pub fn machine(&self) -> &Machine
         ensures { result.now ≡ self.now }
     {
         &self.machine
     }
 
-    /// Plays an event, for which all rights are there. What names nothing is Unknown, and so is a start: `start` makes one.
+    /// Plays an event, for which all rights are there. An event that names nothing is Unknown, and so is a start:
+    /// `start` makes one.
     ///
     /// Takes no memory.
     pub fn play(&mut self, event: Event) -> Played
@@ -79,8 +80,8 @@ impl Director {
         self.machine.play_named(event)
     }
 
-    /// A plan starts that is ready and was checked for the machine's configuration, and gets the next number. Where it does not
-    /// start, it comes back ready.
+    /// Starts a plan that is ready and was checked for the machine's configuration. It gets the next number. If it does
+    /// not start, it comes back ready.
     pub fn start(&mut self, ready: ReadyPlan) -> Result<u32, (ReadyPlan, BeginFault)>
         requires { ready.setup ≡ self.old.placement.setup }
         ensures started { IfOk result (λ number. IsDirected self.old (happening.Begin ready.plan) (played.Begun number) self.new) }

@@ -7,7 +7,7 @@ use sm_reservation::StreamId;
 use sm_server::ServerId;
 
 impl Begun {
-    /// The stream is unfinished, and its code mentions the server.
+    /// Tells whether the stream is unfinished, and its code mentions the server.
     fn engages(&self, stream: usize, server: ServerId) -> bool
         requires { stream < length self.now.plan.streams }
         ensures { result ≡ engages_in self.now server stream }
@@ -18,7 +18,7 @@ impl Begun {
         self.mentions(stream, server)
     }
 
-    /// The lowest stream that engages the server, under the plan's number.
+    /// Returns the lowest stream that engages the server, under the plan's number.
     pub fn engaged(&self, plan: u32, server: ServerId) -> Option<StreamId>
         ensures { result ≡ engaged_in self.now plan server }
     {

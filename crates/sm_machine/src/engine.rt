@@ -75,13 +75,13 @@ pub(crate) struct Engine {
     desk: Begun,
     /// The recorded events.
     journal: Journal,
-    /// How many places of the log are neither used nor set aside.
+    /// The number of log places that are neither used nor set aside.
     free: u64,
     /// The unfinished plans, by their numbers, so that they are found among all plans that were begun.
     unfinished: Vec<u32>,
-    /// How many plans are unfinished.
+    /// The number of unfinished plans.
     running: u32,
-    /// Steps are answered Halted.
+    /// True if steps are answered with Halted.
     halted: bool,
 }
 
@@ -100,7 +100,7 @@ impl Model for Engine {
 }
 
 impl Engine {
-    /// A machine with no plan over a placement, with the memory that was taken for it. Takes no memory.
+    /// Makes a machine with no plan over a placement, with the memory that was taken for it. Takes no memory.
     pub fn of(alloc: Global, placement: Placement, rooms: Rooms, room: u32) -> Engine
         requires opening { place_of_rows rooms.opening ≡ forget_numbers (place_of placement) }
         requires pool { pool_hold rooms.pool ≡ true_rights (sizes_of placement.setup) (place_of placement) }
@@ -142,21 +142,21 @@ impl Engine {
         }
     }
 
-    /// The machine is halted.
+    /// Tells whether the machine is halted.
     pub fn is_halted(&self) -> bool
         ensures { result ≡ (state_of self.now).halted }
     {
         self.halted
     }
 
-    /// The halt flag is set so.
+    /// Sets whether the machine is halted.
     pub fn set_halted(&mut self, halted: bool)
         ensures { whole_of self.new ≡ with_state (whole_of self.old) (record (state_of self.old) { halted = halted }) }
     {
         self.halted = halted;
     }
 
-    /// The placement as it stands.
+    /// Returns the placement as it stands.
     pub fn placement(&self) -> &Placement
         ensures place { place_of result.now ≡ (state_of self.now).place }
         ensures sizes { sizes_of result.now.setup ≡ (state_of self.now).sizes }
@@ -165,7 +165,7 @@ impl Engine {
         &self.placement
     }
 
-    /// The rights that nobody has.
+    /// Returns the rights that nobody has.
     pub fn pool(&self) -> &Pool
         ensures hold { pool_hold result.now ≡ (whole_of self.now).pool }
         ensures size { HasSize (state_of self.now).sizes result.now }
@@ -173,21 +173,21 @@ impl Engine {
         &self.pool
     }
 
-    /// The recorded events, the oldest first.
+    /// Returns the recorded events, the oldest first.
     pub fn log(&self) -> &[Logged]
         ensures { result.now ≡ (state_of self.now).log }
     {
         self.journal.log()
     }
 
-    /// The entries that publications have added, with their shards, the oldest first.
+    /// Returns the entries that publications have added, with their shards, the oldest first.
     pub fn entries(&self) -> &[(ShardId, Entry)]
         ensures { reverse result.now ≡ (state_of self.now).entries }
     {
         self.entries.as_slice()
     }
 
-    /// The stream was begun.
+    /// Tells whether the stream was begun.
     pub fn is_begun(&self, id: StreamId) -> bool
         ensures { result ≡ is_begun (state_of self.now) id }
     {
@@ -198,7 +198,7 @@ impl Engine {
         (id.stream as usize) < self.plans.at(plan).stream_count()
     }
 
-    /// How far a stream has come.
+    /// Returns how far a stream has come.
     pub fn progress(&self, id: StreamId) -> Progress
         requires { is_begun (state_of self.now) id ≡ true }
         ensures { result ≡ progress_of (state_of self.now) id }
@@ -206,7 +206,7 @@ impl Engine {
         self.plans.at(id.plan as usize).progress(id.stream as usize)
     }
 
-    /// The instruction that a stream makes next.
+    /// Returns the instruction that a stream makes next.
     pub fn next_instruction(&self, id: StreamId) -> Option<Instr>
         requires { is_begun (state_of self.now) id ≡ true }
         ensures { result ≡ next_instruction (state_of self.now) id }
@@ -216,7 +216,7 @@ impl Engine {
             .next_instruction(id.stream as usize)
     }
 
-    /// How many tries of calls a stream may make.
+    /// Returns the number of tries of calls that a stream may make.
     pub fn allowance(&self, id: StreamId) -> u64
         requires { is_begun (state_of self.now) id ≡ true }
         ensures { result ≡ allowance (state_of self.now) id }
@@ -226,7 +226,7 @@ impl Engine {
             .allowance(id.stream as usize)
     }
 
-    /// How many recorded steps a stream makes on its way, with the tries that it has made.
+    /// Returns the number of recorded steps that a stream makes on its way, with the tries that it has made.
     pub fn steps_made(&self, id: StreamId) -> u64
         requires begun { is_begun (state_of self.now) id ≡ true }
         requires tries { (progress_of (state_of self.now) id).tries ≤ allowance (state_of self.now) id }
@@ -237,7 +237,7 @@ impl Engine {
             .steps_made(id.stream as usize)
     }
 
-    /// A stream comes to another place.
+    /// Sets a stream's progress.
     pub fn set_progress(&mut self, id: StreamId, progress: Progress)
         requires known { is_begun (state_of self.old) id ≡ true }
         requires done { progress.done ≡ (progress_of (state_of self.old) id).done }
@@ -249,7 +249,7 @@ impl Engine {
         self.plans.swap(plan, &mut self.desk);
     }
 
-    /// The log's length when a stream came to its position.
+    /// Returns the log's length when a stream came to its position.
     pub fn since(&self, id: StreamId) -> u32
         requires { is_begun (state_of self.now) id ≡ true }
         ensures { result ≡ since_of (state_of self.now) id }
@@ -257,14 +257,14 @@ impl Engine {
         self.plans.at(id.plan as usize).since(id.stream as usize)
     }
 
-    /// A law: no more entries were added than events are recorded.
+    /// States that no more entries were added than events are recorded.
     pub fn entries_fit(&self)
         ensures { length (state_of self.now).entries ≤ length (state_of self.now).log }
     {
         let _entries = self.entries.len();
     }
 
-    /// How many places of the log are neither used nor set aside.
+    /// Returns the number of log places that are neither used nor set aside.
     pub fn free(&self) -> u64
         ensures { result ≡ (whole_of self.now).free }
     {
@@ -295,7 +295,7 @@ impl Engine {
         self.journal.record(event, answer);
     }
 
-    /// A stream gives up what an instruction needs for what it gives.
+    /// Gives up what an instruction needs of a stream's rights, for what it gives.
     pub fn trade(&mut self, id: StreamId, instr: &Instr) -> Change
         requires { IsReadyToTrade (whole_of self.old) id instr.now }
         ensures whole { whole_of self.new ≡ record (whole_of self.old) { grants = put2 (whole_of self.old).grants id.plan id.stream (grant_of self.new id) } }
@@ -310,7 +310,7 @@ impl Engine {
         change
     }
 
-    /// A signal was posted.
+    /// Tells whether a signal was posted.
     pub fn is_posted(&self, id: StreamId, signal: u32) -> bool
         requires begun { is_begun (state_of self.now) id ≡ true }
         requires signal { signal < signal_count (state_of self.now) id.plan }
@@ -319,7 +319,7 @@ impl Engine {
         self.plans.at(id.plan as usize).is_posted(signal as usize)
     }
 
-    /// A shard's highest handover number.
+    /// Returns a shard's highest handover number.
     pub fn number(&self, shard: ShardId) -> u64
         requires { shard < (state_of self.now).sizes.shards }
         ensures { result ≡ (state_of self.now).numbers shard }
@@ -327,7 +327,7 @@ impl Engine {
         self.numbers[shard.number() as usize]
     }
 
-    /// A shard's highest handover number is another one.
+    /// Sets a shard's highest handover number.
     pub fn set_number(&mut self, shard: ShardId, number: u64)
         requires { shard < (state_of self.old).sizes.shards }
         ensures { whole_of self.new ≡ with_state (whole_of self.old) (record (state_of self.old) { numbers = put (state_of self.old).numbers shard number }) }
@@ -335,21 +335,21 @@ impl Engine {
         self.numbers[shard.number() as usize] = number;
     }
 
-    /// The number of the next call.
+    /// Returns the number of the next call.
     pub fn next_number(&self) -> u64
         ensures { result ≡ (state_of self.now).next_number }
     {
         self.next_number
     }
 
-    /// The next call has another number.
+    /// Sets the number of the next call.
     pub fn set_next_number(&mut self, number: u64)
         ensures { whole_of self.new ≡ with_state (whole_of self.old) (record (state_of self.old) { next_number = number }) }
     {
         self.next_number = number;
     }
 
-    /// A call comes to its server, which serves it. Answers whether it has its effect now.
+    /// Serves a call at its server. Returns whether it has its effect now.
     pub fn serve(&mut self, call: &ServerCall, number: u64) -> bool
         requires shard { call.now.shard < (state_of self.old).sizes.shards }
         requires server { call.now.server < (state_of self.old).sizes.servers }
@@ -368,7 +368,7 @@ impl Engine {
         }
     }
 
-    /// The published map has another entry of a shard.
+    /// Publishes another entry of a shard in the map.
     pub fn publish(&mut self, shard: ShardId, listed: Option<ServerId>)
         requires shard { shard < (state_of self.old).sizes.shards }
         requires listed { ForSome listed (λ server. server < (state_of self.old).sizes.servers) }
@@ -385,7 +385,7 @@ impl Engine {
         }
     }
 
-    /// A law: what a stream holds is in order.
+    /// States that what a stream holds is in order.
     pub fn held_in_order(&self, id: StreamId)
         requires { is_begun (state_of self.now) id ≡ true }
         ensures order { IsGrantInOrder (grant_of self.now id) }
@@ -396,7 +396,7 @@ impl Engine {
             .held_in_order(id.stream as usize);
     }
 
-    /// A law: what a signal carries is in order.
+    /// States that what a signal carries is in order.
     pub fn carried_in_order(&self, id: StreamId, signal: u32)
         requires begun { is_begun (state_of self.now) id ≡ true }
         requires signal { signal < signal_count (state_of self.now) id.plan }
@@ -408,7 +408,7 @@ impl Engine {
             .carried_in_order(signal as usize);
     }
 
-    /// A stream posts a signal, and gives its parcel up.
+    /// Posts a signal: a stream gives its parcel up.
     pub fn post(&mut self, id: StreamId, signal: u32)
         requires begun { is_begun (state_of self.old) id ≡ true }
         requires signal { signal < signal_count (state_of self.old) id.plan }
@@ -428,7 +428,7 @@ impl Engine {
         self.plans.swap(plan, &mut self.desk);
     }
 
-    /// A stream takes the parcel of a signal that was posted.
+    /// Gives a stream the parcel of a signal that was posted.
     pub fn wait(&mut self, id: StreamId, signal: u32)
         requires begun { is_begun (state_of self.old) id ≡ true }
         requires signal { signal < signal_count (state_of self.old) id.plan }
@@ -446,7 +446,7 @@ impl Engine {
         self.plans.swap(plan, &mut self.desk);
     }
 
-    /// A stream makes its end, and gives what it holds back.
+    /// Gives back what a stream holds, which finishes.
     pub fn give_back(&mut self, id: StreamId)
         requires begun { is_begun (state_of self.old) id ≡ true }
         requires running { (progress_of (state_of self.old) id).done ≡ false }
@@ -461,7 +461,7 @@ impl Engine {
         self.pool.give_back(grant);
     }
 
-    /// A stream less of a plan has not made its end, and with the last one a plan less is unfinished.
+    /// Counts one more stream of a plan as finished, and if it was the last, the plan too.
     pub fn finish_one(&mut self, id: StreamId)
         requires begun { is_begun (state_of self.old) id ≡ true }
         ensures { whole_of self.new ≡ record (whole_of self.old) { unfinished = put (whole_of self.old).unfinished id.plan ((whole_of self.old).unfinished id.plan - 1); running = if (whole_of self.old).unfinished id.plan == 1 then (whole_of self.old).running - 1 else (whole_of self.old).running } }
@@ -476,21 +476,21 @@ impl Engine {
         }
     }
 
-    /// So many places of the log are free.
+    /// Sets the number of free places of the log.
     pub fn set_free(&mut self, free: u64)
         ensures { whole_of self.new ≡ record (whole_of self.old) { free = free } }
     {
         self.free = free;
     }
 
-    /// How many plans were begun.
+    /// Returns the number of plans that were begun.
     pub fn plan_count(&self) -> usize
         ensures { result ≡ length (state_of self.now).plans }
     {
         self.plans.len()
     }
 
-    /// How many streams a plan has.
+    /// Returns the number of streams of a plan.
     pub fn stream_count(&self, plan: u32) -> usize
         requires { plan < length (state_of self.now).plans }
         ensures { result ≡ stream_count (state_of self.now) plan }
@@ -498,7 +498,7 @@ impl Engine {
         self.plans.at(plan as usize).stream_count()
     }
 
-    /// The plan of a number.
+    /// Returns the plan with a number.
     pub fn plan(&self, plan: u32) -> &Plan
         requires { plan < length (state_of self.now).plans }
         ensures { result.now ≡ plan_at (state_of self.now) plan }
@@ -506,21 +506,21 @@ impl Engine {
         self.plans.at(plan as usize).plan()
     }
 
-    /// How many plans are unfinished.
+    /// Returns the number of unfinished plans.
     pub fn running(&self) -> u32
         ensures { result ≡ (whole_of self.now).running }
     {
         self.running
     }
 
-    /// So many plans are unfinished.
+    /// Sets the number of unfinished plans.
     pub fn set_running(&mut self, running: u32)
         ensures { whole_of self.new ≡ record (whole_of self.old) { running = running } }
     {
         self.running = running;
     }
 
-    /// What holds a plan up that was checked for the machine's configuration.
+    /// Returns the thing that holds a plan up that was checked for the machine's configuration.
     pub fn holding(&self, checked: &Checked) -> Option<Holding>
         requires setup { checked.now.setup ≡ self.now.placement.setup }
         requires true_pool { (key : Key) → IsIn (whole_of self.now).pool (true_rights (state_of self.now).sizes (state_of self.now).place) key }
@@ -533,7 +533,7 @@ impl Engine {
         }
     }
 
-    /// A plan is begun, and its streams take what they declare. Takes no memory.
+    /// Adds a plan that begins, whose streams take what they declare. Takes no memory.
     pub fn add_plan(&mut self, ready: ReadyPlan) -> Vec<StreamToken>
         requires fill { CanFillAll (begun_of ready 0) (whole_of self.old).pool }
         requires few { length (state_of self.old).plans ≤ MOST_NUMBER }
@@ -553,7 +553,7 @@ impl Engine {
         tokens
     }
 
-    /// What a server answers to a request, which came directly or with the ticket of its pass.
+    /// Returns what a server answers to a request, which came directly or with the ticket of its pass.
     pub fn reply(&self, shard: ShardId, server: ServerId, sent: Option<TicketParts>) -> Played
         requires shard { shard < (state_of self.now).sizes.shards }
         requires server { server < (state_of self.now).sizes.servers }
@@ -563,21 +563,22 @@ impl Engine {
         reply(&self.placement, shard, server, sent, place)
     }
 
-    /// The log has just this pass, and its request was not passed on yet.
+    /// Tells whether the log has just this pass, and its request was not passed on yet.
     pub fn is_open(&self, ticket: &TicketParts) -> bool
         ensures { result ≡ is_open_ticket (state_of self.now).log ticket.now }
     {
         self.journal.is_open(ticket)
     }
 
-    /// The pass that is recorded at a place of the log.
+    /// Returns the pass that is recorded at a place of the log.
     pub fn pass_at(&self, place: u32) -> Option<TicketParts>
         ensures { result ≡ slice_index_or (passes (state_of self.now).log) place None }
     {
         self.journal.pass_at(place)
     }
 
-    /// The placement as it stands. The pool ends, with all that streams hold and signals carry. Takes no memory.
+    /// Closes the machine, and returns the placement as it stands. The pool ends, with all that streams hold and
+    /// signals carry. Takes no memory.
     pub fn into_placement(self) -> Placement
         ensures place { place_of result ≡ (state_of self).place }
         ensures sizes { sizes_of result.setup ≡ (state_of self).sizes }

@@ -18,14 +18,14 @@ pub struct Hand {
     pub tokens: Vec<StreamToken>,
     /// The rights to end restarts.
     pub permits: Vec<Permit>,
-    /// The requests under way. Of several tickets of one place of the log the first is used.
+    /// The requests under way. If several tickets have one place of the log, the first is used.
     pub tickets: Vec<Ticket>,
-    /// The plans that may start, by their places. None where no plan is left.
+    /// The plans that may start, by their places. None if no plan is left.
     pub plans: Vec<Option<ReadyPlan>>,
 }
 
 impl Hand {
-    /// Takes room for so many tokens, and for a permit and a ticket by each of so many events.
+    /// Takes room for this many tokens, and for a permit and a ticket for each of this many events.
     pub(crate) fn reserve(&mut self, tokens: usize, events: usize) -> Result<(), AllocError>
         requires { tokens < 2 ^ 63 → sum_by token_count self.old.plans.items ≤ tokens }
         ensures same { IsSameHand self.old self.new }
@@ -37,7 +37,7 @@ impl Hand {
     }
 }
 
-/// How many tokens the start of the plan at a place gives.
+/// Returns the number of tokens that the start of the plan at a place gives.
 fn token_count(plan: &Option<ReadyPlan>) -> usize
     ensures count { result ≡ token_count plan.now }
     ensures checked { IfSome plan.now (λ p. IsCheckedPlan (sizes_of p.setup) p.plan) }
@@ -48,7 +48,7 @@ fn token_count(plan: &Option<ReadyPlan>) -> usize
     }
 }
 
-/// How many tokens the starts of all plans of a hand give, if that is a number that a list has room for.
+/// Returns the number of tokens that the starts of all plans of a hand give, if a list has room for that many.
 pub(crate) fn token_room(plans: &[Option<ReadyPlan>]) -> usize
     ensures room { result < 2 ^ 63 → sum_by token_count plans.now ≤ result }
     ensures checked { (place : ℕ) (p : CheckedModel) → slice_index_or plans.now place None ≡ Some p → IsCheckedPlan (sizes_of p.setup) p.plan }

@@ -33,7 +33,7 @@ impl Model for TicketParts {
 }
 
 impl TicketParts {
-    /// Two tickets agree in all parts.
+    /// Tells whether two tickets agree in all parts.
     fn is_same(&self, other: &TicketParts) -> bool
         ensures { result ≡ same_ticket self.now other.now }
     {
@@ -43,7 +43,7 @@ impl TicketParts {
                     && (self.target == other.target && self.number == other.number)))
     }
 
-    /// The request, passed on once more by the server that it was passed to.
+    /// Returns the request, passed on once more by the server that it was passed to.
     fn passed_on(&self, to: ServerId, number: u64, place: u32) -> TicketParts
         ensures { result ≡ record { place = place; shard = self.now.shard; sender = self.now.target; target = to; number = number } }
     {
@@ -57,7 +57,7 @@ impl TicketParts {
     }
 }
 
-/// The pass of an event that was answered so, where the passes before it are these.
+/// Returns the pass of an event that was answered so, if the passes before it are these.
 fn pass_by(
     earlier: &[Option<TicketParts>],
     event: &Event,
@@ -83,7 +83,7 @@ fn pass_by(
     }
 }
 
-/// The pass that an event makes by its answer.
+/// Returns the pass that an event makes by its answer.
 fn pass_of(earlier: &[Option<TicketParts>], answer: &Played, event: &Event) -> Option<TicketParts>
     ensures { result ≡ pass_of earlier.now answer.now event.now }
 {
@@ -111,7 +111,7 @@ pub(crate) struct Journal {
     passes: Vec<Option<TicketParts>>,
     /// For each place of the log whether the request of its pass was passed on.
     passed_on: Vec<bool>,
-    /// How many places there are.
+    /// The number of places.
     room: u32,
 }
 
@@ -143,7 +143,7 @@ impl Model for Journal {
 impl Journal {
     ghost use Rattle.std.specs.Prelude.{◌≤◌, IsTrue};
 
-    /// An empty log with so many places.
+    /// Opens an empty log with this many places.
     pub fn open(alloc: Global, room: u32) -> Result<Journal, AllocError>
         ensures { IfOk result (λ journal. journal ≡ record { log = []; room = room }) }
     {
@@ -155,7 +155,7 @@ impl Journal {
         })
     }
 
-    /// How many events are recorded, which is no more than there are places.
+    /// Returns the number of recorded events, which is no greater than that of the places.
     pub fn len(&self) -> usize
         ensures count { result ≡ length self.now.log }
         ensures within { length self.now.log ≤ self.now.room }
@@ -163,7 +163,7 @@ impl Journal {
         self.log.len()
     }
 
-    /// The place of the next event.
+    /// Returns the place of the next event.
     pub fn next_place(&self) -> u32
         ensures { result ≡ length self.now.log }
     {
@@ -171,28 +171,28 @@ impl Journal {
         self.len() as u32
     }
 
-    /// How many places there are.
+    /// Returns the number of places.
     pub fn room(&self) -> u32
         ensures { result ≡ self.now.room }
     {
         self.room
     }
 
-    /// The recorded events, the oldest first.
+    /// Returns the recorded events, the oldest first.
     pub fn log(&self) -> &[Logged]
         ensures { result.now ≡ self.now.log }
     {
         self.log.as_slice()
     }
 
-    /// The pass that is recorded at a place of the log.
+    /// Returns the pass that is recorded at a place of the log.
     pub fn pass_at(&self, place: u32) -> Option<TicketParts>
         ensures { result ≡ slice_index_or (passes self.now.log) place None }
     {
         self.passes.get(place as usize).copied().flatten()
     }
 
-    /// The log has just this pass, and its request was not passed on yet.
+    /// Tells whether the log has just this pass, and its request was not passed on yet.
     pub fn is_open(&self, ticket: &TicketParts) -> bool
         ensures open { result ≡ is_open_ticket self.now.log ticket.now }
         ensures earlier { IsTrue result → ticket.now.place < length self.now.log }

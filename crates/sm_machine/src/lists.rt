@@ -6,7 +6,7 @@ ghost use Rattle.sm_machine.specs.Hand.{put_at, put_behind};
 use crate::ready_plan::ReadyPlan;
 use crate::token::StreamToken;
 
-/// Puts a number behind the others, where it is one of them.
+/// Puts a number behind the others, if `is_one`.
 pub(crate) fn add_number(numbers: &mut Vec<u32>, number: u32, is_one: bool)
     requires room { length numbers.old.items < vec_capacity numbers.old }
     ensures items { numbers.new.items ≡ (if is_one then numbers.old.items ++ number ∷ [] else numbers.old.items) }
@@ -38,7 +38,7 @@ pub(crate) fn put_back<T>(list: &mut Vec<T>, at: usize, value: T)
     }
 }
 
-/// Puts what is left of an element that stood at a place back there, or, where that was spent, behind the others.
+/// Puts what is left of an element that stood at a place back there, or, if that was spent, behind the others.
 pub(crate) fn settle<T>(list: &mut Vec<T>, at: usize, spent: bool, left: Option<T>)
     requires within { at ≤ vec_len list.old }
     requires room { vec_len list.old < vec_capacity list.old }

@@ -69,8 +69,9 @@ impl Model for Machine {
 }
 
 impl Machine {
-    /// Opens a machine over a settled placement, with a log of so many places: at most 1,048,576, and one at least for each
-    /// server that is down. There is a permit for each of those, by their numbers. At a fault the placement comes back.
+    /// Opens a machine over a settled placement, with a log of `log_room` places: at most 1,048,576, and at least one
+    /// for each server that is down. There is a permit for each of those, by their numbers. At a fault the placement
+    /// comes back.
     pub fn open(
         alloc: Global,
         placement: Placement,
@@ -101,17 +102,18 @@ impl Machine {
         Ok((Machine { engine }, permits))
     }
 
-    /// A law: events led to the state of every machine from an opening of its own configuration, so that all laws of the protocol
-    /// hold of it.
+    /// States that events led to the state of every machine from an opening of its own configuration, so that all laws
+    /// of the protocol hold of it.
     pub fn is_reached(&self)
         ensures { IsReached self.now.placement.setup (state_of self.now) }
     {
         let _ = &self.engine;
     }
 
-    /// A law: no event that fits is one of which a call is refused, the state is safe, and of each plan that isn't done some
-    /// stream can step, or one that hasn't made its end has spent its allowance. Where no unfinished stream has a lost call in
-    /// the log, some stream can step. And who executes a request is the one server that serves its shard.
+    /// States that no event that fits is one of which a call is refused, and the state is safe. Some stream of each
+    /// plan that isn't done can step, or one that hasn't finished has spent its allowance. If no unfinished stream has
+    /// a lost call in the log, some stream can step. A request is executed only by the one server that serves its
+    /// shard.
     pub fn is_safe(&self)
         ensures served { NextIsServed (state_of self.now) }
         ensures safe { IsSafe (state_of self.now) }
@@ -122,8 +124,8 @@ impl Machine {
         let _ = &self.engine;
     }
 
-    /// A plan begins that was checked for the machine's configuration: its streams have what they declare, and each has a
-    /// token. Where it does not begin, the checked plan comes back, and nothing changes.
+    /// Begins a plan that was checked for the machine's configuration: its streams have what they declare, and each has
+    /// a token. If it does not begin, the checked plan comes back, and nothing changes.
     pub fn begin(
         &mut self,
         alloc: Global,
@@ -148,8 +150,8 @@ impl Machine {
         }
     }
 
-    /// A plan starts that is ready and was checked for the machine's configuration: its streams have what they declare, and
-    /// each has a token. Where it does not start, it comes back ready, and nothing changes.
+    /// Starts a plan that is ready and was checked for the machine's configuration: its streams have what they declare,
+    /// and each has a token. If it does not start, it comes back ready, and nothing changes.
     ///
     /// Takes no memory.
     pub fn start(&mut self, ready: ReadyPlan) -> Result<Vec<StreamToken>, (ReadyPlan, BeginFault)>
@@ -169,7 +171,7 @@ impl Machine {
         }
     }
 
-    /// A stream makes its next step, where it can: its next instruction, or its end. No call is refused.
+    /// Makes a stream's next step, if it can make one: its next instruction, or its end. No call is refused.
     ///
     /// Takes no memory.
     pub fn step(&mut self, token: &mut StreamToken) -> Step
@@ -181,8 +183,8 @@ impl Machine {
         self.engine.step_by(token.id(), Passage::Through)
     }
 
-    /// A stream makes its next step over a link. The link is asked once, under the number of the try, where the step tries a
-    /// call, and else not at all. Lost is answered exactly where the link's count of losses has risen.
+    /// Makes a stream's next step over a link. If the step tries a call, the link is asked once, under the number of
+    /// the try, and otherwise not at all. The answer is Lost exactly if the link's count of losses has risen.
     ///
     /// Takes no memory.
     pub fn step_over<L: Link>(&mut self, token: &mut StreamToken, link: &mut L) -> Step
@@ -200,7 +202,7 @@ impl Machine {
         self.engine.step_by(id, passage)
     }
 
-    /// A stream makes its next step. Where that tries a call, `passage` says whether the try gets through.
+    /// Makes a stream's next step. If that tries a call, `passage` says whether the try gets through.
     pub(crate) fn step_by(&mut self, id: StreamId, passage: Passage) -> Step
         ensures answer { (step (state_of self.old) id passage).0 ≡ Answered (played_of result) }
         ensures state { state_of self.new ≡ (step (state_of self.old) id passage).1 }
@@ -209,7 +211,7 @@ impl Machine {
         self.engine.step_by(id, passage)
     }
 
-    /// A stream makes its next step, and its call, where it tries one, is lost: before its effect, or its answer after it.
+    /// Makes a stream's next step, and loses its call if it tries one: before its effect, or its answer after it.
     pub(crate) fn lose_by(&mut self, id: StreamId, after: bool) -> Step
         ensures answer { (happens (state_of self.old) (happening.Lose id after)).0 ≡ Answered (played_of result) }
         ensures state { state_of self.new ≡ (happens (state_of self.old) (happening.Lose id after)).1 }
@@ -235,7 +237,7 @@ impl Machine {
         self.engine.refill(token.id(), more)
     }
 
-    /// A stream's allowance is raised.
+    /// Raises a stream's allowance.
     pub(crate) fn refill_by(&mut self, id: StreamId, more: u32) -> Result<(), RefillFault>
         requires { more ≤ MOST_CALLS }
         ensures answer { (happens (state_of self.old) (happening.Refill id more)).0 ≡ Answered (refill_answer result) }
@@ -245,7 +247,7 @@ impl Machine {
         self.engine.refill(id, more)
     }
 
-    /// A request for a shard comes to a server.
+    /// Asks a server for a shard.
     ///
     /// Takes no memory.
     pub fn arrive(&mut self, shard: ShardId, server: ServerId) -> Answer
@@ -261,8 +263,8 @@ impl Machine {
         answer_to(shard, server, reply)
     }
 
-    /// A request that was passed on comes to the server that it was passed to. Its ticket is spent by an answer of the server,
-    /// and else comes back.
+    /// Brings a request that was passed on to the server that it was passed to. Its ticket is spent by an answer of the
+    /// server, and otherwise comes back.
     ///
     /// Takes no memory.
     pub fn pass_on(&mut self, ticket: Ticket) -> Answer
@@ -282,7 +284,8 @@ impl Machine {
         answer_with(ticket, reply)
     }
 
-    /// The cluster manager asks whether a server may be restarted. Where it may, it is down then, and the permit ends the restart.
+    /// Decides, for the cluster manager, whether a server may be restarted. If it may, it is down then, and the permit
+    /// ends the restart.
     ///
     /// Takes no memory.
     pub fn approve(&mut self, server: ServerId) -> Result<Permit, Denied>
@@ -302,7 +305,7 @@ impl Machine {
         }
     }
 
-    /// A restart has ended: the server of the permit is up. Where it was not down, the permit comes back.
+    /// Ends a restart: the server of the permit is up. If it was not down, the permit comes back.
     ///
     /// Takes no memory.
     pub fn done(&mut self, permit: Permit) -> Result<(), Permit>
@@ -319,7 +322,7 @@ impl Machine {
         Ok(())
     }
 
-    /// Halts the machine: steps are answered Halted until it is resumed. This is no event.
+    /// Halts the machine: it answers steps with Halted until it is resumed. This is no event.
     pub fn halt(&mut self)
         ensures state { state_of self.new ≡ record (state_of self.old) { halted = true } }
         ensures setup { self.new.placement.setup ≡ self.old.placement.setup }
@@ -335,7 +338,7 @@ impl Machine {
         self.engine.set_halted(false);
     }
 
-    /// The placement as it stands.
+    /// Returns the placement as it stands.
     pub fn placement(&self) -> &Placement
         ensures place { place_of result.now ≡ (state_of self.now).place }
         ensures sizes { sizes_of result.now.setup ≡ (state_of self.now).sizes }
@@ -344,7 +347,7 @@ impl Machine {
         self.engine.placement()
     }
 
-    /// The configuration.
+    /// Returns the configuration.
     pub fn config(&self) -> &Config
         ensures setup { result.now ≡ self.now.placement.setup }
         ensures sizes { sizes_of result.now ≡ (state_of self.now).sizes }
@@ -352,7 +355,7 @@ impl Machine {
         self.engine.placement().config()
     }
 
-    /// The rights that no stream holds and no parcel carries.
+    /// Returns the rights that no stream holds and no parcel carries.
     pub fn pool(&self) -> &Pool
         ensures hold { pool_hold result.now ≡ pool (state_of self.now) }
         ensures size { HasSize (state_of self.now).sizes result.now }
@@ -360,21 +363,21 @@ impl Machine {
         self.engine.pool()
     }
 
-    /// The recorded events with their answers, the oldest first.
+    /// Returns the recorded events with their answers, the oldest first.
     pub fn log(&self) -> &[Logged]
         ensures { result.now ≡ (state_of self.now).log }
     {
         self.engine.log()
     }
 
-    /// The entries that publications have added to the published map, with their shards, the oldest first.
+    /// Returns the entries that publications have added to the published map, with their shards, the oldest first.
     pub fn entries(&self) -> &[(ShardId, Entry)]
         ensures { reverse result.now ≡ (state_of self.now).entries }
     {
         self.engine.entries()
     }
 
-    /// The published map's entry of a shard.
+    /// Returns the published map's entry of a shard.
     pub fn entry(&self, shard: ShardId) -> Entry
         requires { shard < (state_of self.now).sizes.shards }
         ensures { result ≡ entry_at (state_of self.now).place shard }
@@ -382,21 +385,21 @@ impl Machine {
         self.engine.placement().entry(shard)
     }
 
-    /// How many places of the log are neither used nor set aside for what was begun.
+    /// Returns the number of log places that are neither used nor set aside for what was begun.
     pub fn free_places(&self) -> u64
         ensures { result ≡ free_places (state_of self.now) }
     {
         self.engine.free()
     }
 
-    /// How many plans were begun.
+    /// Returns the number of plans that were begun.
     pub fn plan_count(&self) -> u64
         ensures { result ≡ length (state_of self.now).plans }
     {
         self.engine.plan_count() as u64
     }
 
-    /// How many streams a plan has that was begun.
+    /// Returns the number of streams of a plan that was begun.
     pub fn stream_count(&self, plan: u32) -> u64
         requires { plan < length (state_of self.now).plans }
         ensures { result ≡ stream_count (state_of self.now) plan }
@@ -404,7 +407,7 @@ impl Machine {
         self.engine.stream_count(plan) as u64
     }
 
-    /// The plan of a number.
+    /// Returns the plan with a number.
     pub fn plan(&self, plan: u32) -> &Plan
         requires { plan < length (state_of self.now).plans }
         ensures { result.now ≡ plan_at (state_of self.now) plan }
@@ -412,14 +415,14 @@ impl Machine {
         self.engine.plan(plan)
     }
 
-    /// The stream was begun by this machine.
+    /// Tells whether the stream was begun by this machine.
     pub fn is_begun(&self, id: StreamId) -> bool
         ensures { result ≡ is_begun (state_of self.now) id }
     {
         self.engine.is_begun(id)
     }
 
-    /// The stream has made its end.
+    /// Tells whether the stream has finished.
     pub fn is_done(&self, id: StreamId) -> bool
         requires { is_begun (state_of self.now) id ≡ true }
         ensures { result ≡ (progress_of (state_of self.now) id).done }
@@ -427,7 +430,7 @@ impl Machine {
         self.engine.progress(id).done
     }
 
-    /// How many of its instructions a stream has made.
+    /// Returns the number of instructions that a stream has made.
     pub fn position(&self, id: StreamId) -> usize
         requires { is_begun (state_of self.now) id ≡ true }
         ensures { result ≡ (progress_of (state_of self.now) id).at }
@@ -435,7 +438,8 @@ impl Machine {
         self.engine.progress(id).at
     }
 
-    /// The log's length when a stream came to its position: behind its last step, or at its plan's start where it has made none.
+    /// Returns the log's length when a stream came to its position: behind its last step, or at its plan's start if it
+    /// has made none.
     pub fn since(&self, id: StreamId) -> u32
         requires { is_begun (state_of self.now) id ≡ true }
         ensures { result ≡ since_of (state_of self.now) id }
@@ -443,37 +447,37 @@ impl Machine {
         self.engine.since(id)
     }
 
-    /// The call that a running stream stands before, with the handover number that it carries. None where its next instruction is no
-    /// call, at its end, and of any other stream.
+    /// Returns the call that a running stream stands before, with the handover number that it carries. None if its next
+    /// instruction is no call, at its end, and of any other stream.
     pub fn next_call(&self, id: StreamId) -> Option<ServerCall>
         ensures { result ≡ next_call_of (state_of self.now) id }
     {
         self.engine.next_call(id)
     }
 
-    /// The entry of the published map that a running stream stands before, with its shard and under its next version. None where its
-    /// next instruction changes no entry, at its end, and of any other stream.
+    /// Returns the entry of the published map that a running stream stands before, with its shard and under its next
+    /// version. None if its next instruction changes no entry, at its end, and of any other stream.
     pub fn next_entry(&self, id: StreamId) -> Option<(ShardId, Entry)>
         ensures { result ≡ next_entry_of (state_of self.now) id }
     {
         self.engine.next_entry(id)
     }
 
-    /// The signal that a running stream waits for, where it is not posted.
+    /// Returns the signal that a running stream waits for, if it is not posted.
     pub fn blocked_on(&self, id: StreamId) -> Option<u32>
         ensures { result ≡ blocked_on (state_of self.now) id }
     {
         self.engine.blocked_on(id)
     }
 
-    /// The numbers of the plans of which some stream has not made its end, in the order of their starts.
+    /// Returns the numbers of the plans of which some stream has not finished, in the order of their starts.
     pub fn unfinished(&self) -> &[u32]
         ensures { result.now ≡ unfinished_plans (state_of self.now) }
     {
         self.engine.unfinished()
     }
 
-    /// How many tries of calls a stream has made.
+    /// Returns the number of tries of calls that a stream has made.
     pub fn calls(&self, id: StreamId) -> u64
         requires { is_begun (state_of self.now) id ≡ true }
         ensures { result ≡ (progress_of (state_of self.now) id).tries }
@@ -481,7 +485,7 @@ impl Machine {
         self.engine.progress(id).tries
     }
 
-    /// How many tries of calls a stream may make: its budget, its retries and its refills.
+    /// Returns the number of tries of calls that a stream may make: its budget, its retries and its refills.
     pub fn allowance(&self, id: StreamId) -> u64
         requires { is_begun (state_of self.now) id ≡ true }
         ensures { result ≡ allowance (state_of self.now) id }
@@ -489,8 +493,9 @@ impl Machine {
         self.engine.allowance(id)
     }
 
-    /// How many recorded steps a stream makes on its way: the tries of its calls so far, its other instructions, and its end,
-    /// whether or not it has come to those. Of a stream that has made its end it is the number that `retire` answers.
+    /// Returns the number of recorded steps that a stream makes on its way: the tries of its calls so far, its other
+    /// instructions, and its end, whether or not it has come to those. If the stream has finished, `retire` answers
+    /// that number.
     pub fn steps_at_end(&self, id: StreamId) -> u64
         requires { is_begun (state_of self.now) id ≡ true }
         ensures { result ≡ steps_at_end (state_of self.now) id }
@@ -498,14 +503,14 @@ impl Machine {
         self.engine.steps_made(id)
     }
 
-    /// The lowest unfinished stream whose code mentions the server.
+    /// Returns the lowest unfinished stream whose code mentions the server.
     pub fn engaged(&self, server: ServerId) -> Option<StreamId>
         ensures { result ≡ engaged (state_of self.now) server }
     {
         self.engine.engaged(server)
     }
 
-    /// A ticket of the pass that is recorded at this place of the log.
+    /// Returns a ticket of the pass that is recorded at this place of the log.
     pub(crate) fn ticket_at(&self, place: u32) -> Option<Ticket>
         ensures { result ≡ slice_index_or (passes (state_of self.now).log) place None }
     {
@@ -515,9 +520,9 @@ impl Machine {
         }
     }
 
-    /// Ends the token of a stream that has made its end, and answers how many recorded steps the stream made: the tries of its
-    /// calls, its other instructions, and its end, which are its steps and lost tries in the log. A token of any other stream comes
-    /// back.
+    /// Ends the token of a stream that has finished, and answers how many recorded steps the stream made: the tries of
+    /// its calls, its other instructions, and its end, which are its steps and lost tries in the log. A token of any
+    /// other stream comes back.
     pub fn retire(&self, token: StreamToken) -> Result<u64, StreamToken>
         ensures made { IfOk result (λ steps. steps ≡ steps_at_end (state_of self.now) token) }
         ensures logged { IfOk result (λ steps. steps ≡ made_in token (state_of self.now).log) }

@@ -16,7 +16,7 @@ use sm_protocol::{Event, Passage, Played};
 use sm_reservation::StreamId;
 use sm_server::{ServerId, ShardId};
 
-/// A ticket that came with an answer is spent.
+/// Spends a ticket that came with an answer.
 fn abandon(ticket: Option<Ticket>) {
     match ticket {
         Some(ticket) => ticket.abandon(),
@@ -86,8 +86,8 @@ impl Machine {
         }
     }
 
-    /// Plays an event, for which all rights are there. What names nothing is Unknown, and so is a start: the event does not tell which
-    /// plan is to start.
+    /// Plays an event, for which all rights are there. An event that names nothing is Unknown, and so is a start, which
+    /// does not tell the plan that is to start.
     pub(crate) fn play_named(&mut self, event: Event) -> Played
         requires { NamesKnown (state_of self.old).sizes event }
         ensures { HasHappenedIf self.old (named (state_of self.old) event) result self.new }

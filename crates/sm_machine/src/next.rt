@@ -1,4 +1,4 @@
-//! What streams stand before: a call, an entry of the published map, or a signal that is not posted.
+//! The things that streams stand before: a call, an entry of the published map, or a signal that is not posted.
 ghost use Rattle.std.specs.Prelude.{◌≡◌, ◌<◌, ℕ, IfSome, Some, true};
 ghost use Rattle.sm_plan_code.specs.declared.instruction.Instr.TheVariants.{Wait};
 ghost use Rattle.sm_placement.specs.declared.limits.TheConstants.{VERSIONS_END};
@@ -19,7 +19,7 @@ use sm_reservation::StreamId;
 use sm_server::{ServerId, ShardId};
 
 impl Engine {
-    /// The instruction that a running stream makes next.
+    /// Returns the instruction that a running stream makes next.
     fn instruction_before(&self, id: StreamId) -> Option<Instr>
         ensures { result ≡ instruction_before (state_of self.now) id }
     {
@@ -29,7 +29,7 @@ impl Engine {
         self.next_instruction(id)
     }
 
-    /// The call of an instruction at the highest handover numbers, None where it is no call.
+    /// Returns the call of an instruction at the highest handover numbers, None if it is no call.
     pub fn call_at_numbers(&self, instr: &Instr) -> Option<ServerCall>
         requires shard { IfSome (shard_of instr.now) (λ s. s < (state_of self.now).sizes.shards) }
         requires numbers { (s : ℕ) → (state_of self.now).numbers s < numbers_end }
@@ -41,7 +41,7 @@ impl Engine {
         }
     }
 
-    /// The call that a running stream stands before, with its handover number.
+    /// Returns the call that a running stream stands before, with its handover number.
     pub fn next_call(&self, id: StreamId) -> Option<ServerCall>
         requires { IsWorking (whole_of self.now) }
         ensures { result ≡ next_call_of (state_of self.now) id }
@@ -52,7 +52,7 @@ impl Engine {
         }
     }
 
-    /// The server that a publication of a shard lists.
+    /// Returns the server that a publication of a shard lists.
     fn listed_next(&self, shard: ShardId) -> Option<ServerId>
         requires { shard < (state_of self.now).sizes.shards }
         ensures { result ≡ to_list (leads_of (state_of self.now).sizes (state_of self.now).place shard) }
@@ -63,7 +63,7 @@ impl Engine {
         }
     }
 
-    /// A shard's next entry of the published map, if it lists this server.
+    /// Returns a shard's next entry of the published map, if it lists this server.
     fn entry_listing(&self, shard: ShardId, server: Option<ServerId>) -> (ShardId, Entry)
         requires shard { shard < (state_of self.now).sizes.shards }
         requires version { (state_of self.now).place.version shard < VERSIONS_END }
@@ -73,7 +73,7 @@ impl Engine {
         (shard, Entry { server, version })
     }
 
-    /// The entry that an instruction adds to the published map, None where it adds none.
+    /// Returns the entry that an instruction adds to the published map, None if it adds none.
     fn entry_by(&self, instr: &Instr) -> Option<(ShardId, Entry)>
         requires shard { IfSome (shard_of instr.now) (λ s. s < (state_of self.now).sizes.shards) }
         requires versions { (s : ℕ) → s < (state_of self.now).sizes.shards → (state_of self.now).place.version s < VERSIONS_END }
@@ -89,7 +89,7 @@ impl Engine {
         }
     }
 
-    /// The entry that a running stream stands before, with its shard.
+    /// Returns the entry that a running stream stands before, with its shard.
     pub fn next_entry(&self, id: StreamId) -> Option<(ShardId, Entry)>
         requires { IsWorking (whole_of self.now) }
         ensures { result ≡ next_entry_of (state_of self.now) id }
@@ -100,7 +100,7 @@ impl Engine {
         }
     }
 
-    /// The signal that an instruction of a stream waits for, where it is not posted.
+    /// Returns the signal that an instruction of a stream waits for, if it is not posted.
     fn unposted(&self, id: StreamId, instr: &Instr) -> Option<u32>
         requires begun { is_begun (state_of self.now) id ≡ true }
         requires signal { (q : ℕ) → instr.now ≡ Wait q → q < signal_count (state_of self.now) id.plan }
@@ -118,7 +118,7 @@ impl Engine {
         }
     }
 
-    /// The signal that a running stream waits for, where it is not posted.
+    /// Returns the signal that a running stream waits for, if it is not posted.
     pub fn blocked_on(&self, id: StreamId) -> Option<u32>
         requires { IsWorking (whole_of self.now) }
         ensures { result ≡ blocked_on (state_of self.now) id }

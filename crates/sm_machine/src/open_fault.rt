@@ -1,7 +1,7 @@
 //! Why a machine is not opened.
 use thiserror::Error;
 
-/// Why a machine is not opened. LogFull is given before any memory is asked for, and so in place of NoMemory.
+/// The reason why a machine is not opened. LogFull is given before any memory is asked for, and so before NoMemory.
 #[derive(Clone, Copy, Debug, PartialEq, Eq, Error)]
 pub enum OpenFault {
     /// Memory was short.

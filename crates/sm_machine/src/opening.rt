@@ -9,8 +9,8 @@ use sm_server::{Cell, ServerId, ShardId};
 use std::alloc::{AllocError, Global};
 use std::marker::Model;
 
-/// The cells that are not Absent, the servers that are down, what the published map says of each shard, and how many servers may
-/// be down at once.
+/// The cells that are not Absent, the servers that are down, the published map's entry of each shard, and the number of
+/// servers that may be down at once.
 pub(crate) struct Opening {
     cells: Vec<(ShardId, ServerId, Cell)>,
     listed: Vec<Option<ServerId>>,
@@ -63,7 +63,7 @@ fn push_cells(
     Ok(())
 }
 
-/// The cells that are not Absent.
+/// Returns the cells that are not Absent.
 fn cells_of(
     alloc: Global,
     placement: &Placement,
@@ -77,7 +77,7 @@ fn cells_of(
     Ok(rows)
 }
 
-/// The servers that are down.
+/// Returns the servers that are down.
 fn down_of(alloc: Global, placement: &Placement) -> Result<Vec<ServerId>, AllocError>
     ensures { IfOk result (λ rows. down_of_rows rows.items ≡ (place_of placement.now).down) }
 {
@@ -92,7 +92,7 @@ fn down_of(alloc: Global, placement: &Placement) -> Result<Vec<ServerId>, AllocE
 }
 
 impl Opening {
-    /// A placement as it stands, without the numbers of its calls.
+    /// Copies a placement as it stands, without the numbers of its calls.
     pub fn of(alloc: Global, placement: &Placement) -> Result<Opening, AllocError>
         ensures { IfOk result (λ opening. place_of_rows opening ≡ forget_numbers (place_of placement.now)) }
     {

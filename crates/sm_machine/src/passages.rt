@@ -1,4 +1,4 @@
-//! What a link is asked about: whether the next step tries a call, and under which number.
+//! Questions to a link: whether the next step tries a call, and under which number.
 ghost use Rattle.std.specs.Prelude.{◌≡◌, true};
 ghost use Rattle.sm_protocol.specs.State.{is_begun, progress_of};
 ghost use Rattle.sm_protocol.specs.Steps.{call_number};
@@ -10,7 +10,7 @@ use sm_plan_code::is_call;
 use sm_reservation::StreamId;
 
 impl Engine {
-    /// A stream's next step tries a call.
+    /// Tells whether a stream's next step tries a call.
     pub fn makes_try(&self, id: StreamId) -> bool
         ensures { result ≡ makes_try (state_of self.now) id }
     {
@@ -27,7 +27,7 @@ impl Engine {
         }
     }
 
-    /// The number of a stream's next try.
+    /// Returns the number of a stream's next try.
     pub fn try_number(&self, id: StreamId) -> u64
         requires { is_begun (state_of self.now) id ≡ true }
         ensures { result ≡ call_number (state_of self.now) (progress_of (state_of self.now) id) }

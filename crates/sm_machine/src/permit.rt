@@ -21,21 +21,21 @@ impl Model for Permit {
 }
 
 impl Permit {
-    /// The permit for a server.
+    /// Makes the permit for a server.
     pub(crate) fn new(server: ServerId) -> Permit
         ensures { result ≡ server }
     {
         Permit { server }
     }
 
-    /// Which server it is for.
+    /// Returns the server that it is for.
     pub fn server(&self) -> ServerId
         ensures { result ≡ self.now }
     {
         self.server
     }
 
-    /// Which server it was for.
+    /// Spends the permit, and returns the server that it was for.
     pub(crate) fn into_server(self) -> ServerId
         ensures { result ≡ self }
     {
@@ -49,7 +49,7 @@ impl Permit {
     }
 }
 
-/// A permit for each server that is down, by the servers' numbers.
+/// Makes a permit for each server that is down, by the servers' numbers.
 pub(crate) fn permits_of(mut permits: Vec<Permit>, placement: &Placement) -> Vec<Permit>
     requires empty { permits.items ≡ [] }
     requires room { length placement.now.setup.servers ≤ vec_capacity permits }

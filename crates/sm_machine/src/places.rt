@@ -5,7 +5,7 @@ ghost use Rattle.sm_plan_code.specs.declared.limits.TheConstants.{MOST_ALLOWANCE
 
 use sm_plan_code::{Instr, Plan, is_call};
 
-/// How many instructions are no calls.
+/// Returns the number of instructions that are no calls.
 pub(crate) fn count_no_calls(code: &[Instr]) -> usize
     ensures count { result ≡ count_by is_no_call code.now }
     ensures within { result ≤ length code.now }
@@ -19,7 +19,7 @@ pub(crate) fn count_no_calls(code: &[Instr]) -> usize
     count
 }
 
-/// How many places of the log a plan takes.
+/// Returns the number of log places that a plan takes.
 pub(crate) fn places_of(plan: &Plan) -> u64
     ensures value { result ≡ places_of plan.now }
     ensures within { result ≤ MOST_STREAMS * (MOST_ALLOWANCE + MOST_INSTRUCTIONS + 1) }

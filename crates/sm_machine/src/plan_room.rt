@@ -21,7 +21,7 @@ impl Model for PlanRoom {
     ghost invariant = { λ p. (p.odd.value ≡ []) × (p.even.value ≡ []) };
 }
 
-/// An empty tree in a box.
+/// Makes an empty tree in a box.
 fn side(alloc: Global) -> Result<Box<PlanTree>, AllocError>
     ensures { IfOk result (λ side. side.value ≡ []) }
 {
@@ -35,7 +35,7 @@ fn side(alloc: Global) -> Result<Box<PlanTree>, AllocError>
 }
 
 impl PlanRoom {
-    /// The room of a plan.
+    /// Makes the room of a plan.
     pub fn new(alloc: Global) -> Result<PlanRoom, AllocError> {
         let odd = side(alloc)?;
         match side(alloc) {
@@ -54,7 +54,7 @@ impl PlanRoom {
         Box::into_inner(even).destroy_empty();
     }
 
-    /// The two empty trees below a plan.
+    /// Returns the two empty trees below a plan.
     pub fn into_sides(self) -> (Box<PlanTree>, Box<PlanTree>)
         ensures odd { result.0.value ≡ [] }
         ensures even { result.1.value ≡ [] }

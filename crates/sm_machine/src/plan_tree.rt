@@ -41,7 +41,7 @@ impl Model for PlanTree {
 }
 
 impl PlanTree {
-    /// No plan.
+    /// Makes a tree of no plan.
     pub fn new() -> PlanTree
         ensures { result ≡ [] }
     {
@@ -59,7 +59,7 @@ impl PlanTree {
         }
     }
 
-    /// The plan of a number.
+    /// Returns the plan with a number.
     pub fn at(&self, place: usize) -> &Begun
         requires { place < length self.now }
         ensures { result.now ≡ slice_index_or self.now place no_begun }
@@ -98,7 +98,7 @@ impl PlanTree {
         }
     }
 
-    /// One plan more, which gets the next number.
+    /// Adds a plan, which gets the next number.
     pub fn push(&mut self, count: usize, plan: Begun, room: PlanRoom)
         requires { count ≡ length self.old }
         ensures { self.new ≡ self.old ++ plan ∷ [] }
@@ -119,7 +119,7 @@ impl PlanTree {
         }
     }
 
-    /// All plans end with the pool, with what their streams hold and their signals carry. Takes no memory.
+    /// Ends all plans with the pool, and with what their streams hold and their signals carry. Takes no memory.
     pub fn close(self, pool: &ClosedPool) {
         let PlanTree { node } = self;
         match node {

@@ -27,7 +27,7 @@ impl Model for Plans {
 }
 
 impl Plans {
-    /// No plan.
+    /// Makes a list of no plan.
     pub fn new() -> Plans
         ensures { result ≡ [] }
     {
@@ -37,14 +37,14 @@ impl Plans {
         }
     }
 
-    /// How many there are.
+    /// Returns the number of plans.
     pub fn len(&self) -> usize
         ensures { result ≡ length self.now }
     {
         self.count
     }
 
-    /// The plan of a number.
+    /// Returns the plan with a number.
     pub fn at(&self, plan: usize) -> &Begun
         requires { plan < length self.now }
         ensures { result.now ≡ slice_index_or self.now plan no_begun }
@@ -61,7 +61,7 @@ impl Plans {
         self.tree.swap(plan, other);
     }
 
-    /// One plan more, which gets the next number. Takes no memory.
+    /// Adds a plan, which gets the next number. Takes no memory.
     pub fn push(&mut self, plan: Begun, room: PlanRoom)
         requires { length self.old ≤ MOST_NUMBER }
         ensures { self.new ≡ self.old ++ plan ∷ [] }
@@ -70,7 +70,7 @@ impl Plans {
         self.count += 1;
     }
 
-    /// All plans end with the pool, with what their streams hold and their signals carry. Takes no memory.
+    /// Ends all plans with the pool, and with what their streams hold and their signals carry. Takes no memory.
     pub fn close(self, pool: &ClosedPool) {
         let Plans { tree, count: _ } = self;
         tree.close(pool);

@@ -22,7 +22,7 @@ use sm_server::{ServerId, ShardId};
 use std::alloc::{AllocError, Global};
 
 impl Machine {
-    /// A stream makes its next step, if the hand has its token.
+    /// Makes a stream's next step, if the hand has its token.
     fn play_step(&mut self, hand: &Hand, stream: StreamId) -> Played
         ensures { IsTurn self.old hand.now (event.Step stream) result self.new hand.now }
     {
@@ -32,7 +32,7 @@ impl Machine {
         Played::from(self.step_by(stream, Passage::Through))
     }
 
-    /// A stream makes its next step, if the hand has its token, and a call is lost.
+    /// Makes a stream's next step, if the hand has its token, and loses its call.
     fn play_lose(&mut self, hand: &Hand, stream: StreamId, after: bool) -> Played
         ensures { IsTurn self.old hand.now (event.Lose stream after) result self.new hand.now }
     {
@@ -42,7 +42,7 @@ impl Machine {
         Played::from(self.lose_by(stream, after))
     }
 
-    /// A stream's allowance is raised, if the hand has its token.
+    /// Raises a stream's allowance, if the hand has its token.
     fn play_refill(&mut self, hand: &Hand, stream: StreamId, more: u32) -> Played
         requires { more ≤ MOST_CALLS }
         ensures { IsTurn self.old hand.now (event.Refill stream more) result self.new hand.now }
@@ -56,7 +56,7 @@ impl Machine {
         }
     }
 
-    /// A request comes to a server. The ticket of its pass goes into the hand.
+    /// Asks a server for a shard. The ticket of its pass goes into the hand.
     fn play_arrive(&mut self, hand: &mut Hand, shard: ShardId, server: ServerId) -> Played
         requires shard { shard < (state_of self.old).sizes.shards }
         requires server { server < (state_of self.old).sizes.servers }
@@ -68,7 +68,7 @@ impl Machine {
         answer
     }
 
-    /// The request of the first ticket of a place of the log comes to the server that it was passed to.
+    /// Brings the request of the first ticket of a place of the log to the server that it was passed to.
     fn play_pass_on(&mut self, hand: &mut Hand, place: u32) -> Played
         requires room { HasHandRoom hand.old 1 }
         ensures { IsTurn self.old hand.old (event.PassOn place) result self.new hand.new }
@@ -82,7 +82,7 @@ impl Machine {
         answer
     }
 
-    /// The cluster manager asks whether a server may be restarted. The permit goes into the hand.
+    /// Decides, for the cluster manager, whether a server may be restarted. The permit goes into the hand.
     fn play_approve(&mut self, hand: &mut Hand, server: ServerId) -> Played
         requires server { server < (state_of self.old).sizes.servers }
         requires room { HasHandRoom hand.old 1 }
@@ -97,7 +97,7 @@ impl Machine {
         }
     }
 
-    /// A restart ends, if the hand has the server's permit.
+    /// Ends a restart, if the hand has the server's permit.
     fn play_done(&mut self, hand: &mut Hand, server: ServerId) -> Played
         requires room { HasHandRoom hand.old 1 }
         ensures { IsTurn self.old hand.old (event.Done server) result self.new hand.new }
@@ -115,7 +115,7 @@ impl Machine {
         }
     }
 
-    /// The plan at a place of the hand starts, if there is one. The tokens of its streams go into the hand.
+    /// Starts the plan at a place of the hand, if there is one. The tokens of its streams go into the hand.
     fn play_begin(&mut self, hand: &mut Hand, place: u32) -> Played
         requires plans { AreFor self.old.placement.setup hand.old.plans.items }
         requires room { HasHandRoom hand.old 1 }
@@ -203,8 +203,8 @@ impl Machine {
         Ok(answers.into_list())
     }
 
-    /// A law: the protocol's headline, and its laws on lost calls, on their numbers and on tickets, of each front of a list of events that
-    /// is played with a hand, and so of the game after each event.
+    /// States the protocol's headline, and its laws on lost calls, on their numbers and on tickets, of each front of a
+    /// list of events that is played with a hand: so they hold of the game after each event.
     fn plays_safely(&self, hand: &Hand, events: &[Event])
         requires names { AllByRecursion (NamesKnown (state_of self.now).sizes) events.now }
         requires plans { AreFor self.now.placement.setup hand.now.plans.items }
@@ -215,7 +215,7 @@ impl Machine {
         self.is_reached();
     }
 
-    /// Whether `play` takes an event: what a caller whose events come from elsewhere has to test of each.
+    /// Tells whether `play` takes an event. If a caller's events come from elsewhere, it has to test each.
     pub fn is_known(&self, event: &Event) -> bool
         ensures { IsTrue result ↔ NamesKnown (state_of self.now).sizes event.now }
     {
@@ -233,14 +233,16 @@ impl Machine {
         }
     }
 
-    /// Plays a list of events with a hand: each is answered as the protocol says, and what it needs is taken out of the hand, into
-    /// which goes what it gives. Where memory is short, nothing has happened: all room is taken before the first event.
+    /// Plays a list of events with a hand: each is answered as the protocol says. The things that an event needs are
+    /// taken out of the hand, and those that it gives go into it. If memory is short, nothing has happened: all room is
+    /// taken before the first event.
     ///
-    /// The events name known shards and servers, and each plan of the hand was checked for the machine's configuration. So after
-    /// each event, which is the end of a front of the list (`IsPlayed`): no call was refused, no number of a call had its effect twice, nor
-    /// has it along a later list, the tickets of one place of the log were spent once at most, the state is safe, and of each plan that
-    /// isn't done some stream can step, or one that hasn't made its end has spent its allowance; and where no lost call was asked for, and
-    /// no unfinished stream had one in the log, some stream can step.
+    /// The events name known shards and servers, and each plan of the hand was checked for the machine's configuration.
+    /// So the following holds after each event, which is the end of a front of the list (`IsPlayed`). No call was
+    /// refused. No number of a call had its effect twice, nor has it along a later list. The tickets of one place of
+    /// the log were spent once at most. The state is safe. Some stream of each plan that isn't done can step, or one
+    /// that hasn't finished has spent its allowance. If no lost call was asked for, and no unfinished stream had one in
+    /// the log, some stream can step.
     pub fn play(
         &mut self,
         alloc: Global,

@@ -1,26 +1,26 @@
-//! How far a stream has come.
+//! The progress of a stream.
 ghost use Rattle.std.specs.Prelude.{◌≡◌, ◌<◌, ◌^◌, ◌+◌, ◌-◌, true, false};
 ghost use Rattle.sm_protocol.specs.State.{fresh};
 ghost use Rattle.sm_protocol.specs.Steps.{tried_more, behind_call};
 
 use std::marker::Model;
 
-/// How far a stream has come.
+/// The progress of a stream.
 #[derive(Clone, Copy)]
 pub(crate) struct Progress {
-    /// How many instructions it has made.
+    /// The number of instructions that it has made.
     pub at: usize,
     /// The call at this position has had its effect, and was not answered.
     pub ahead: bool,
     /// The number of the call under way, and 0 for none.
     pub pending: u64,
-    /// How many tries of calls it has made.
+    /// The number of tries of calls that it has made.
     pub tries: u64,
-    /// How many of its calls have had their effect.
+    /// The number of its calls that have had their effect.
     pub effects: u64,
-    /// How many tries were allowed beside those of its plan.
+    /// The number of tries that were allowed beside those of its plan.
     pub refills: u32,
-    /// It has made its end.
+    /// It has finished.
     pub done: bool,
 }
 
@@ -35,7 +35,7 @@ impl Model for Progress {
 }
 
 impl Progress {
-    /// Of a stream that has made nothing.
+    /// Makes the progress of a stream that has made nothing.
     pub const fn fresh() -> Progress
         ensures { result ≡ fresh }
     {
@@ -50,7 +50,7 @@ impl Progress {
         }
     }
 
-    /// Behind an instruction that is no call.
+    /// Returns the progress behind an instruction that is no call.
     pub const fn behind(self) -> Progress
         requires { self.at < 2 ^ 64 - 1 }
         ensures { result ≡ record self { at = self.at + 1 } }
@@ -61,7 +61,7 @@ impl Progress {
         }
     }
 
-    /// With one try more, whose call has its effect now, or had it before.
+    /// Returns the progress with one more try, whose call has its effect now, or had it before.
     pub const fn tried(self, fresh: bool) -> Progress
         requires tries { self.tries < 2 ^ 64 - 1 }
         requires effects { self.effects < 2 ^ 64 - 1 }
@@ -79,7 +79,7 @@ impl Progress {
         }
     }
 
-    /// Behind a call that was answered.
+    /// Returns the progress behind a call that was answered.
     pub const fn behind_call(self, fresh: bool) -> Progress
         requires at { self.at < 2 ^ 64 - 1 }
         requires tries { self.tries < 2 ^ 64 - 1 }
@@ -95,7 +95,7 @@ impl Progress {
         }
     }
 
-    /// Before a call under this number that has had its effect, and was not answered.
+    /// Returns the progress before a call under this number that has had its effect, and was not answered.
     pub const fn ahead_of_call(self, number: u64, fresh: bool) -> Progress
         requires tries { self.tries < 2 ^ 64 - 1 }
         requires effects { self.effects < 2 ^ 64 - 1 }
@@ -108,7 +108,7 @@ impl Progress {
         }
     }
 
-    /// Before a call under this number that was lost on its way to its server.
+    /// Returns the progress before a call under this number that was lost on its way to its server.
     pub const fn call_lost(self, number: u64) -> Progress
         requires tries { self.tries < 2 ^ 64 - 1 }
         requires effects { self.effects < 2 ^ 64 - 1 }
@@ -120,14 +120,14 @@ impl Progress {
         }
     }
 
-    /// At the end.
+    /// Returns the progress at the end.
     pub const fn ended(self) -> Progress
         ensures { result ≡ record self { done = true } }
     {
         Progress { done: true, ..self }
     }
 
-    /// With so many tries more that are allowed.
+    /// Returns the progress with `more` more tries allowed.
     pub const fn refilled(self, more: u32) -> Progress
         requires { self.refills + more < 2 ^ 32 }
         ensures { result ≡ record self { refills = self.refills + more } }

@@ -71,7 +71,7 @@ fn discard_signals(signals: Vec<Carried>)
     signals.destroy_empty();
 }
 
-/// How many keys the longest list of a parcel has.
+/// Returns the number of keys of the longest list of a parcel.
 fn longest_of(parcel: &Parcel) -> u32
     requires { IsSmallParcel parcel.now }
     ensures { result ≡ most_keys parcel.now }
@@ -83,7 +83,7 @@ fn longest_of(parcel: &Parcel) -> u32
     cells.max(crowns).max(room).max(spare) as u32
 }
 
-/// One stream more, with an empty grant.
+/// Makes another stream, with an empty grant.
 fn add_course(alloc: Global, courses: &mut Vec<Course>, capacity: u32) -> Result<(), AllocError>
     ensures ok { OnOk result (courses.new.items ≡ courses.old.items ++ ready_course capacity ∷ []) }
     ensures err { OnErr result (courses.new.items ≡ courses.old.items) }
@@ -98,7 +98,7 @@ fn add_course(alloc: Global, courses: &mut Vec<Course>, capacity: u32) -> Result
     }
 }
 
-/// One signal more, with an empty grant that has capacity for its parcel.
+/// Makes another signal, with an empty grant that has capacity for its parcel.
 fn add_signal(alloc: Global, signals: &mut Vec<Carried>, parcel: &Parcel) -> Result<(), AllocError>
     requires { IsSmallParcel parcel.now }
     ensures ok { OnOk result (signals.new.items ≡ signals.old.items ++ ready_signal parcel.now ∷ []) }
@@ -114,7 +114,7 @@ fn add_signal(alloc: Global, signals: &mut Vec<Carried>, parcel: &Parcel) -> Res
     }
 }
 
-/// The streams of a checked plan, each with an empty grant that has capacity for all that it holds on its way.
+/// Makes the streams of a checked plan, each with an empty grant that has capacity for all that it holds on its way.
 fn make_courses(alloc: Global, checked: &Checked) -> Result<Vec<Course>, AllocError>
     ensures courses { IfOk result (λ courses. courses.items ≡ ready_courses checked.now) }
     ensures peaks { OnOk result (ArePeaksOf (sizes_of checked.now.setup) checked.now (length checked.now.plan.streams)) }
@@ -133,7 +133,7 @@ fn make_courses(alloc: Global, checked: &Checked) -> Result<Vec<Course>, AllocEr
     Ok(courses)
 }
 
-/// The signals of a checked plan, each with an empty grant that has capacity for its parcel.
+/// Makes the signals of a checked plan, each with an empty grant that has capacity for its parcel.
 fn make_signals(alloc: Global, checked: &Checked) -> Result<Vec<Carried>, AllocError>
     ensures { IfOk result (λ signals. signals.items ≡ ready_signals checked.now) }
 {
@@ -151,7 +151,8 @@ fn make_signals(alloc: Global, checked: &Checked) -> Result<Vec<Carried>, AllocE
     Ok(signals)
 }
 
-/// The streams and the signals of a checked plan, each with capacity for what it will have, and the servers that each stream mentions.
+/// Makes the streams and the signals of a checked plan, each with capacity for what it will have, and the servers that
+/// each stream mentions.
 fn make_parts(
     alloc: Global,
     checked: &Checked,
@@ -172,7 +173,7 @@ fn make_parts(
     }
 }
 
-/// Room for a plan, and for the tokens of so many streams.
+/// Makes room for a plan, and for the tokens of `count` streams.
 fn make_room(alloc: Global, count: usize) -> Result<(PlanRoom, Vec<StreamToken>), AllocError>
     ensures none { IfOk result (λ r. r.1.items ≡ []) }
     ensures room { IfOk result (λ r. count ≤ vec_capacity r.1) }
@@ -187,7 +188,7 @@ fn make_room(alloc: Global, count: usize) -> Result<(PlanRoom, Vec<StreamToken>)
     }
 }
 
-/// Takes all memory that the start of a checked plan needs. Where memory is short the checked plan comes back.
+/// Takes all memory that the start of a checked plan needs. If memory is short the checked plan comes back.
 pub fn make_ready(alloc: Global, checked: Checked) -> Result<ReadyPlan, (Checked, AllocError)>
     ensures ready { IfOk result (λ ready. ready ≡ checked) }
     ensures back { IfErr result (λ e. e.0 ≡ checked) }
@@ -215,7 +216,7 @@ pub fn make_ready(alloc: Global, checked: Checked) -> Result<ReadyPlan, (Checked
 }
 
 impl ReadyPlan {
-    /// The checked plan.
+    /// Returns the checked plan.
     pub fn checked(&self) -> &Checked
         ensures value { result.now ≡ self.now }
         ensures peaks { ArePeaksOf (sizes_of self.now.setup) self.now (length self.now.plan.streams) }
@@ -223,7 +224,7 @@ impl ReadyPlan {
         &self.checked
     }
 
-    /// The checked plan, whose room is given up. Takes no memory.
+    /// Gives up the plan's room, and returns the checked plan. Takes no memory.
     pub fn back(self) -> Checked
         ensures { result ≡ self }
     {
@@ -242,8 +243,8 @@ impl ReadyPlan {
         checked
     }
 
-    /// The plan as it is begun, before its streams have what they declare, with its room and with room for their tokens. Takes
-    /// no memory.
+    /// Returns the plan as it is begun, before its streams have what they declare, with its room and with room for
+    /// their tokens. Takes no memory.
     pub(crate) fn into_begun(self, since: u32) -> (Begun, PlanRoom, Vec<StreamToken>)
         ensures begun { result.0 ≡ begun_of self since }
         ensures none { result.2.items ≡ [] }

@@ -14,7 +14,7 @@ use sm_protocol::{Event, Played, RefillFault};
 use sm_reservation::StreamId;
 
 impl Engine {
-    /// Why a stream's allowance is not raised by so much.
+    /// Returns why a stream's allowance is not raised by `more`.
     fn refill_fault(&self, id: StreamId, more: u32) -> Option<RefillFault>
         requires free { (whole_of self.now).free ≡ free_places (state_of self.now) }
         requires more { more ≤ MOST_CALLS }
@@ -35,7 +35,7 @@ impl Engine {
         None
     }
 
-    /// A stream's allowance is raised, with a place of the log for each try more.
+    /// Raises a stream's allowance, with a place of the log for each further try.
     fn raise_allowance(&mut self, id: StreamId, more: u32)
         requires begun { is_begun (state_of self.old) id ≡ true }
         requires small { (progress_of (state_of self.old) id).refills + more < 2 ^ 32 }
@@ -50,7 +50,7 @@ impl Engine {
         self.record(Event::Refill { stream: id, more }, Played::Refilled);
     }
 
-    /// A stream's allowance is raised, unless there is a fault.
+    /// Raises a stream's allowance, unless there is a fault.
     pub fn refill(&mut self, id: StreamId, more: u32) -> Result<(), RefillFault>
         requires working { IsWorking (whole_of self.old) }
         requires more { more ≤ MOST_CALLS }

@@ -1,4 +1,4 @@
-//! What a server answers to a request.
+//! Servers' answers to requests.
 ghost use Rattle.std.specs.Prelude.{◌≡◌, ◌<◌, ◌&&◌, ◌==◌, if◌then◌else◌, length, Some};
 ghost use Rattle.sm_placement.specs.Layout.{place_of};
 ghost use Rattle.sm_protocol.specs.declared.event.Played.TheVariants as played;
@@ -9,7 +9,7 @@ use sm_placement::Placement;
 use sm_protocol::Played;
 use sm_server::{Cell, ServerId, ShardId};
 
-/// What a server that is prepared by an owner, under a number, answers to a request that was passed on.
+/// Returns what a server that is prepared by an owner, under a number, answers to a request that was passed on.
 fn answer_prepared(owner: ServerId, number: u64, server: ServerId, sent: TicketParts) -> Played
     ensures { result ≡ (if (owner == sent.sender) && (number == sent.number) then played.Executed server else played.NotOwner) }
 {
@@ -20,7 +20,7 @@ fn answer_prepared(owner: ServerId, number: u64, server: ServerId, sent: TicketP
     }
 }
 
-/// What a server answers by its cell. A pass is to be recorded at this place of the log.
+/// Returns what a server answers by its cell. A pass is to be recorded at this place of the log.
 fn answer_by(cell: &Cell, server: ServerId, sent: Option<TicketParts>, place: u32) -> Played
     ensures { result ≡ answer_by cell.now server sent place }
 {
@@ -39,7 +39,7 @@ fn answer_by(cell: &Cell, server: ServerId, sent: Option<TicketParts>, place: u3
     }
 }
 
-/// What a server answers to a request for a shard, which came directly or with the ticket of its pass.
+/// Returns what a server answers to a request for a shard, which came directly or with the ticket of its pass.
 pub(crate) fn reply(
     placement: &Placement,
     shard: ShardId,

@@ -12,7 +12,7 @@ use sm_reservation::StreamId;
 use sm_server::ServerId;
 
 impl Engine {
-    /// A restart ends: the server is up.
+    /// Ends a restart: the server is up.
     pub fn end_restart(&mut self, server: ServerId)
         requires working { IsWorking (whole_of self.old) }
         requires server { server < (state_of self.old).sizes.servers }
@@ -23,7 +23,7 @@ impl Engine {
         self.bring_up(server);
     }
 
-    /// A restart begins: the server is down.
+    /// Begins a restart: the server is down.
     pub fn start_restart(&mut self, server: ServerId)
         requires working { IsWorking (whole_of self.old) }
         requires server { server < (state_of self.old).sizes.servers }
@@ -36,7 +36,7 @@ impl Engine {
         self.set_free(free);
     }
 
-    /// The lowest stream that engages a server.
+    /// Returns the lowest stream that engages a server.
     pub fn engaged(&self, server: ServerId) -> Option<StreamId>
         requires { IsWorking (whole_of self.now) }
         ensures { result ≡ engaged (state_of self.now) server }

@@ -16,7 +16,7 @@ use sm_reservation::Pool;
 use sm_server::ShardId;
 use std::alloc::{AllocError, Global};
 
-/// What a machine needs memory for at its opening.
+/// The parts for which a machine needs memory at its opening.
 #[derive(Drop)]
 pub(crate) struct Rooms {
     /// The placement as it is then.
@@ -34,7 +34,7 @@ pub(crate) struct Rooms {
 }
 
 impl Rooms {
-    /// What a machine over the placement needs, with a log of so many places.
+    /// Makes room for a machine over the placement, with a log of `room` places.
     pub fn of(alloc: Global, placement: &Placement, room: u32) -> Result<Rooms, AllocError>
         requires { IsSettled (sizes_of placement.now.setup) (place_of placement.now) }
         ensures opening { IfOk result (λ rooms. place_of_rows rooms.opening ≡ forget_numbers (place_of placement.now)) }

@@ -16,7 +16,7 @@ use sm_protocol::Passage;
 use sm_reservation::{Crown, StreamId};
 use sm_server::{ServerId, ShardId};
 
-/// The server that a crown lists.
+/// Returns the server that a crown lists.
 fn listed_in(crown: Option<Crown>) -> Option<ServerId>
     ensures { IfSome crown (λ c. result ≡ c.listed) }
 {
@@ -27,7 +27,7 @@ fn listed_in(crown: Option<Crown>) -> Option<ServerId>
 }
 
 impl Engine {
-    /// A stream publishes the server that serves a shard.
+    /// Publishes the server that serves a shard, for a stream.
     fn make_publish(&mut self, id: StreamId, shard: ShardId) -> Step
         requires { IsAt (whole_of self.old) id (Some (instr.Publish shard)) }
         ensures { (p : Passage) → IsStepped (whole_of self.old) id p (played_of result) (whole_of self.new) }
@@ -39,7 +39,7 @@ impl Engine {
         Step::Moved
     }
 
-    /// A stream takes a shard's server out of the published map.
+    /// Takes a shard's server out of the published map, for a stream.
     fn make_unlist(&mut self, id: StreamId, shard: ShardId) -> Step
         requires { IsAt (whole_of self.old) id (Some (instr.Unlist shard)) }
         ensures { (p : Passage) → IsStepped (whole_of self.old) id p (played_of result) (whole_of self.new) }
@@ -50,7 +50,7 @@ impl Engine {
         Step::Moved
     }
 
-    /// A stream posts a signal.
+    /// Posts a signal, for a stream.
     fn make_signal(&mut self, id: StreamId, signal: u32) -> Step
         requires { IsAt (whole_of self.old) id (Some (instr.Signal signal)) }
         ensures { (p : Passage) → IsStepped (whole_of self.old) id p (played_of result) (whole_of self.new) }
@@ -60,7 +60,7 @@ impl Engine {
         Step::Moved
     }
 
-    /// A stream takes the parcel of a signal, where the signal was posted.
+    /// Gives a stream the parcel of a signal, if the signal was posted.
     fn make_wait(&mut self, id: StreamId, signal: u32) -> Step
         requires { IsAt (whole_of self.old) id (Some (instr.Wait signal)) }
         ensures { (p : Passage) → IsStepped (whole_of self.old) id p (played_of result) (whole_of self.new) }
@@ -74,7 +74,7 @@ impl Engine {
         Step::Moved
     }
 
-    /// A stream makes its end, and the tries that it has left are free.
+    /// Ends a stream. The tries that it has left are free.
     fn make_end(&mut self, id: StreamId) -> Step
         requires { IsAt (whole_of self.old) id None }
         ensures { (p : Passage) → IsStepped (whole_of self.old) id p (played_of result) (whole_of self.new) }
@@ -86,7 +86,7 @@ impl Engine {
         Step::Done
     }
 
-    /// A stream tries a call.
+    /// Tries a call of a stream.
     fn make_try(&mut self, id: StreamId, passage: Passage, instr: &Instr, call: &ServerCall) -> Step
         requires at { IsAt (whole_of self.old) id (Some instr.now) }
         requires call { is_call instr.now ≡ true }
@@ -112,7 +112,7 @@ impl Engine {
         }
     }
 
-    /// A stream tries a call, unless it has spent its allowance.
+    /// Tries a call of a stream, unless the stream has spent its allowance.
     fn make_call(&mut self, id: StreamId, passage: Passage, instr: &Instr) -> Step
         requires at { IsAt (whole_of self.old) id (Some instr.now) }
         requires call { is_call instr.now ≡ true }
@@ -128,7 +128,7 @@ impl Engine {
         self.make_try(id, passage, instr, &call)
     }
 
-    /// A stream makes its next instruction.
+    /// Makes a stream's next instruction.
     fn make(&mut self, id: StreamId, passage: Passage, instr: &Instr) -> Step
         requires { IsAt (whole_of self.old) id (Some instr.now) }
         ensures { IsStepped (whole_of self.old) id passage (played_of result) (whole_of self.new) }
@@ -146,7 +146,7 @@ impl Engine {
         }
     }
 
-    /// A stream makes its next step. Where that tries a call, `passage` says whether the try gets through.
+    /// Makes a stream's next step. If that tries a call, `passage` says whether the try gets through.
     pub fn step_by(&mut self, id: StreamId, passage: Passage) -> Step
         requires { IsWorking (whole_of self.old) }
         ensures { IsStepped (whole_of self.old) id passage (played_of result) (whole_of self.new) }

@@ -1,4 +1,4 @@
-//! What a hand has for an event, and where.
+//! Searches in a hand for what an event needs.
 ghost use Rattle.std.specs.Prelude.{◌≡◌, ◌==◌};
 ghost use Rattle.std.specs.List.{list_any};
 ghost use Rattle.sm_protocol.specs.Hand.{is_token};
@@ -10,7 +10,7 @@ use crate::token::StreamToken;
 use sm_reservation::StreamId;
 use sm_server::ServerId;
 
-/// A stream's token is there.
+/// Tells whether a stream's token is there.
 pub(crate) fn has_token(tokens: &[StreamToken], id: StreamId) -> bool
     ensures { result ≡ list_any (is_token id) tokens.now }
 {
@@ -20,7 +20,7 @@ pub(crate) fn has_token(tokens: &[StreamToken], id: StreamId) -> bool
     })
 }
 
-/// The place of the first ticket of this place of the log.
+/// Returns the place of the first ticket of this place of the log.
 pub(crate) fn first_ticket(tickets: &[Ticket], place: u32) -> Option<usize>
     ensures { IsFirstPlace (λ t. t.place == place) tickets.now result }
 {
@@ -32,7 +32,7 @@ pub(crate) fn first_ticket(tickets: &[Ticket], place: u32) -> Option<usize>
     None
 }
 
-/// The place of the first permit for a server.
+/// Returns the place of the first permit for a server.
 pub(crate) fn first_permit(permits: &[Permit], server: ServerId) -> Option<usize>
     ensures { IsFirstPlace (λ permit. permit == server) permits.now result }
 {

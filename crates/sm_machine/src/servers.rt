@@ -7,8 +7,8 @@ use sm_server::ServerId;
 use std::alloc::{AllocError, Global};
 use std::marker::Model;
 
-/// The servers that a code mentions, with flags up to the last of them, so that one is told in a time that does not grow with the
-/// code.
+/// The servers that a code mentions, with flags up to the last of them. So a look at one takes a time that does not
+/// grow with the code.
 #[derive(Drop)]
 pub(crate) struct MentionedServers {
     flags: Vec<bool>,
@@ -22,7 +22,7 @@ impl Model for MentionedServers {
     ghost view = { λ s. s.flags.items };
 }
 
-/// Adds a server, where one is given.
+/// Adds a server, if one is given.
 fn add_server(flags: &mut Vec<bool>, server: Option<ServerId>) -> Result<(), AllocError>
     ensures { OnOk result (HasGrownBy server flags.old.items flags.new.items) }
 {
@@ -50,7 +50,7 @@ fn add_code(flags: &mut Vec<bool>, code: &[Instr]) -> Result<(), AllocError>
 }
 
 impl MentionedServers {
-    /// Those that a code mentions.
+    /// Finds the servers that a code mentions.
     pub fn of(alloc: Global, code: &[Instr]) -> Result<MentionedServers, AllocError>
         ensures { IfOk result (AreMentioned code.now) }
     {
@@ -59,7 +59,7 @@ impl MentionedServers {
         Ok(MentionedServers { flags })
     }
 
-    /// Those that each of the streams mentions.
+    /// Finds, for each of the streams, the servers that it mentions.
     pub fn of_each(alloc: Global, streams: &[Stream]) -> Result<Vec<MentionedServers>, AllocError>
         ensures { IfOk result (λ sets. AreMentionedBy streams.now sets.items) }
     {
@@ -70,7 +70,7 @@ impl MentionedServers {
         Ok(sets)
     }
 
-    /// The code mentions the server.
+    /// Tells whether the code mentions the server.
     pub fn has(&self, server: ServerId) -> bool
         ensures { result ≡ is_in self.now server }
     {

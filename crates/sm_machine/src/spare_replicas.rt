@@ -1,4 +1,5 @@
-//! The spare replicas that go out of a pool with a server that goes down, and come back with one that comes up, shard by shard.
+//! The spare replicas that go out of a pool with a server that goes down, and come back with one that comes up, shard
+//! by shard.
 ghost use Rattle.std.specs.Prelude.{◌≡◌, ◌<◌, length};
 ghost use Rattle.sm_placement.specs.Setup.{sizes_of};
 ghost use Rattle.sm_placement.specs.Layout.{place_of};

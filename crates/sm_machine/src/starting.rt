@@ -18,7 +18,7 @@ use sm_protocol::BeginFault;
 use sm_reservation::StreamId;
 use sm_verifier::Checked;
 
-/// The tokens of the first streams of a plan, into a list with room for them. Takes no memory.
+/// Makes the tokens of the first streams of a plan, in a list with room for them. Takes no memory.
 fn fill_tokens(tokens: &mut Vec<StreamToken>, plan: u32, count: usize)
     requires none { tokens.old.items ≡ [] }
     requires room { count ≤ vec_capacity tokens.old }
@@ -35,7 +35,7 @@ fn fill_tokens(tokens: &mut Vec<StreamToken>, plan: u32, count: usize)
 }
 
 impl Engine {
-    /// Why a checked plan that takes so many places of the log does not start, where memory is there.
+    /// Returns why a checked plan that takes `places` places of the log does not start, if memory is there.
     fn begin_fault(&self, checked: &Checked, places: u64) -> Option<BeginFault>
         requires setup { checked.now.setup ≡ self.now.placement.setup }
         requires places { places ≡ places_of checked.now.plan }
@@ -54,7 +54,7 @@ impl Engine {
         None
     }
 
-    /// A plan of so many streams more is unfinished, and so many places of the log are free.
+    /// Counts another unfinished plan with this many streams, and sets the number of free places of the log.
     fn count_start(&mut self, free: u64, streams: usize)
         requires { (whole_of self.old).running < MOST_PLANS }
         ensures { whole_of self.new ≡ record (whole_of self.old) { free = free; running = (whole_of self.old).running + bit (nat_lt 0 streams) } }
@@ -66,7 +66,8 @@ impl Engine {
         }
     }
 
-    /// A plan starts that was checked for the machine's configuration. Where it does not, it comes back. Takes no memory.
+    /// Starts a plan that was checked for the machine's configuration. If it does not start, it comes back. Takes no
+    /// memory.
     pub fn start_by(
         &mut self,
         ready: ReadyPlan,

@@ -1,14 +1,14 @@
-//! What a step of a stream is answered.
+//! Answers to steps of streams.
 use sm_protocol::Played;
 
-/// What a step of a stream is answered.
+/// The answer to a step of a stream.
 #[derive(Clone, Copy, Debug, PartialEq, Eq)]
 pub enum Step {
     /// The step was made.
     Moved,
     /// The signal that the stream waits for is not posted.
     Blocked { signal: u32 },
-    /// The stream has made its end, now or before.
+    /// The stream has finished, now or before.
     Done,
     /// The machine is halted.
     Halted,

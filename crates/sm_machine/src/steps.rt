@@ -16,7 +16,7 @@ use sm_reservation::StreamId;
 use sm_server::{ServerId, ShardId};
 
 impl Engine {
-    /// A stream stands behind an instruction that is no call, and the step is recorded.
+    /// Records a step of a stream, which then stands behind an instruction that is no call.
     fn go_on(&mut self, id: StreamId)
         requires { IsReadyToGo (state_of self.old) id }
         ensures { whole_of self.new ≡ with_state (whole_of self.old) (went_on (state_of self.old) id) }
@@ -26,7 +26,7 @@ impl Engine {
         self.record_step(id, Played::Moved);
     }
 
-    /// The published map has another entry of a shard, which a stream publishes with its instruction.
+    /// Publishes another entry of a shard in the map, for a stream's instruction.
     pub fn step_publish(&mut self, id: StreamId, shard: ShardId, listed: Option<ServerId>)
         requires { IsReadyToPublish (state_of self.old) id shard listed }
         ensures { whole_of self.new ≡ with_state (whole_of self.old) (entry_added (state_of self.old) id shard listed).1 }
@@ -36,7 +36,7 @@ impl Engine {
         self.publish(shard, listed);
     }
 
-    /// A stream posts a signal.
+    /// Posts a signal, for a stream.
     pub fn step_signal(&mut self, id: StreamId, signal: u32)
         requires { IsReadyToPost (whole_of self.old) id signal }
         ensures whole { whole_of self.new ≡ record (whole_of self.old) { state = (posted (state_of self.old) id signal).1; grants = put2 (whole_of self.old).grants id.plan id.stream (grant_of self.new id); parcels = put2 (whole_of self.old).parcels id.plan signal ((whole_of self.new).parcels id.plan signal) } }
@@ -48,7 +48,7 @@ impl Engine {
         self.go_on(id);
     }
 
-    /// A stream takes the parcel of a signal that was posted.
+    /// Gives a stream the parcel of a signal that was posted.
     pub fn step_wait(&mut self, id: StreamId, signal: u32)
         requires { IsReadyToTake (whole_of self.old) id signal }
         ensures whole { whole_of self.new ≡ record (whole_of self.old) { state = taken (state_of self.old) id signal; grants = put2 (whole_of self.old).grants id.plan id.stream (grant_of self.new id); parcels = put2 (whole_of self.old).parcels id.plan signal None } }
@@ -59,7 +59,7 @@ impl Engine {
         self.go_on(id);
     }
 
-    /// A stream makes its end, after which so many places of the log are free.
+    /// Ends a stream, and sets the number of places of the log that are free then.
     pub fn step_end(&mut self, id: StreamId, free: u64)
         requires { IsReadyToEnd (whole_of self.old) id }
         ensures { whole_of self.new ≡ ended_whole (whole_of self.old) id free }

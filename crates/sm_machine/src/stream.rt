@@ -27,7 +27,7 @@ pub(crate) struct Course {
     progress: Progress,
     /// The log's length behind its last step; None before its first.
     since: Option<u32>,
-    /// What it holds; None once it has made its end.
+    /// The rights that it holds; None once it has finished.
     grant: Option<Grant>,
 }
 
@@ -42,7 +42,7 @@ impl Model for Course {
 }
 
 impl Course {
-    /// A stream that has made nothing, with what it holds.
+    /// Makes a stream that has made nothing, with what it holds.
     pub fn new(grant: Grant) -> Course
         ensures { result ≡ record { progress = fresh; since = None; grant = Some grant } }
     {
@@ -53,7 +53,7 @@ impl Course {
         }
     }
 
-    /// How far it has come.
+    /// Returns how far it has come.
     pub fn progress(&self) -> Progress
         ensures value { result ≡ self.now.progress }
         ensures course { IsCourse self.now }
@@ -61,7 +61,7 @@ impl Course {
         self.progress
     }
 
-    /// The log's length behind its last step, None before its first.
+    /// Returns the log's length behind its last step, None before its first.
     pub fn since(&self) -> Option<u32>
         ensures { result ≡ self.now.since }
     {
@@ -75,7 +75,7 @@ impl Course {
         self.since = Some(since);
     }
 
-    /// A law: what it holds is in order.
+    /// States that what it holds is in order.
     pub fn in_order(&self)
         ensures order { IsGrantInOrder self.now.grant }
         ensures there { IsCourse self.now }
@@ -86,7 +86,7 @@ impl Course {
         }
     }
 
-    /// It comes to another place.
+    /// Sets its progress.
     pub fn set_progress(&mut self, progress: Progress)
         requires { progress.done ≡ self.old.progress.done }
         ensures { self.new ≡ record self.old { progress = progress } }
@@ -125,7 +125,7 @@ impl Course {
         change
     }
 
-    /// What an instruction exchanges.
+    /// Returns the exchange that an instruction makes.
     fn change_of(&self, config: &Config, instr: &Instr) -> Change
         requires running { self.now.progress.done ≡ false }
         requires known { IfSome (shard_of instr.now) (λ s. s < length config.now.shards) }
@@ -178,7 +178,7 @@ impl Course {
         }
     }
 
-    /// It makes its end, and gives what it holds up.
+    /// Ends the stream, and returns what it held.
     pub fn end(&mut self) -> Grant
         requires { self.old.progress.done ≡ false }
         ensures grant { self.old.grant ≡ Some result }
@@ -222,7 +222,7 @@ impl Course {
         }
     }
 
-    /// It ends with the pool, with what it holds. Takes no memory.
+    /// Ends the stream with the pool, and with what it holds. Takes no memory.
     pub fn close(self, pool: &ClosedPool) {
         let Course {
             progress: _,

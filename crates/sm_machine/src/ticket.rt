@@ -19,49 +19,49 @@ impl Model for Ticket {
 }
 
 impl Ticket {
-    /// The ticket of a pass.
+    /// Makes the ticket of a pass.
     pub(crate) fn new(parts: TicketParts) -> Ticket
         ensures { result ≡ parts }
     {
         Ticket { parts }
     }
 
-    /// What the log records of it.
+    /// Returns what the log records of it.
     pub(crate) fn parts(&self) -> TicketParts
         ensures { result ≡ self.now }
     {
         self.parts
     }
 
-    /// The log's place of the pass.
+    /// Returns the log's place of the pass.
     pub fn place(&self) -> u32
         ensures { result ≡ self.now.place }
     {
         self.parts.place
     }
 
-    /// The shard that the request is for.
+    /// Returns the shard that the request is for.
     pub fn shard(&self) -> ShardId
         ensures { result ≡ self.now.shard }
     {
         self.parts.shard
     }
 
-    /// The server that passed the request on.
+    /// Returns the server that passed the request on.
     pub fn sender(&self) -> ServerId
         ensures { result ≡ self.now.sender }
     {
         self.parts.sender
     }
 
-    /// The handover number under which the request was passed on.
+    /// Returns the handover number under which the request was passed on.
     pub fn number(&self) -> u64
         ensures { result ≡ self.now.number }
     {
         self.parts.number
     }
 
-    /// The server that the request was passed to.
+    /// Returns the server that the request was passed to.
     pub fn target(&self) -> ServerId
         ensures { result ≡ self.now.target }
     {

@@ -18,21 +18,21 @@ impl Model for StreamToken {
 }
 
 impl StreamToken {
-    /// The token of a stream.
+    /// Makes the token of a stream.
     pub(crate) fn new(id: StreamId) -> StreamToken
         ensures { result ≡ id }
     {
         StreamToken { id }
     }
 
-    /// Which stream it is.
+    /// Returns the stream that it is for.
     pub fn id(&self) -> StreamId
         ensures { result ≡ self.now }
     {
         self.id
     }
 
-    /// Which stream it was.
+    /// Spends the token, and returns the stream that it was for.
     pub(crate) fn into_id(self) -> StreamId
         ensures { result ≡ self }
     {

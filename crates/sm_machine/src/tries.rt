@@ -19,7 +19,7 @@ use sm_protocol::{Event, Played};
 use sm_reservation::StreamId;
 use sm_server::ShardId;
 
-/// The shard that an instruction is of.
+/// Returns the shard that an instruction is of.
 pub(crate) const fn shard_of(instr: &Instr) -> Option<ShardId>
     ensures { result ≡ shard_of instr.now }
 {
@@ -36,7 +36,7 @@ pub(crate) const fn shard_of(instr: &Instr) -> Option<ShardId>
 }
 
 impl Engine {
-    /// The call of a stream's next try, None where the instruction is no call.
+    /// Returns the call of a stream's next try, None if the instruction is no call.
     pub fn call_to_make(&self, progress: Progress, instr: &Instr) -> Option<ServerCall>
         requires shard { IfSome (shard_of instr.now) (λ s. s < (state_of self.now).sizes.shards) }
         requires numbers { (s : ℕ) → (state_of self.now).numbers s < numbers_end }
@@ -51,7 +51,7 @@ impl Engine {
         }
     }
 
-    /// The number of a stream's next try.
+    /// Returns the number of a stream's next try.
     pub fn call_number(&self, progress: Progress) -> u64
         ensures { result ≡ call_number (state_of self.now) progress }
     {
@@ -62,7 +62,7 @@ impl Engine {
         }
     }
 
-    /// A try uses its number up.
+    /// Counts a try, which uses its number up.
     fn count_try(&mut self, progress: Progress)
         requires { (state_of self.old).next_number < numbers_end }
         ensures { whole_of self.new ≡ with_state (whole_of self.old) (record (state_of self.old) { next_number = number_after_try (state_of self.old) progress }) }
@@ -73,7 +73,7 @@ impl Engine {
         }
     }
 
-    /// The highest handover numbers rise by an instruction.
+    /// Raises the highest handover numbers by an instruction.
     fn raise_numbers(&mut self, instr: &Instr)
         requires shard { IfSome (shard_of instr.now) (λ s. s < (state_of self.old).sizes.shards) }
         requires numbers { (s : ℕ) → (state_of self.old).numbers s < numbers_end }
@@ -85,7 +85,7 @@ impl Engine {
         }
     }
 
-    /// A stream's rights change with a call that has its effect now.
+    /// Trades a stream's rights for a call, unless its effect came before.
     fn trade_unless(&mut self, id: StreamId, ahead: bool, instr: &Instr)
         requires begun { is_begun (state_of self.old) id ≡ true }
         requires running { (progress_of (state_of self.old) id).done ≡ false }
@@ -100,7 +100,7 @@ impl Engine {
         }
     }
 
-    /// A try comes to its server. Answers whether it has its effect now.
+    /// Makes a try, which comes to its server. Returns whether it has its effect now.
     fn serve_try(
         &mut self,
         id: StreamId,
@@ -130,7 +130,7 @@ impl Engine {
         fresh
     }
 
-    /// A call that comes to its server, and whose answer comes back. Answers whether it has its effect now.
+    /// Makes a call that comes to its server, and whose answer comes back. Returns whether it has its effect now.
     pub fn call_through(&mut self, id: StreamId, instr: &Instr, call: &ServerCall) -> bool
         requires { IsReadyToCall (whole_of self.old) id instr.now call.now }
         ensures effect { called_numbered (state_of self.old).sizes (state_of self.old).place call.now.shard call.now.server call.now.call (call_number (state_of self.old) (progress_of (state_of self.old) id)) ≡ Ok (record { place = (state_of self.new).place; fresh = result }) }
@@ -144,7 +144,7 @@ impl Engine {
         fresh
     }
 
-    /// A call that comes to its server, and whose answer is lost. Answers whether it has its effect now.
+    /// Makes a call that comes to its server, and whose answer is lost. Returns whether it has its effect now.
     pub fn call_unanswered(&mut self, id: StreamId, instr: &Instr, call: &ServerCall) -> bool
         requires { IsReadyToCall (whole_of self.old) id instr.now call.now }
         ensures effect { called_numbered (state_of self.old).sizes (state_of self.old).place call.now.shard call.now.server call.now.call (call_number (state_of self.old) (progress_of (state_of self.old) id)) ≡ Ok (record { place = (state_of self.new).place; fresh = result }) }
@@ -163,7 +163,7 @@ impl Engine {
         fresh
     }
 
-    /// A call that is lost on its way to its server.
+    /// Makes a call that is lost on its way to its server.
     pub fn call_lost(&mut self, id: StreamId)
         requires go { IsReadyToGo (state_of self.old) id }
         requires next { (state_of self.old).next_number < numbers_end }

@@ -3,7 +3,7 @@ use Rattle.std.specs.Prelude.{ℕ, Option, List, [], ◌∷◌, ◌++◌, bytes_
 use Rattle.std.specs.Map.{lookup}
 use Rattle.std.specs.Option.{option_or}
 
--- What the names of two epochs stand for: each by its bytes, in the order in which they came.
+-- The values of the names of two epochs: each by its bytes, in the order in which they came.
 pub record NamesModel (V : Type 0) : Type 0 where
   pub present : List (List ℕ × V)
   pub before : List (List ℕ × V)

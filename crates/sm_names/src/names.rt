@@ -45,7 +45,7 @@ impl<V: Copy> Names<V> {
         present.or(before)
     }
 
-    /// Returns the name of the present epoch that came after so many others.
+    /// Returns the name of the present epoch with `index` names before it.
     pub fn present_at(&self, index: usize) -> Option<&str>
         ensures { option_copied result ≡ option_map (λ e. e.0) (slice_get self.now.present index) }
     {

@@ -28,7 +28,7 @@ pub record Restore : Type 0 where
   pub cells : ℕ → Cell
   pub loads : ℕ → ℕ
 
--- What a controller knows.
+-- The knowledge of a controller.
 pub record Controller : Type 0 where
   -- the journal, and the number of its last reopening
   pub journal : ℕ
@@ -53,7 +53,7 @@ pub data JournalEntry : Type 0 where
   Ended : (server permit : ℕ) → JournalEntry
   -- a server that has lost its slots has asked for them
   Restored : (server nonce : ℕ) → JournalEntry
-  -- the next epoch opens, with a log of so much room
+  -- the next epoch opens, with a log of this room
   Opened : (room : ℕ) → JournalEntry
 
 -- starts, refills, approvals, and steps of streams that stand before no call and no publication
@@ -107,7 +107,7 @@ are_versions_low w = not (any_below w.sizes.shards (λ s. nat_lt MOST_PLACES (w.
 abbrev pub EPOCH : ℕ
 EPOCH = 2 * MOST_PLACES
 
--- The next epoch opens where all plans are done and versions are low, on the placement that is recorded. Versions stay, and numbers are
+-- The next epoch opens if all plans are done and versions are low, on the placement that is recorded. Versions stay, and numbers are
 -- counted anew.
 abbrev pub next_epoch : Controller → ℕ → Controller
 next_epoch c room =

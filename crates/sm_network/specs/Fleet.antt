@@ -23,7 +23,7 @@ use Rattle.sm_agent.specs.Request.{routed}
 pub use Rattle.sm_network.specs.Words.{Entry}
 pub use Rattle.sm_network.specs.Controller.{Answered, Cell, Controller, Ended, Happening, JournalEntry, Letter, Made, Notice, Opened, Order, Place, Publication, Restore, Restored, Stored, StreamId, letter_of, notice_of, replayed}
 
--- What a server has.
+-- The state of a server.
 pub record Server : Type 0 where
   pub base : Base
   pub slots : ℕ → Slot
@@ -57,7 +57,7 @@ pub record Fleet : Type 0 where
 abbrev pub controller : Fleet → Controller
 controller f = replayed f.start f.journal
 
--- a controller that lacks so many of the last entries: it was deposed, or has crashed and reads the journal
+-- a controller that lacks a number of the last entries: it was deposed, or has crashed and reads the journal
 abbrev pub earlier : Fleet → ℕ → Controller
 earlier f lost = replayed f.start (drop lost f.journal)
 
@@ -71,7 +71,7 @@ held_cells f s v = if has_lost f v then f.had s v else ((f.servers v).slots s).c
 
 -- ---- events
 
--- What may happen, in any order and any number of times.
+-- The events that may happen, in any order and any number of times.
 pub data FleetEvent : Type 0 where
   -- the controller makes an event that needs nobody, hears that a restart has ended, or opens the next epoch
   Make : (event : Happening) → FleetEvent
@@ -82,7 +82,7 @@ pub data FleetEvent : Type 0 where
   HearOwner : (place : ℕ) → FleetEvent
   -- it hears that a server asks for its slots
   HearAsk : (place : ℕ) → FleetEvent
-  -- a controller that lacks so many entries sends the order of a stream, or its publication
+  -- a controller that lacks this many entries sends the order of a stream, or its publication
   SendOrder : (lost : ℕ) (stream : StreamId) → FleetEvent
   SendPublication : (lost : ℕ) (stream : StreamId) → FleetEvent
   -- an order comes to its server
@@ -103,7 +103,7 @@ pub data FleetEvent : Type 0 where
   -- a restore comes to a server, be it meant for that one or not
   Recover : (place server : ℕ) → FleetEvent
 
--- What comes of an event.
+-- The outcome of an event.
 pub data FleetOutcome : Type 0 where
   Judged : (letter : Letter) (verdict : Verdict) → FleetOutcome
   Committed : (order : Order) → FleetOutcome

@@ -132,7 +132,7 @@ abbrev pub orders_committed : List FleetEvent → Fleet → List Order
 orders_committed [] f = []
 orders_committed (e ∷ es) f = order_committed (fleet_comes f e).0 ++ orders_committed es (fleet_comes f e).1
 
--- What a controller with any beginning of the journal sends does no harm. An order of it is still the present one of its stream, or
+-- A message of a controller with any beginning of the journal does no harm. An order of it is still the present one of its stream, or
 -- nothing has an effect under its number on its cell any more; and its restores are among those of the whole journal.
 pub record BeginningsAreHarmless (setup : Setup) (f : Fleet) : Type 0 where
   pub orders : (lost : ℕ) (id : StreamId) (l : Letter) → letter_of (earlier f lost) id ≡ Some l →
@@ -147,7 +147,7 @@ PresentIsHeard setup f = (l : Letter) → IsPresent f l →
     (has_lost f l.order.call.server ≡ true)
     ⊎ ((verdict_of f l ≡ verdict.Begin) ⊎ ((verdict_of f l ≡ verdict.Working) ⊎ (verdict_of f l ≡ verdict.Again)))
 
--- Of all orders that were ever sent, by controllers that were deposed or have crashed too, only those that are present have an effect.
+-- Only present orders have an effect, of all that were ever sent, by controllers that were deposed or have crashed too.
 abbrev pub OnlyPresentCommits : Setup → Fleet → Type 0
 OnlyPresentCommits setup f = (e : FleetEvent) (o : Order) → (fleet_comes f e).0 ≡ Committed o →
     order_of (controller f).base (controller f).w o.stream ≡ Some o
@@ -168,7 +168,7 @@ real_cells f s v = if has_lost f v then Absent else ((f.servers v).slots s).cell
 abbrev pub live_and_known : Fleet → ℕ → ℕ
 live_and_known f s = count_below (controller f).w.sizes.servers (λ v. is_live_at (held_place f) s v && not (has_lost f v))
 
--- Of each shard at most one server serves, and loads are within room, whoever has lost its slots. If only servers that are recorded as
+-- At most one server serves each shard, and loads are within room, whichever servers have lost their slots. If only servers that are recorded as
 -- down have lost theirs, no fewer replicas are live at the others than the floor.
 pub record FleetIsSafe (setup : Setup) (f : Fleet) : Type 0 where
   pub held : IsSafePlace (controller f).w.sizes (held_place f)
@@ -177,7 +177,7 @@ pub record FleetIsSafe (setup : Setup) (f : Fleet) : Type 0 where
   pub floors : ((v : ℕ) → v < (controller f).w.sizes.servers → has_lost f v ≡ true → (controller f).w.place.down v ≡ true) →
       (s : ℕ) → s < (controller f).w.sizes.shards → (controller f).w.sizes.floor s ≤ live_and_known f s
 
--- Who executes a request, which came from a client or was passed on however long ago, has its slots and is the one server that serves.
+-- A server that executes a request, which came from a client or was passed on however long ago, has its slots and is the one server that serves.
 abbrev pub ExecutesAtOneServer : Setup → Fleet → Type 0
 ExecutesAtOneServer setup f = (e : FleetEvent) (s v : ℕ) → (fleet_comes f e).0 ≡ Routed s v Execute →
     (has_lost f v ≡ false) × IsServing (held_place f) s v × ((u : ℕ) → IsServing (held_place f) s u → u ≡ v)

@@ -92,7 +92,7 @@ example_plan s u v load = record {
 
 -- ---- what is seen
 
--- What is seen of an event.
+-- The visible part of an event.
 pub data Sight : Type 0 where
   Hears : (verdict : Verdict) → Sight
   Commits : (number : ℕ) → Sight
@@ -136,7 +136,7 @@ LostAnswerIsHarmless =
     × (row_recorded (fleet_run lost_answer example_fleet) 0 ≡ Primary ∷ Prepared 0 1 ∷ Secondary ∷ [])
 
 -- The server crashes while the first order of a handover is at work: the work begins anew. Then the order has its effect, and the controller
--- crashes before it hears of it. What it sends once it has read its journal is the very same order, which is answered again.
+-- crashes before it hears of it. Once it has read its journal it sends the very same order, which is answered again.
 abbrev pub crashes : List FleetEvent
 crashes =
     Make (Begin (example_plan 0 0 1 4)) ∷ SendOrder 0 (stream_id 0 0) ∷ Judge 0 ∷ Judge 0 ∷ Abandon 0 1 ∷ Commit 0 0 ∷ Judge 0 ∷ Commit 0 0

@@ -135,8 +135,8 @@ abbrev pub is_answered : Reception → Bool
 is_answered Ignored = false
 is_answered _ = true
 
--- What an agent does is what a party does here, journals aside: it takes no settle and no restore, looks at no order and replies to no
--- request that a party would not. Where an agent turns Unknown by what a message says, a party forgets.
+-- An agent does what a party does here, journals aside: it takes no settle and no restore, looks at no order and replies to no
+-- request that a party would not. If an agent turns Unknown by what a message says, a party forgets.
 pub record AgentsDoSo : Type 0 where
   pub fence : (base : AgentBase) (at : AgentReopening) (nonce : ℕ) →
       (base_seen (base_after base (fenced base at nonce)) ≡ after_fence (base_seen base) at.number nonce)

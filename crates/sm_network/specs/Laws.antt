@@ -119,7 +119,7 @@ CanReopen setup n = AreDone n.w → (place : Place) (room : ℕ) → IsOpening s
 abbrev pub round_trip : Net → StreamId → List NetEvent
 round_trip n id = Send id ∷ Deliver (length n.sent) ∷ Answer (length n.answers) ∷ []
 
--- the stream has moved on: it stands behind its instruction, or has made its end
+-- the stream has moved on: it stands behind its instruction, or has finished
 abbrev pub HasMovedOn : State → StreamId → State → Type 0
 HasMovedOn w id new = ((progress_of new id).at ≡ (progress_of w id).at + 1) ⊎ ((progress_of new id).done ≡ true)
 

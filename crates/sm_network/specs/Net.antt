@@ -71,7 +71,7 @@ order_of base w id = if is_running w id then order_for base w id (call_now w id)
 
 -- ---- events
 
--- What may happen, in any order and any number of times.
+-- The events that may happen, in any order and any number of times.
 pub data NetEvent : Type 0 where
   -- the controller makes an event by itself
   Control : (event : Happening) → NetEvent
@@ -86,7 +86,7 @@ pub data NetEvent : Type 0 where
   -- of all passes that were made, the one at this place comes to its server
   Pass : (place : ℕ) → NetEvent
 
--- What comes of an event.
+-- The outcome of an event.
 pub data NetOutcome : Type 0 where
   -- a server refuses an order
   Refused : (why : Refusal) → NetOutcome
@@ -157,7 +157,7 @@ abbrev pub pass_by : ℕ → ℕ → Played → Option Ticket
 pass_by s v (Played.Passed to number place) = Some (record { place = place; shard = s; sender = v; target = to; number = number })
 pass_by s v _ = None
 
--- What a server replies to a request, by its own cell alone: the controller has no part in it, and it may be up although it is recorded
+-- A server's reply to a request, by its own cell alone: the controller has no part in it, and it may be up although it is recorded
 -- as down. One that is really down does not reply. A pass has no place in a log: 0 stands for it.
 abbrev pub real_reply : Net → ℕ → ℕ → Option Ticket → Played
 real_reply n s v sent = answer_by (n.cells s v) v sent 0

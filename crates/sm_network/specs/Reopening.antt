@@ -55,13 +55,13 @@ unknown_base nonce = record { number = 0; fenced = false; nonce = Some nonce }
 
 -- ---- messages
 
--- What is settled: a configuration, and a placement of it with so much room for a log.
+-- A settlement: a configuration, and a placement of it with room for a log.
 pub record Settlement : Type 0 where
   pub setup : Setup
   pub place : Place
   pub room : ℕ
 
--- What a party tells once it is fenced.
+-- The account of a party once it is fenced.
 pub data Inventory : Type 0 where
   -- a server's slots, and which of the prepared ones have reached their cut
   Slots : (cells : ℕ → Cell) (reached : ℕ → Bool) → Inventory

@@ -10,7 +10,7 @@ pub use Rattle.sm_network.specs.Reopening.{Base, Cell, Comes, Confirm, Entry, Fe
 
 -- ---- what may be settled
 
--- What a cell may become: a primary stays; a secondary stays, or becomes the primary; a party of a handover becomes the primary, or
+-- The cells that a cell may become: a primary stays; a secondary stays, or becomes the primary; a party of a handover becomes the primary, or
 -- gives the shard up.
 abbrev pub Keeps : Cell → Cell → Type 0
 Keeps cell.Primary next = next ≡ cell.Primary
@@ -19,7 +19,7 @@ Keeps cell.Absent next = next ≡ cell.Absent
 Keeps _ next = (next ≡ cell.Primary) ⊎ (next ≡ cell.Absent)
 
 -- How good a claim to the shard a cell gives: a primary has the best; then an old owner that forwards, and a new one that has reached its
--- cut; then a secondary; then a new owner that has not. Who has a better claim may have acknowledged writes that a lesser one lacks.
+-- cut; then a secondary; then a new owner that has not. A server with a better claim may have acknowledged writes that a lesser one lacks.
 abbrev pub claim : Cell → Bool → ℕ
 claim cell.Absent reached = 0
 claim (cell.Prepared from number) false = 1
@@ -118,14 +118,14 @@ IsNotFor v n (Settle p base nonce s) = p ≡ Server v → nonce ≢ Some n
 IsNotFor v n (Restore u nonce number sizes cells) = u ≡ v → nonce ≢ n
 IsNotFor v n _ = Unit {0}
 
--- Who gives a server up is right that it will not serve again with its old slots: it has lost them, and nothing that was sent brings them back.
+-- A controller that gives a server up is right that it will not serve again with its old slots: it has lost them, and nothing that was sent brings them back.
 pub record IsGivenUp (x : Settling) (v : ℕ) : Type 0 where
   pub nonce : ℕ
   pub unknown : (x.bases (Server v)).nonce ≡ Some nonce
   pub unmet : AllByRecursion (IsNotFor v nonce) x.messages
 
 -- A reopening may begin with this number: it is above that of the one under way, and above all numbers of the epoch before, whose log
--- has at most so many places.
+-- has at most this many places.
 pub record MayReopen (x : Settling) (base : ℕ) (lost : ℕ → Bool) : Type 0 where
   pub later : x.reopening.base < base
   pub places : x.world.net.base + 2 * MOST_PLACES ≤ base

@@ -136,7 +136,7 @@ passed_over = to_settle (Absent ∷ Secondary ∷ Primary ∷ []) (Some 2)
 abbrev pub CarriesNoneSettled : Type 0
 CarriesNoneSettled = (MaySettle replaced.reopening replaced.world.net.w passed_over → ⊥) × TwoExecute (settling_run (Records (Confirm passed_over) ∷ arrive (16 ∷ [])) replaced) 1 2
 
--- Of two servers that are recorded the primary's is lost, and the other one has nothing. Server 2 is new, was settled as the primary and
+-- Two servers are recorded: the primary's is lost, and the other one has nothing. Server 2 is new, was settled as the primary and
 -- serves; then another reopening replaces this one, whose document has server 1 alone.
 abbrev pub newcomer : Settling
 newcomer = settling_run

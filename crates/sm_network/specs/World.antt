@@ -46,7 +46,7 @@ publication_of base w id = if is_running w id then publication_for base w id (pu
 
 -- ---- events
 
--- What may happen beside the map's owner, in any order and any number of times.
+-- The events that may happen beside the map's owner, in any order and any number of times.
 pub data WorldEvent : Type 0 where
   -- the controller makes an event by itself, or an order, an answer or a request comes
   Inner : (event : NetEvent) → WorldEvent

@@ -1,15 +1,15 @@
-//! What a server makes of an order.
+//! Deliveries of orders to servers.
 ghost use Rattle.std.specs.Prelude.{◌≡◌};
 ghost use Rattle.sm_network.specs.Orders.{delivery_of};
 
 use sm_server::{Call, Cell, Refusal, serve};
 
-/// What becomes of an order at its server.
+/// The result of an order at its server.
 #[derive(Clone, Copy, Debug, PartialEq, Eq)]
 pub enum Delivery {
     /// An order with a higher number has had its effect on the cell: this one has none, and is not answered.
     Old,
-    /// It has had its effect before, and is answered again.
+    /// It has had its effect before, and gets the same answer again.
     Again,
     /// It has its effect now, and this is the cell after it.
     Served(Cell),

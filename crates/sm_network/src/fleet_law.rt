@@ -1,92 +1,95 @@
 //! The laws of the fleet: what holds wherever events lead controller, servers and the map's owner.
 ghost use Rattle.sm_network.specs.FleetLaws.{BeginningsAreHarmless, CommitsOncePerNumber, CommitsWhereUp, EachFleet, ExecutesAtOneServer, FleetCanFinish, FleetIsReached, FleetIsSafe, FleetOpens, MapIsRight, MapNeverGoesBack, NoLetterIsRefused, OnlyPresentCommits, PermitsEndOnce, PresentIsHeard, ServersAreAtEnds, ServersAreNear, ServersAreRecorded, SomeFleetCanGoOn};
 
-/// What the controller has recorded is a state of the protocol that events lead to.
+/// States that what the controller has recorded is a state of the protocol that events lead to.
 pub fn fleet_is_reached()
     ensures { EachFleet FleetIsReached }
 {}
 
-/// No server refuses an order, however late or often it comes, and whoever has sent it.
+/// States that no server refuses an order, however late or often it comes, and whoever has sent it.
 pub fn no_letter_is_refused()
     ensures { EachFleet NoLetterIsRefused }
 {}
 
-/// A present order is begun, goes on or is answered again, unless its server has lost its slots.
+/// States that a present order is begun, goes on or is answered again, unless its server has lost its slots.
 pub fn present_is_heard()
     ensures { EachFleet PresentIsHeard }
 {}
 
-/// Of all orders that were ever sent, by deposed controllers too, only present ones have an effect.
+/// States that only present orders have an effect, of all that were ever sent, by deposed controllers too.
 pub fn only_present_commits()
     ensures { EachFleet OnlyPresentCommits }
 {}
 
-/// At most one server serves each shard, loads are within room, and floors are kept if only servers that are down have lost their slots.
+/// States that at most one server serves each shard, loads are within room, and floors are kept if only servers that
+/// are down have lost their slots.
 pub fn fleet_is_safe()
     ensures { EachFleet FleetIsSafe }
 {}
 
-/// Who executes a request, which may have been passed on long ago, is the one server that serves its shard.
+/// States that the server that executes a request, which may have been passed on long ago, is the one server that
+/// serves its shard.
 pub fn executes_at_one_server()
     ensures { EachFleet ExecutesAtOneServer }
 {}
 
-/// No number has its effect twice on a cell, over all epochs, crashes and restores.
+/// States that no number has its effect twice on a cell, over all epochs, crashes and restores.
 pub fn commits_once_per_number()
     ensures { EachFleet CommitsOncePerNumber }
 {}
 
-/// Each cell of a server that has its slots is as recorded, or one call further.
+/// States that each cell of a server that has its slots is as recorded, or one call further.
 pub fn servers_are_near()
     ensures { EachFleet ServersAreNear }
 {}
 
-/// Once all plans are done, servers that have their slots have the end of the plans.
+/// States that once all plans are done, servers that have their slots have the end of the plans.
 pub fn servers_are_at_ends()
     ensures { EachFleet ServersAreAtEnds }
 {}
 
-/// What the map shows of a shard never goes back.
+/// States that what the map shows of a shard never goes back.
 pub fn map_never_goes_back()
     ensures { MapNeverGoesBack }
 {}
 
-/// The server that the map shows serves the shard, or forwards to the one that does.
+/// States that the server that the map shows serves the shard, or forwards to the one that does.
 pub fn map_is_right()
     ensures { EachFleet MapIsRight }
 {}
 
-/// A permit ends at most one restart, over all epochs.
+/// States that a permit ends at most one restart, over all epochs.
 pub fn permits_end_once()
     ensures { EachFleet PermitsEndOnce }
 {}
 
-/// If each server that unfinished plans name has its slots, some stream of each can go on, by itself or by its order or publication.
+/// States that if each server that unfinished plans name has its slots, some stream of each can go on, by itself or by
+/// its order or publication.
 pub fn some_fleet_can_go_on()
     ensures { EachFleet SomeFleetCanGoOn }
 {}
 
-/// If nothing is under way, servers that have their slots have what is recorded.
+/// States that if nothing is under way, servers that have their slots have what is recorded.
 pub fn servers_are_recorded()
     ensures { EachFleet ServersAreRecorded }
 {}
 
-/// What a controller with any beginning of the journal sends is present, or has no effect any more.
+/// States that what a controller with any beginning of the journal sends is present, or has no effect any more.
 pub fn beginnings_are_harmless()
     ensures { EachFleet BeginningsAreHarmless }
 {}
 
-/// If each server that unfinished plans name has its slots, events can lead on until all plans are done.
+/// States that if each server that unfinished plans name has its slots, events can lead on until all plans are done.
 pub fn fleet_can_finish()
     ensures { EachFleet FleetCanFinish }
 {}
 
-/// A fleet can open on each placement that a machine can open on.
+/// States that a fleet can open on each placement that a machine can open on.
 pub fn fleet_opens()
     ensures { FleetOpens }
 {}
 
-/// No server that is recorded as down commits an order.
+/// States that no server that is recorded as down commits an order.
 pub fn commits_where_up()
     ensures { EachFleet CommitsWhereUp }
 {}

@@ -2,108 +2,111 @@
 ghost use Rattle.sm_network.specs.Laws.{CanFinish, CanReopen, EachNet, ExecutesWhereServing, HasEffectsOnce, NoneIsRefused, RealIsAtEnds, RealIsNear, RealIsRecorded, RealIsSafe, RecordIsReached, ServesWhereUp, SomeCanGoOn};
 ghost use Rattle.sm_network.specs.WorldLaws.{CanFinishOnward, CanReopenOnward, EachWorld, FollowsNet, NetIsReached, ShownIsNear, ShownIsRecorded, ShownIsRight, ShownNeverGoesBack, SomeCanGoOnward};
 
-/// What the controller has recorded is a state of the protocol that events lead to.
+/// States that what the controller has recorded is a state of the protocol that events lead to.
 pub fn record_is_reached()
     ensures { EachNet RecordIsReached }
 {}
 
-/// No server refuses an order, however late or often it comes.
+/// States that no server refuses an order, however late or often it comes.
 pub fn none_is_refused()
     ensures { EachNet NoneIsRefused }
 {}
 
-/// No server that is recorded as down serves an order.
+/// States that no server that is recorded as down serves an order.
 pub fn serves_where_up()
     ensures { EachNet ServesWhereUp }
 {}
 
-/// The placement as the servers have it is safe, whatever is under way.
+/// States that the placement as the servers have it is safe, whatever is under way.
 pub fn real_is_safe()
     ensures { EachNet RealIsSafe }
 {}
 
-/// No number has its effect twice on a cell, and no instruction has its effect twice, however often its order comes.
+/// States that no number has its effect twice on a cell, and no instruction has its effect twice, however often its
+/// order comes.
 pub fn is_once()
     ensures { EachNet HasEffectsOnce }
 {}
 
-/// Each cell at the servers is as it is recorded, or one call further, whose answer is outstanding.
+/// States that each cell at the servers is as it is recorded, or one call further, whose answer is outstanding.
 pub fn real_is_near()
     ensures { EachNet RealIsNear }
 {}
 
-/// If no answer is outstanding, the servers have what is recorded.
+/// States that if no answer is outstanding, the servers have what is recorded.
 pub fn real_is_recorded()
     ensures { EachNet RealIsRecorded }
 {}
 
-/// Once all plans are done, the servers have the end of the plans.
+/// States that once all plans are done, the servers have the end of the plans.
 pub fn real_is_at_ends()
     ensures { EachNet RealIsAtEnds }
 {}
 
-/// Once all plans are done, another controller can open on what the servers have, while old orders and answers still come.
+/// States that once all plans are done, another controller can open on what the servers have, while old orders and
+/// answers still come.
 pub fn can_reopen()
     ensures { EachNet CanReopen }
 {}
 
-/// Of each plan that isn't done some stream can go on.
+/// States that some stream of each plan that isn't done can go on.
 pub fn some_can_go_on()
     ensures { EachNet SomeCanGoOn }
 {}
 
-/// Who executes a request is the one server that serves its shard.
+/// States that the server that executes a request is the one server that serves its shard.
 pub fn executes_where_serving()
     ensures { EachNet ExecutesWhereServing }
 {}
 
-/// Wherever events lead, steps, orders and answers can lead on until all plans are done.
+/// States that wherever events lead, steps, orders and answers can lead on until all plans are done.
 pub fn can_finish()
     ensures { EachNet CanFinish }
 {}
 
-/// With the map's owner beside them, controller and servers still come only to what events of the network lead to: all laws above
-/// hold of them.
+/// States that with the map's owner beside them, controller and servers still come only to what events of the network
+/// lead to. So all laws above hold of them.
 pub fn net_is_reached()
     ensures { EachWorld NetIsReached }
 {}
 
-/// Whatever comes leaves controller and servers as they are, or does what one event of the network does.
+/// States that whatever comes leaves controller and servers as they are, or does what one event of the network does.
 pub fn follows_net()
     ensures { FollowsNet }
 {}
 
-/// What the map shows of a shard never goes back, however late or often publications come.
+/// States that what the map shows of a shard never goes back, however late or often publications come.
 pub fn shown_never_goes_back()
     ensures { ShownNeverGoesBack }
 {}
 
-/// The server that the map shows serves the shard, or forwards to the one that does.
+/// States that the server that the map shows serves the shard, or forwards to the one that does.
 pub fn shown_is_right()
     ensures { EachWorld ShownIsRight }
 {}
 
-/// Each entry of the map is as it is recorded, or one publication further, whose answer is outstanding.
+/// States that each entry of the map is as it is recorded, or one publication further, whose answer is outstanding.
 pub fn shown_is_near()
     ensures { EachWorld ShownIsNear }
 {}
 
-/// If no answer is outstanding, the map shows what is recorded.
+/// States that if no answer is outstanding, the map shows what is recorded.
 pub fn shown_is_recorded()
     ensures { EachWorld ShownIsRecorded }
 {}
 
-/// Of each plan that isn't done some stream can go on.
+/// States that some stream of each plan that isn't done can go on.
 pub fn some_can_go_onward()
     ensures { EachWorld SomeCanGoOnward }
 {}
 
-/// Wherever events lead, steps, orders, publications and answers can lead on until all plans are done.
+/// States that wherever events lead, steps, orders, publications and answers can lead on until all plans are done.
 pub fn can_finish_onward()
     ensures { EachWorld CanFinishOnward }
 {}
 
-/// Once all plans are done, another controller can open on what the servers have and the map shows, while old messages still come.
+/// States that once all plans are done, another controller can open on what the servers have and the map shows, while
+/// old messages still come.
 pub fn can_reopen_onward()
     ensures { EachWorld CanReopenOnward }
 {}

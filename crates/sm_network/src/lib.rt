@@ -1,5 +1,5 @@
-//! The protocol over a network, as definitions and laws over them: real servers, orders and answers that are late, lost, doubled or
-//! out of order, and a controller that holds no lock while calls are under way.
+//! The protocol over a network, as definitions and laws over them: real servers, orders and answers that are late,
+//! lost, doubled or out of order, and a controller that holds no lock while calls are under way.
 #![tactic(auto)]
 
 mod delivery;

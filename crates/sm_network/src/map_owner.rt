@@ -1,11 +1,11 @@
-//! What the map's owner makes of a publication.
+//! Deliveries of publications to the map's owner.
 ghost use Rattle.std.specs.Prelude.{◌≡◌};
 ghost use Rattle.sm_network.specs.Orders.{newer};
 
 use sm_placement::Entry;
 
-/// Returns what the map shows of a shard once an entry for it has come: that entry, if its version is above the one that is shown,
-/// otherwise what was shown. The publication is answered in either case.
+/// Returns what the map shows of a shard once an entry for it has come. That is the entry, if its version is above the
+/// one that is shown, and otherwise what was shown. The publication is answered in either case.
 pub fn entry_after(shown: Entry, sent: Entry) -> Entry
     ensures { result ≡ newer shown sent }
 {

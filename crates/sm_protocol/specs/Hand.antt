@@ -13,14 +13,14 @@ pub record Hand : Type 0 where
   -- the servers whose restarts may be ended
   pub permits : List ℕ
   pub tickets : List Ticket
-  -- by their places, None where no plan is left
+  -- by their places, None if no plan is left
   pub plans : List (Option PlanModel)
 
 -- the token is the stream's
 abbrev pub is_token : StreamId → StreamId → Bool
 is_token id token = (token.plan == id.plan) && (token.stream == id.stream)
 
--- The event with what the hand has for it; None where its token, ticket, permit or plan isn't there. Of several tickets of
+-- The event with what the hand has for it; None if its token, ticket, permit or plan isn't there. Of several tickets of
 -- one place the first is used.
 abbrev pub given : Hand → Event → Option Happening
 given h (Event.Step id) = if list_any (is_token id) h.tokens then Some (Step id) else None
@@ -105,7 +105,7 @@ all_given (e ∷ es) g = given g.hand e ∷ all_given es (turn g e).1
 abbrev pub played_events : List Event → Game → List Happening
 played_events es g = filter_map (λ x. x) (all_given es g)
 
--- these outcomes in turn where the hand has something, and Unknown where it has nothing
+-- these outcomes in turn if the hand has something, and Unknown if it has nothing
 abbrev pub or_unknown : List (Option Happening) → List Outcome → List Outcome
 or_unknown [] os = []
 or_unknown (None ∷ xs) os = Answered Played.Unknown ∷ or_unknown xs os

@@ -1,11 +1,11 @@
--- What happens: each event with its answer, and lists of events.
+-- Happenings: each event with its answer, and lists of events.
 use Rattle.std.specs.Prelude.{ℕ, ◌+◌, ◌==◌, ◌&&◌, ◌||◌, ◌++◌, nat_lt, nat_le, not, Bool, true, false, Option, Some, None, List, [], ◌∷◌, length, if◌then◌else◌}
 pub use Rattle.sm_protocol.specs.Words.{BeginFault, Cell, Denied, Event, Holding, MOST_ALLOWANCE, MOST_NUMBER, MOST_PLANS, Passage, PlanModel, Played, RefillFault, StreamId, bit, denial, first_from, first_holding, is_mentioned, list_any, places_of, set_down, sum_below}
 use Rattle.sm_protocol.specs.Ticket.{Ticket, is_open_ticket}
 use Rattle.sm_protocol.specs.State.{State, allowance, stream_id, stream_count, stream_parts, progress_of, is_running, is_unfinished, set_progress, logged, recorded, pool, free_places}
 use Rattle.sm_protocol.specs.Steps.{Outcome, Answered, unchanged, step}
 
--- What may happen: an event, with what was handed in for it.
+-- A happening: an event, with what was handed in for it.
 pub data Happening : Type 0 where
   Step : (stream : StreamId) → Happening
   Lose : (stream : StreamId) (after : Bool) → Happening
@@ -16,7 +16,7 @@ pub data Happening : Type 0 where
   Done : (server : ℕ) → Happening
   Begin : (plan : PlanModel) → Happening
 
--- why a stream's allowance isn't raised by so much, None where it is
+-- why a stream's allowance isn't raised by this much, None if it is
 abbrev pub refill_fault : State → StreamId → ℕ → Option RefillFault
 refill_fault w id more =
     if not (is_running w id) then Some RefillFault.Ended
@@ -24,7 +24,7 @@ refill_fault w id more =
     else if nat_lt (free_places w) (more + 1) then Some RefillFault.LogFull
     else None
 
--- the refill, where nothing is against it
+-- the refill, if nothing is against it
 abbrev pub refilled : State → StreamId → ℕ → Option RefillFault → Outcome × State
 refilled w id more (Some why) = unchanged w (Played.RefillRefused why)
 refilled w id more None =
@@ -38,7 +38,7 @@ answer_by (Cell.Forwarding to number) v sent place = Played.Passed to number pla
 answer_by (Cell.Prepared from number) v (Some t) place = if (from == t.sender) && (number == t.number) then Played.Executed v else Played.NotOwner
 answer_by _ v sent place = Played.NotOwner
 
--- what a server answers to a request: Unavailable where it is down, and else by its cell
+-- what a server answers to a request: Unavailable if it is down, and otherwise by its cell
 abbrev pub reply_of : State → ℕ → ℕ → Option Ticket → Played
 reply_of w s v sent = if w.place.down v then Played.Unavailable else answer_by (w.place.cells s v) v sent (length w.log)
 
@@ -60,7 +60,7 @@ engaged w v =
     first_from 0 (length w.plans) (λ k.
     first_from 0 (stream_count w k) (λ i. if engages w v (stream_id k i) then Some (stream_id k i) else None))
 
--- the restart is approved where nothing is against it, and takes the server down
+-- the restart is approved if nothing is against it, and takes the server down
 abbrev pub approved : State → ℕ → Option Denied → Outcome × State
 approved w v (Some why) = unchanged w (Played.Denied why)
 approved w v None = (Answered Played.Approved, record w { place = set_down w.place v true; log = logged w (Event.Approve v) Played.Approved })
@@ -84,7 +84,7 @@ has_all_plans w = nat_le MOST_PLANS (running_plans w) || nat_lt MOST_NUMBER (len
 abbrev pub started : State → PlanModel → State
 started w plan = record w { plans = w.plans ++ record { plan = plan; since = length w.log } ∷ [] }
 
--- a plan starts where nothing holds it up, the log has its places and another plan may run
+-- a plan starts if nothing holds it up, the log has its places and another plan may run
 abbrev pub begun : State → PlanModel → Option Holding → Outcome × State
 begun w plan (Some why) = unchanged w (Played.NotBegun (BeginFault.Holding why))
 begun w plan None =

@@ -66,12 +66,12 @@ HasLost w id = (after : Bool) × Contains w.log (record { event = Event.Lose id 
 abbrev pub HasNoLost : State → Type 0
 HasNoLost w = (id : StreamId) → is_begun w id ≡ true → (progress_of w id).done ≡ false → ¬ HasLost w id
 
--- a checked plan is begun exactly where it is accepted, the log has its places and another plan may run
+-- a checked plan is begun exactly if it is accepted, the log has its places and another plan may run
 abbrev pub BegunWhereAccepted : Type 0
 BegunWhereAccepted = (setup : Setup) (w : State) (plan : PlanModel) → IsReached setup w → IsCheckedPlan w.sizes plan →
     ((happens w (Begin plan)).0 ≡ Answered (Played.Begun (length w.plans))) ↔ (IsAccepted w plan × (places_of plan ≤ free_places w) × (has_all_plans w ≡ false))
 
--- a restart is approved exactly where the server is up, no unfinished stream's code mentions it, the caps allow it and the log has
+-- a restart is approved exactly if the server is up, no unfinished stream's code mentions it, the caps allow it and the log has
 -- its places
 abbrev pub ApprovedWhereReserved : Type 0
 ApprovedWhereReserved = (setup : Setup) (w : State) (v : ℕ) → IsReached setup w → v < w.sizes.servers →
@@ -90,7 +90,7 @@ Headline = (setup : Setup) (w : State) (es : List Happening) → IsReached setup
 abbrev pub WithLosses : Type 0
 WithLosses = (setup : Setup) (w : State) → IsReached setup w → NextIsServed w × IsSafe w × SomeCanStepOrSpent w
 
--- What a server has of a call's shard and its number let it serve the call: it is up, and the call repeats the one that had its
+-- A server's cell of a call's shard and its number let it serve the call: it is up, and the call repeats the one that had its
 -- effect on the cell last, or it is allowed.
 pub record IsServable (w : State) (x : ServerCall) (number : ℕ) : Type 0 where
   pub up : w.place.down x.server ≡ false
@@ -113,7 +113,7 @@ UnlostIsUnspent = (setup : Setup) (w : State) (es : List Happening) → IsReache
 abbrev pub BegunIsKnown : Type 0
 BegunIsKnown = (w : State) (id : StreamId) (passage : Passage) → is_begun w id ≡ true → (step w id passage).0 ≢ Answered Played.Unknown
 
--- where an event of the stream leads from one state to the other: the number of its try, if the call had its effect just then
+-- if an event of the stream leads from one state to the other: the number of its try, if the call had its effect just then
 abbrev pub effect_of_stream : State → StreamId → State → List ℕ
 effect_of_stream w id new = if nat_lt (progress_of w id).effects (progress_of new id).effects then call_number w (progress_of w id) ∷ [] else []
 
@@ -133,8 +133,8 @@ pub record IsSpent (w : State) (n : ℕ) : Type 0 where
   pub used : n < w.next_number
   pub had : (id : StreamId) → (progress_of w id).pending ≡ n → n ≢ 0 → (progress_of w id).ahead ≡ true
 
--- Along a list of events that leads from one state to the other the number has its effect once at most, and never where it is
--- spent before. It is spent afterwards where it was before, or where it has its effect along the list: so along no later list it
+-- Along a list of events that leads from one state to the other the number has its effect once at most, and never if it is
+-- spent before. It is spent afterwards if it was before, or if it has its effect along the list: so along no later list it
 -- has its effect again.
 pub record HasEffectOnce (w : State) (es : List Happening) (new : State) (n : ℕ) : Type 0 where
   pub once : count_by (λ m. m == n) (effect_numbers es w) ≤ 1
@@ -200,7 +200,7 @@ UnrecordedChangesNothing = (w : State) (e : Happening) → (happens w e).1.log �
 abbrev pub AreDone : State → Type 0
 AreDone w = (k : ℕ) → k < length w.plans → is_unfinished w k ≡ false
 
--- where all plans are done, each stream's instructions stand in the log in their order, each once, then its end, and the
+-- if all plans are done, each stream's instructions stand in the log in their order, each once, then its end, and the
 -- placement is the end of the plans in the order of their starts, whatever the schedule was
 abbrev pub EndsAreReached : Type 0
 EndsAreReached = (setup : Setup) (w : State) → IsReached setup w → AreDone w →
@@ -212,7 +212,7 @@ abbrev pub PlaysAreRuns : Type 0
 PlaysAreRuns = (es : List Event) (g : Game) →
     ((play es g).state ≡ run (played_events es g) g.state) × (plays es g ≡ or_unknown (all_given es g) (outcomes (played_events es g) g.state))
 
--- What holds of a list of events that happen from a state.
+-- The facts that hold of a list of events that happen from a state.
 pub record IsSafeRun (setup : Setup) (es : List Happening) (w : State) : Type 0 where
   -- events lead to the state after the list
   pub reached : IsReached setup (run es w)
@@ -229,7 +229,7 @@ pub record IsSafeRun (setup : Setup) (es : List Happening) (w : State) : Type 0 
   pub safe : IsSafe (run es w)
   -- there, of each plan that isn't done some stream can step, or one that isn't done has spent its allowance
   pub onward : SomeCanStepOrSpent (run es w)
-  -- and some stream can step where no unfinished stream had a lost call in the log, and the list loses none
+  -- and some stream can step if no unfinished stream had a lost call in the log, and the list loses none
   pub unlost : HasNoLost w → AllByRecursion LosesNothing es → SomeCanStep (run es w)
 
 -- The headline, and the laws on lost calls, on the effects of calls, on requests and on tickets, of every list of events that fit, from a
@@ -254,7 +254,7 @@ AsksNoLoss _ = Unit {0}
 abbrev pub AreChecked : Sizes → Hand → Type 0
 AreChecked c h = (place : ℕ) (plan : PlanModel) → slice_index_or h.plans place None ≡ Some plan → IsCheckedPlan c plan
 
--- What holds of a list of events that is played from a game.
+-- The facts that hold of a list of events that is played from a game.
 pub record IsPlayed (setup : Setup) (es : List Event) (g : Game) : Type 0 where
   -- what the hand gives for the events fits the configuration
   pub fit : AllFit (sizes_of setup) (played_events es g)
@@ -275,7 +275,7 @@ pub record IsPlayed (setup : Setup) (es : List Event) (g : Game) : Type 0 where
   pub safe : IsSafe (play es g).state
   -- there, of each plan that isn't done some stream can step, or one that isn't done has spent its allowance
   pub onward : SomeCanStepOrSpent (play es g).state
-  -- and some stream can step where no unfinished stream had a lost call in the log, and the list asks for none
+  -- and some stream can step if no unfinished stream had a lost call in the log, and the list asks for none
   pub unlost : HasNoLost g.state → AllByRecursion AsksNoLoss es → SomeCanStep (play es g).state
 
 -- The headline, and the laws on lost calls, on the effects of calls and on tickets, of every list of events that is played with a

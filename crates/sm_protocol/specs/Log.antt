@@ -37,7 +37,7 @@ abbrev pub steps_in : StreamId → List Logged → List Played
 steps_in id log = map (λ x. x.answer) (filter (λ x. is_step_of id x.event) log)
 
 -- The log has one step of the stream for each of its instructions, and then its end; lost tries and refills are other events.
--- That the steps made the instructions in their order is told by the replay, where each makes the next one.
+-- That the steps made the instructions in their order is told by the replay, if each makes the next one.
 abbrev pub IsInLog : State → StreamId → Type 0
 IsInLog w id = steps_in id w.log ≡ replicate (length (stream_parts w id).code) Played.Moved ++ Played.Done ∷ []
 
@@ -52,7 +52,7 @@ happening_of tickets (Event.Approve v) = Some (Approve v)
 happening_of tickets (Event.Done v) = Some (Done v)
 happening_of tickets (Event.Begin place) = None
 
--- What an event asks for under one who has all rights that are given away: the request of a pass is that at its place of the log. An event
+-- The rights that an event asks for under one who has all that are given away: the request of a pass is that at its place of the log. An event
 -- does not tell which plan is to start.
 abbrev pub named : State → Event → Option Happening
 named w e = happening_of (passes w.log) e
@@ -92,7 +92,7 @@ IsRequestTo tickets (Event.Arrive s v) shard server = (s ≡ shard) × (v ≡ se
 IsRequestTo tickets (Event.PassOn place) shard server = (t : Ticket) × (slice_index_or tickets place None ≡ Some t) × (t.shard ≡ shard) × (t.target ≡ server)
 IsRequestTo tickets _ shard server = ⊥
 
--- What the log has at the ticket's place is the pass that the ticket tells of: a request for its shard came to its sender,
+-- The log has at the ticket's place the pass that the ticket tells of: a request for its shard came to its sender,
 -- which passed it on to its target under its number.
 pub record IsPass (log : List Logged) (t : Ticket) : Type 0 where
   pub line : Logged

@@ -1,4 +1,4 @@
--- What a stream stands before, by what is recorded: its call with the handover number, its entry of the published map, or the signal
+-- The thing that a stream stands before, by what is recorded: its call with the handover number, its entry of the published map, or the signal
 -- that it waits for; and when it came there.
 use Rattle.std.specs.Prelude.{ℕ, suc, ◌+◌, Option, Some, None, List, [], ◌∷◌, filter, length, slice_index_or, if◌then◌else◌}
 use Rattle.sm_plan_code.specs.declared.instruction.Instr.TheVariants as instr
@@ -10,7 +10,7 @@ use Rattle.sm_protocol.specs.Log.{is_step_of}
 abbrev pub instruction_before : State → StreamId → Option Instr
 instruction_before w id = if is_running w id then next_instruction w id else None
 
--- the call of an instruction at these highest handover numbers, where there is one and it is a call
+-- the call of an instruction at these highest handover numbers, if there is one and it is a call
 abbrev pub call_under : (ℕ → ℕ) → Option Instr → Option ServerCall
 call_under numbers None = None
 call_under numbers (Some i) = next_call numbers i
@@ -34,7 +34,7 @@ entry_by w _ = None
 abbrev pub next_entry_of : State → StreamId → Option (ℕ × Entry)
 next_entry_of w id = entry_by w (instruction_before w id)
 
--- the signal that an instruction of a plan waits for, where it is not posted
+-- the signal that an instruction of a plan waits for, if it is not posted
 abbrev pub unposted : State → ℕ → Option Instr → Option ℕ
 unposted w k (Some (instr.Wait q)) = if (w.marks k q).posted then None else Some q
 unposted w k _ = None
@@ -43,12 +43,12 @@ unposted w k _ = None
 abbrev pub blocked_on : State → StreamId → Option ℕ
 blocked_on w id = unposted w id.plan (instruction_before w id)
 
--- Of a log that began at length n: its length behind the last step of the stream in it, or what stands for that where it has none.
+-- The length of a log, which began at n, behind the last step of the stream in it, or a default if it has none.
 abbrev pub since_in : StreamId → ℕ → ℕ → List Logged → ℕ
 since_in id start n [] = start
 since_in id start n (x ∷ xs) = since_in id (if is_step_of id x.event then n + 1 else start) (n + 1) xs
 
--- the log's length when the stream came to its position: behind its last step, or at its plan's start where it has made none
+-- the log's length when the stream came to its position: behind its last step, or at its plan's start if it has made none
 abbrev pub since_of : State → StreamId → ℕ
 since_of w id = since_in id (slice_index_or w.plans id.plan no_start).since 0 w.log
 

@@ -14,21 +14,21 @@ pub record Progress : Type 0 where
   pub at : ℕ
   -- the call at this position has had its effect, and was not answered
   pub ahead : Bool
-  -- the number of the call under way, which was tried and not answered; 0 where none is
+  -- the number of the call under way, which was tried and not answered; 0 if none is
   pub pending : ℕ
   -- how many tries of calls it has made, and how many of its calls have had their effect
   pub tries : ℕ
   pub effects : ℕ
   -- how many tries were allowed beside those of its plan
   pub refills : ℕ
-  -- it has made its end
+  -- it has finished
   pub done : Bool
 
 -- a stream that has made nothing
 abbrev pub fresh : Progress
 fresh = record { at = 0; ahead = false; pending = 0; tries = 0; effects = 0; refills = 0; done = false }
 
--- What has become of a signal: it was posted, and a stream has waited for it.
+-- The state of a signal: it was posted, and a stream has waited for it.
 pub record Mark : Type 0 where
   pub posted : Bool
   pub awaited : Bool
@@ -81,7 +81,7 @@ opened c p room = record {
   halted = false;
 }
 
--- what stands where no plan was begun
+-- the default if no plan was begun
 abbrev pub no_start : Start
 no_start = record { plan = record { budget = 0; streams = []; signals = [] }; since = 0 }
 
@@ -129,7 +129,7 @@ allowance w id = (stream_parts w id).budget + (stream_parts w id).retries + (pro
 abbrev pub is_unfinished : State → ℕ → Bool
 is_unfinished w k = any_below (stream_count w k) (λ i. not (w.progress k i).done)
 
--- the progress of all streams, where one stands otherwise
+-- the progress of all streams, if one stands otherwise
 abbrev pub set_progress : State → StreamId → Progress → ℕ → ℕ → Progress
 set_progress w id progress = put2 w.progress id.plan id.stream progress
 
@@ -137,7 +137,7 @@ set_progress w id progress = put2 w.progress id.plan id.stream progress
 abbrev pub logged : State → Event → Played → List Logged
 logged w event answer = w.log ++ record { event = event; answer = answer } ∷ []
 
--- the state with one more event and its answer in the log, where nothing else changes
+-- the state with one more event and its answer in the log, if nothing else changes
 abbrev pub recorded : State → Event → Played → State
 recorded w event answer = record w { log = logged w event answer }
 

@@ -25,7 +25,7 @@ number_after_try w progress = if progress.pending == 0 then w.next_number + 1 el
 abbrev pub call_to_make : State → Progress → Instr → Option ServerCall
 call_to_make w progress i = if progress.ahead then call_again w.numbers i (shard_of i) else next_call w.numbers i
 
--- one try more, and one effect more where the call has it now
+-- one try more, and one effect more if the call has it now
 abbrev pub tried_more : Progress → Bool → Progress
 tried_more progress fresh = record progress { tries = progress.tries + 1; effects = progress.effects + bit fresh }
 
@@ -37,7 +37,7 @@ behind_call progress fresh = record (tried_more progress fresh) { at = progress.
 abbrev pub ahead_of_call : State → Progress → Bool → Progress
 ahead_of_call w progress fresh = record (tried_more progress fresh) { ahead = true; pending = call_number w progress }
 
--- A try came to its server, which served it: the highest handover numbers rise where the call had its effect just now.
+-- A try came to its server, which served it: the highest handover numbers rise if the call had its effect just now.
 abbrev pub served_try : State → StreamId → Instr → CallEffect → Progress → Event → Played → State
 served_try w id i effect progress event answer = record w {
   place = effect.place;
@@ -72,11 +72,11 @@ call_tried w id passage i (Some x) =
     then unchanged w Played.Spent
     else tried w id i passage (called_numbered w.sizes w.place x.shard x.server x.call (call_number w (progress_of w id)))
 
--- the progress of all streams, where this one has made its next instruction, which is no call
+-- the progress of all streams, if this one has made its next instruction, which is no call
 abbrev pub behind : State → StreamId → ℕ → ℕ → Progress
 behind w id = set_progress w id (record (progress_of w id) { at = (progress_of w id).at + 1 })
 
--- the state then, where nothing else changes
+-- the state then, if nothing else changes
 abbrev pub moved_on : State → StreamId → State
 moved_on w id = record w { progress = behind w id; log = logged w (Event.Step id) Played.Moved }
 
@@ -102,7 +102,7 @@ awaited w id q =
     then (Answered Played.Moved, record (moved_on w id) { marks = put2 w.marks id.plan q (record (w.marks id.plan q) { awaited = true }) })
     else unchanged w (Played.Blocked q)
 
--- the stream makes its end: what it holds is free
+-- the stream finishes: what it holds is free
 abbrev pub ended : State → StreamId → Outcome × State
 ended w id =
     let progress = set_progress w id (record (progress_of w id) { done = true }) in

@@ -22,7 +22,7 @@ pass_of_event earlier to number place (Event.PassOn q) =
     option_map (λ t. record { place = place; shard = t.shard; sender = t.target; target = to; number = number }) (slice_index_or earlier q None)
 pass_of_event earlier to number place _ = None
 
--- the pass that a recorded event made, where the events before it made these
+-- the pass that a recorded event made, if the events before it made these
 abbrev pub pass_of : List (Option Ticket) → Played → Event → Option Ticket
 pass_of earlier (Played.Passed to number place) e = pass_of_event earlier to number place e
 pass_of earlier _ e = None

@@ -1,16 +1,17 @@
-//! What may happen to a machine, what is answered, and what its log records.
+//! The events that may happen to a machine, the answers to them, and the records of the log.
 use sm_reservation::StreamId;
 use sm_server::{ServerId, ShardId};
 use sm_task_controller::Denied;
 use sm_verifier::Holding;
 use thiserror::Error;
 
-/// What may happen.
+/// An event that may happen.
 #[derive(Clone, Copy, Debug, PartialEq, Eq)]
 pub enum Event {
     /// A stream makes its next step.
     Step { stream: StreamId },
-    /// A stream makes its next step, and where that is a call, the call is lost: before its effect, or its answer after it.
+    /// A stream makes its next step, and if that is a call, the call is lost: before its effect, or its answer after
+    /// it.
     Lose { stream: StreamId, after: bool },
     /// A stream's allowance of tries is raised.
     Refill { stream: StreamId, more: u32 },
@@ -26,7 +27,7 @@ pub enum Event {
     Begin { plan: u32 },
 }
 
-/// What an event is answered.
+/// The answer to an event.
 #[derive(Clone, Copy, Debug, PartialEq, Eq)]
 pub enum Played {
     /// The step was made.
@@ -84,11 +85,11 @@ pub enum Played {
 pub struct Logged {
     /// The event.
     pub event: Event,
-    /// What it was answered.
+    /// The answer that the event got.
     pub answer: Played,
 }
 
-/// Why a plan does not start. Of several reasons the first one in this order is given.
+/// The reason why a plan does not start. If there are several, the first one in this order is given.
 #[derive(Clone, Copy, Debug, PartialEq, Eq, Error)]
 pub enum BeginFault {
     /// Memory was short.
@@ -100,12 +101,12 @@ pub enum BeginFault {
     /// The log has fewer free places than the plan needs.
     #[error("the log has fewer free places than the plan needs")]
     LogFull,
-    /// As many plans are running as may run at once, or no number is left.
+    /// The greatest number of plans is running already, or no number is left.
     #[error("too many plans")]
     TooManyPlans,
 }
 
-/// Why an allowance is not raised. Of several reasons the first one in this order is given.
+/// The reason why an allowance is not raised. If there are several, the first one in this order is given.
 #[derive(Clone, Copy, Debug, PartialEq, Eq, Error)]
 pub enum RefillFault {
     /// The stream has ended, or was never begun.
@@ -119,7 +120,7 @@ pub enum RefillFault {
     LogFull,
 }
 
-/// What becomes of a try of a call.
+/// The fate of a try of a call.
 #[derive(Clone, Copy, Debug, PartialEq, Eq)]
 pub enum Passage {
     /// The call comes to its server, and the answer comes back.

@@ -5,121 +5,126 @@ ghost use Rattle.sm_protocol.specs.Unchecked.{RefusalsCome};
 
 use sm_placement::answered_where_allowed;
 
-/// A checked plan is begun exactly where it is accepted, the log has its places and another plan may run.
+/// States that a checked plan is begun exactly if it is accepted, the log has its places and another plan may run.
 pub fn begun_where_accepted()
     ensures { BegunWhereAccepted }
 {}
 
-/// A restart is approved exactly where the server is up, no unfinished stream's code mentions it, fewer servers are down than
-/// the limit, each shard that is live at it keeps its floor and what is reserved, and the log has two free places.
+/// States that a restart is approved exactly if five things are so: the server is up, no unfinished stream's code
+/// mentions it, fewer servers are down than the limit, each shard that is live at it keeps its floor and what is
+/// reserved, and the log has two free places.
 pub fn approved_where_reserved()
     ensures { ApprovedWhereReserved }
 {}
 
-/// From a state in whose log no unfinished stream has a lost call, whatever list of starts of checked plans, stream steps,
-/// refills, requests and restart events follows: no call of it is refused, nor one by an event that comes next, the state is
-/// safe, and of each plan that isn't done some stream can step.
+/// States that, from a state in whose log no unfinished stream has a lost call, three things hold after any list of
+/// starts of checked plans, stream steps, refills, requests and restart events. No call of it is refused, nor one by an
+/// event that comes next; the state is safe; and some stream of each plan that isn't done can step.
 pub fn headline()
     ensures { Headline }
 {}
 
-/// Where calls may be lost: no try is one that its server must refuse, the state is safe, and of each plan that isn't done some
-/// stream can step, or one that hasn't made its end has spent its allowance.
+/// States that, if calls may be lost, no try is one that its server must refuse, and the state is safe. Some stream of
+/// each plan that isn't done can step, or one that hasn't finished has spent its allowance.
 pub fn with_losses()
     ensures { WithLosses }
 {}
 
-/// The call of each try that a running stream may make next, be it lost or not, is one that its server has to serve: the server is up, and
-/// the call is allowed, or it repeats the number of the last call that had an effect on its cell.
+/// States that the server has to serve the call of each try that a running stream may make next, be it lost or not. The
+/// server is up, and the call is allowed, or it repeats the number of the last call that had an effect on its cell.
 pub fn tries_are_allowed()
     ensures { EachReached TriesAreAllowed }
 {
     answered_where_allowed();
 }
 
-/// A plan that was not checked has its call refused, in a worked play: so that no call of a checked one is refused says something.
+/// States that a plan that was not checked has its call refused, in a worked play. So it means something that no call
+/// of a checked one is refused.
 pub fn refusals_come()
     ensures { RefusalsCome }
 {}
 
-/// Where no call is lost, no stream has spent its allowance, and its tries are within its budget.
+/// States that if no call is lost, no stream has spent its allowance, and its tries are within its budget.
 pub fn unlost_is_unspent()
     ensures { UnlostIsUnspent }
 {}
 
-/// No step of a stream that was begun is Unknown.
+/// States that no step of a stream that was begun is Unknown.
 pub fn begun_is_known()
     ensures { BegunIsKnown }
 {}
 
-/// No number of a call has its effect twice, neither along one list of events nor along lists one after the other.
+/// States that no number of a call has its effect twice, neither along one list of events nor along lists one after the
+/// other.
 pub fn effects_once()
     ensures { EffectsOnce }
 {}
 
-/// A stream has had as many effects as there are calls among the instructions that it has made, with the one that has had its
-/// effect and was not answered.
+/// States that a stream has had one effect for each call among the instructions that it has made, and one more if a
+/// call has had its effect and was not answered.
 pub fn effects_are_counted()
     ensures { EachReached CountsEffects }
 {}
 
-/// Who executes a request is the one server that serves its shard.
+/// States that the server that executes a request is the one server that serves its shard.
 pub fn executed_serves()
     ensures { EachReached ExecutedServes }
 {}
 
-/// The recorded events and starts lead from the opening to the state, with the recorded answers. No pass is passed on twice,
-/// and what is passed on is an earlier pass, with its shard, sender, target and number.
+/// States that the recorded events and starts lead from the opening to the state, with the recorded answers. No pass is
+/// passed on twice, and what is passed on is an earlier pass, with its shard, sender, target and number.
 pub fn log_replays()
     ensures { EachReached IsLegal }
 {}
 
-/// Each ticket is spent by one answer at most.
+/// States that each ticket is spent by one answer at most.
 pub fn tickets_once()
     ensures { TicketsOnce }
 {}
 
-/// The published map is that of the opening, once the entries were added that the state has of publications; along those of a shard
-/// the versions rise by one.
+/// States that the published map is that of the opening with the entries added that the state has of publications.
+/// Along those of a shard the versions rise by one.
 pub fn map_follows_entries()
     ensures { EachReached FollowsEntries }
 {}
 
-/// An event that is not recorded and starts no plan changes nothing.
+/// States that an event that is not recorded and starts no plan changes nothing.
 pub fn unrecorded_changes_nothing()
     ensures { UnrecordedChangesNothing }
 {}
 
-/// Where all plans are done, the log has each stream's instructions in their order, each once, lost tries and refills aside,
-/// and then its end; and the placement is the end of the plans in the order of their starts, with servers down as the recorded
-/// restarts leave them, whatever the schedule was.
+/// States what is so once all plans are done. The log has each stream's instructions in their order, each once, lost
+/// tries and refills aside, and then its end. The placement is the end of the plans in the order of their starts, with
+/// servers down as the recorded restarts leave them, whatever the schedule was.
 pub fn ends_are_reached()
     ensures { EndsAreReached }
 {}
 
-/// A list of events that is played with a hand is the run of those for which the hand has something, and all others are Unknown.
+/// States that a list of events that is played with a hand is the run of those for which the hand has something. All
+/// others are Unknown.
 pub fn plays_are_runs()
     ensures { PlaysAreRuns }
 {}
 
-/// The headline, and the laws on lost calls, on the effects of calls, on requests and on tickets, of every list of events that fit.
+/// States the headline, and the laws on lost calls, on the effects of calls, on requests and on tickets, of every list
+/// of events that fit.
 pub fn runs_are_safe()
     ensures { RunsAreSafe }
 {}
 
-/// The headline, and the laws on lost calls, on the effects of calls, on requests and on tickets, of every list of events that is played with
-/// a hand of checked plans.
+/// States the headline, and the laws on lost calls, on the effects of calls, on requests and on tickets, of every list
+/// of events that is played with a hand of checked plans.
 pub fn plays_are_safe()
     ensures { PlaysAreSafe }
 {}
 
-/// Of the room of each server and the live replicas of each shard, what is free in the pool, what is held or under way, and
-/// what nobody may use are together what there is.
+/// States that all room of each server and all live replicas of each shard are accounted for: free in the pool, held or
+/// under way, or not to be used by anybody.
 pub fn room_is_conserved()
     ensures { EachReached IsConserved }
 {}
 
-/// Versions and numbers stay below 2^47, and the log within its room.
+/// States that versions and numbers stay below 2^47, and the log within its room.
 pub fn numbers_stay_small()
     ensures { EachReached IsSmall }
 {}

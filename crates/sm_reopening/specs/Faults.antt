@@ -1,6 +1,6 @@
--- What may be confirmed, and why other settlements may not.
--- `IsFairCell`, `IsFairSlot`, `IsFairAt`, `is_carried_up`, `IsTimely` and `moved_fault` are for private functions' contracts: whoever reads public
--- contracts need not read them.
+-- Settlements that may be confirmed, and why others may not.
+-- `IsFairCell`, `IsFairSlot`, `IsFairAt`, `is_carried_up`, `IsTimely` and `moved_fault` are internal: you need not read
+-- them for the public contracts.
 use Rattle.std.specs.Prelude.{◌≡◌, ◌≢◌, ◌<◌, ◌≤◌, ◌⊎◌, ◌&&◌, ℕ, Bool, true, false, not, Some, None, length, is_some}
 use Rattle.sm_server.specs.declared.call.Cell.{Cell}
 use Rattle.sm_server.specs.declared.call.Cell.TheVariants.{Absent, Primary}

@@ -1,4 +1,4 @@
--- What a reopening proposes to settle.
+-- The settlement that a reopening proposes.
 use Rattle.std.specs.Prelude.{◌≡◌, ℕ, ◌&&◌, ◌||◌, ◌==◌, Bool, true, false, not, Option, Some, None, is_none, is_some, nat_lt, if◌then◌else◌}
 use Rattle.sm_server.specs.declared.call.Cell.{Cell}
 use Rattle.sm_server.specs.declared.call.Cell.TheVariants.{Absent, Secondary, Primary}
@@ -29,7 +29,7 @@ abbrev pub has_told_part : Option FoundSlot → Bool
 has_told_part (Some slot) = has_part slot.cell
 has_told_part None = false
 
--- a role counts where the server has told that it is Unknown
+-- a role counts if the server has told that it is Unknown
 abbrev pub role_counted : OngoingReopening → Documented → ℕ → ℕ → Option Role
 role_counted x d s v = if is_some (nonce_of ((net_reopening x).told (Server v))) then d s v else None
 

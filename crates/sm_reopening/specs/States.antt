@@ -1,5 +1,5 @@
 -- The parties of a reopening: what they told, who is lost or left out, and the code's own lists of them.
--- `next_state` and `AreNextStates` are for private functions' contracts: whoever reads public contracts need not read them.
+-- `next_state` and `AreNextStates` are internal: you need not read them for the public contracts.
 use Rattle.std.specs.Prelude.{◌≡◌, ℕ, ◌&&◌, ◌||◌, Bool, true, false, Option, Some, None, List, length, is_some, nat_le, option_map, slice_index_or, if◌then◌else◌}
 use Rattle.sm_server.specs.declared.call.Cell.TheVariants.{Absent}
 use Rattle.sm_placement.specs.Layout.{place_of}

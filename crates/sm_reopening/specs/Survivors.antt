@@ -1,5 +1,5 @@
--- Who may inherit a shard: the survivors, by what they told or are recorded to have.
--- `slot_claim` is for private functions' contracts: whoever reads public contracts need not read it.
+-- The heirs of a shard: the survivors, by what they told or are recorded to have.
+-- `slot_claim` is internal: you need not read it for the public contracts.
 use Rattle.std.specs.Prelude.{◌≡◌, ◌<◌, ℕ, ◌&&◌, ◌||◌, ◌==◌, Bool, true, false, Option, Some, None, nat_lt}
 use Rattle.sm_network.specs.ReopeningLaws.{claim, claim_of}
 use Rattle.sm_reopening.specs.declared.ongoing.OngoingReopening.{OngoingReopening}
@@ -16,7 +16,7 @@ abbrev pub slot_claim : Option FoundSlot → ℕ
 slot_claim (Some slot) = claim slot.cell slot.reached
 slot_claim None = 0
 
--- The standing of a server for a shard. Of one that is carried over no position is known.
+-- The standing of a server for a shard. If it is carried over, no position is known.
 abbrev pub standing_of : OngoingReopening → ℕ → ℕ → Standing
 standing_of x s v = record { claim = claim_of (net_reopening x) (past_state x) s v; position = told_positions x s v }
 

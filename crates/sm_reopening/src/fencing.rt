@@ -10,7 +10,7 @@ use crate::ongoing::OngoingReopening;
 use crate::party::{Inventory, Membership};
 use sm_server::ServerId;
 
-/// What comes of an answer to a fence.
+/// The effect of an answer to a fence.
 #[derive(Clone, Copy, Debug, PartialEq, Eq)]
 pub enum FencedEffect {
     /// It is not the first answer of its party to this fence.

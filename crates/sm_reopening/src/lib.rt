@@ -1,5 +1,5 @@
-//! A reopening under way: a controller fences the servers and the owner of the published map, takes what each of them tells, proposes what
-//! may be settled, and settles all of them anew. It has no text and no handle.
+//! A reopening under way: a controller fences the servers and the owner of the published map, takes what each of them
+//! tells, proposes what may be settled, and settles all of them anew. It has no text and no handle.
 #![tactic(auto)]
 
 mod faults;

@@ -14,7 +14,7 @@ use std::alloc::{AllocError, Global};
 pub struct OngoingReopening {
     pub(crate) base: u64,
     pub(crate) shards: u32,
-    /// What is recorded of the epoch before, and which servers are down.
+    /// The record of the epoch before, with the servers that are down.
     pub(crate) past: Placement,
     pub(crate) servers: Vec<ServerState>,
     pub(crate) map_told: bool,

@@ -1,7 +1,7 @@
-//! Who takes part in a reopening, and what each tells.
+//! The parties of a reopening, and what each tells.
 use sm_server::{Cell, ServerId};
 
-/// Who is fenced and settled.
+/// A party that is fenced and settled.
 #[derive(Clone, Copy, Debug, PartialEq, Eq)]
 pub enum Party {
     Server(ServerId),
@@ -9,7 +9,7 @@ pub enum Party {
     MapOwner,
 }
 
-/// What the document of a reopening makes of a server.
+/// The part that the document of a reopening gives a server.
 #[derive(Clone, Copy, Debug, PartialEq, Eq)]
 pub enum Membership {
     /// The document has the server.
@@ -20,20 +20,20 @@ pub enum Membership {
     Lost,
 }
 
-/// What a server tells of one shard.
+/// A server's account of one shard.
 #[derive(Clone, Copy, Debug, PartialEq, Eq)]
 pub struct FoundSlot {
     pub cell: Cell,
-    /// How far the server has the shard's writes.
+    /// The position up to which the server has the shard's writes.
     pub position: u64,
     /// A prepared server has all writes up to the cut of its handover.
     pub reached: bool,
 }
 
-/// What a server tells once it is fenced.
+/// A server's account once it is fenced.
 #[derive(Debug, Drop)]
 pub enum Inventory {
-    /// What it has of each shard.
+    /// Its slots, of each shard.
     Slots(Vec<FoundSlot>),
     /// It has lost its slots, and asks for them under this nonce.
     Unknown { nonce: u64 },

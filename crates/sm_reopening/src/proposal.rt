@@ -1,4 +1,4 @@
-//! What is proposed to be settled.
+//! Proposals of what may be settled.
 ghost use Rattle.std.specs.Prelude.{◌≡◌, None, slice_index_or};
 ghost use Rattle.sm_placement.specs.Layout.{grid_of};
 ghost use Rattle.sm_placement.specs.Lead.{has_part};

@@ -10,7 +10,7 @@ use crate::party::{Inventory, Party};
 use sm_placement::Placement;
 use sm_server::ServerId;
 
-/// What is sent to a party once a settlement is confirmed, beside its part of the settlement.
+/// A message to a party once a settlement is confirmed, beside its part of the settlement.
 #[derive(Clone, Copy, Debug, PartialEq, Eq)]
 pub struct Settle {
     pub party: Party,
@@ -20,7 +20,7 @@ pub struct Settle {
     pub nonce: Option<u64>,
 }
 
-/// What comes of an answer to a settle.
+/// The effect of an answer to a settle.
 #[derive(Clone, Copy, Debug, PartialEq, Eq)]
 pub enum SettledEffect {
     /// It is not the first answer of its party to a settle of this reopening.

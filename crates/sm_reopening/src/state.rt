@@ -1,4 +1,4 @@
-//! What a reopening keeps of a server, and what was confirmed.
+//! The state that a reopening keeps of a server, and what was confirmed.
 use crate::party::{Inventory, Membership};
 use sm_placement::Placement;
 
@@ -14,7 +14,7 @@ pub(crate) struct ServerState {
     pub promised: bool,
 }
 
-/// What was confirmed.
+/// The settlement that was confirmed.
 #[derive(Drop)]
 pub(crate) struct Confirmed {
     pub placement: Placement,

@@ -1,4 +1,4 @@
-//! Who inherits a shard.
+//! Survivors: who inherits a shard.
 ghost use Rattle.std.specs.Prelude.{◌≡◌, ◌<◌, ◌^◌, ◌↔◌, IfSome};
 ghost use Rattle.sm_network.specs.ReopeningLaws.{claim};
 ghost use Rattle.sm_reopening.specs.States.{slot_in};
@@ -9,12 +9,12 @@ use crate::ongoing::OngoingReopening;
 use crate::party::{FoundSlot, Inventory};
 use sm_server::{Cell, ServerId, ShardId};
 
-/// How well a server may inherit a shard.
+/// The claim of a server to inherit a shard.
 #[derive(Clone, Copy, Debug, PartialEq, Eq)]
 pub struct Standing {
-    /// How good its claim is, 0 for none.
+    /// The rank of its claim, 0 for none.
     pub claim: u8,
-    /// Of equal claims, how far it has the shard's writes.
+    /// The position up to which it has the shard's writes, which decides between equal claims.
     pub position: u64,
 }
 
@@ -40,7 +40,7 @@ fn claim(cell: &Cell, reached: bool) -> u8
     }
 }
 
-/// Returns what is told of a shard.
+/// Returns what these slots tell of a shard.
 fn slot_in(slots: &[FoundSlot], shard: ShardId) -> FoundSlot
     ensures { result ≡ slot_in slots.now shard }
 {
@@ -65,7 +65,7 @@ fn claim_of_slot(slot: Option<FoundSlot>) -> u8
 }
 
 impl OngoingReopening {
-    /// Returns what a server has told of a shard; nothing if it has not answered, or is Unknown.
+    /// Returns what a server has told of a shard; None if it has not answered, or is Unknown.
     pub fn slot(&self, shard: ShardId, server: ServerId) -> Option<FoundSlot>
         ensures { result ≡ told_slot self.now shard server }
     {

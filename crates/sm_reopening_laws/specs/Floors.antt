@@ -39,7 +39,7 @@ AreUpKnown x s = (v : ℕ) → v < length s.setup.servers → (x.bases (Server v
 abbrev pub had_place : Settling → Settlement → Place
 had_place x s = record s.place { cells = x.world.net.cells }
 
--- No shard has fewer replicas than the floor of the settlement's opening; and once all have taken it, so many are live.
+-- No shard has fewer replicas than the floor of the settlement's opening; and once all have taken it, as many are live.
 pub record KeepsFloors (x : Settling) (s : Settlement) : Type 0 where
   pub under_way : (k : ℕ) → k < (sizes_of s.setup).shards → (sizes_of s.setup).floor k ≤ replicas x s k
   pub settled : x.reopening.settlement ≡ Some s → AllTook x.reopening → (k : ℕ) → k < (sizes_of s.setup).shards → (sizes_of s.setup).floor k ≤ live_at (sizes_of s.setup) (had_place x s) k

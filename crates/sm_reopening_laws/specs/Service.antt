@@ -10,14 +10,14 @@ pub use Rattle.sm_network.specs.Reopening.{Reopen, Settlement, Settling, Settlin
 pub use Rattle.sm_network.specs.ReopeningLaws.{AllTook, IsSettlingReached, MayReopen, SettlingFits}
 pub use Rattle.sm_network.specs.FleetReopening.{FleetCanReopen, IsFleetInForce, settling_of}
 
--- What there is at a moment.
+-- The service at a moment.
 pub data Service : Type 0 where
   -- a controller runs plans over a fleet of this configuration
   Runs : (setup : Setup) (fleet : Fleet) → Service
   -- a reopening is under way, which began over this fleet
   Reopens : (setup : Setup) (fleet : Fleet) (settling : Settling) → Service
 
--- What may happen, in any order and any number of times.
+-- The events that may happen, in any order and any number of times.
 pub data ServiceEvent : Type 0 where
   -- something happens to the fleet
   Goes : (event : FleetEvent) → ServiceEvent

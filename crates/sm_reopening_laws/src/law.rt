@@ -15,34 +15,38 @@ use sm_network::{
     shown_executes, some_fleet_can_go_on,
 };
 
-/// Until a settlement is confirmed no shard has fewer live replicas than the floor of the record that the reopening began over.
+/// States that until a settlement is confirmed no shard has fewer live replicas than the floor of the record that the
+/// reopening began over.
 pub fn floors_remain()
     ensures { EachSettling FloorsRemain }
 {}
 
-/// From the moment when a settlement is confirmed no shard has fewer replicas than the floor of the opening that comes of it.
+/// States that from the moment when a settlement is confirmed no shard has fewer replicas than the floor of the opening
+/// that comes of it.
 pub fn floors_stay()
     ensures { EachSettling FloorsStay }
 {
     opens_with_past();
 }
 
-/// If servers lose their slots only while they are down, and come up only with slots, no shard has fewer live replicas than its floor.
+/// States that no shard has fewer live replicas than its floor, if servers lose their slots only while they are down,
+/// and come up only with slots.
 pub fn rules_keep_floors()
     ensures { EachFleet RulesKeepFloors }
 {
     fleet_is_safe();
 }
 
-/// Wherever events lead, reopenings among them, the service is at a fleet of which all laws of the fleet hold, or in a reopening of which
-/// all laws of reopenings hold.
+/// States that wherever events lead, reopenings among them, the service is in one of two states: at a fleet of which
+/// all laws of the fleet hold, or in a reopening of which all laws of reopenings hold.
 pub fn laws_hold()
     ensures { EachService IsWithinLaws }
 {
     fleet_opens_in_force();
 }
 
-/// Once all parties of a reopening have taken its settlement, a controller can open on the fleet that comes of it.
+/// States that once all parties of a reopening have taken its settlement, a controller can open on the fleet that comes
+/// of it.
 pub fn can_open()
     ensures { EachService CanOpen }
 {
@@ -50,7 +54,7 @@ pub fn can_open()
     fleet_is_there();
 }
 
-/// Wherever events lead, reopenings among them, the service is safe.
+/// States that wherever events lead, reopenings among them, the service is safe.
 pub fn service_is_safe()
     ensures { EachService ServiceIsSafe }
 {
@@ -68,7 +72,7 @@ pub fn service_is_safe()
     shown_executes();
 }
 
-/// A permit ends at most one restart, over all epochs and reopenings.
+/// States that a permit ends at most one restart, over all epochs and reopenings.
 pub fn permit_ends_once()
     ensures { EachService PermitEndsOnce }
 {
@@ -76,14 +80,15 @@ pub fn permit_ends_once()
     permits_end_once();
 }
 
-/// No number has its effect twice on a cell, over all epochs, crashes, restores and reopenings.
+/// States that no number has its effect twice on a cell, over all epochs, crashes, restores and reopenings.
 pub fn order_acts_once()
     ensures { EachService OrderActsOnce }
 {
     fleet_opens_in_force();
 }
 
-/// Once a controller opens on what a reopening has settled, no order that was sent before has an effect any more.
+/// States that once a controller opens on what a reopening has settled, no order that was sent before has an effect any
+/// more.
 pub fn old_orders_rest()
     ensures { EachService OldOrdersRest }
 {

@@ -96,8 +96,9 @@ impl Driver {
         Driver::over(alloc, placement, log_room, journal, epoch, &[], &[])
     }
 
-    /// Opens a driver over the settled placement that a reopening has come to, in the reopening's epoch, whose base is the fence. Each
-    /// server that is down keeps its permit of an earlier epoch, or has a new one, and stays carried over if it is marked so.
+    /// Opens a driver over the settled placement that a reopening has come to, in the reopening's epoch, whose base is
+    /// the fence. Each server that is down keeps its permit of an earlier epoch, or has a new one, and stays carried
+    /// over if it is marked so.
     pub fn reopen(
         alloc: Global,
         placement: Placement,

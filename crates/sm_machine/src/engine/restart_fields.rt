@@ -17,7 +17,7 @@ use sm_server::ServerId;
 use sm_task_controller::{Approved, Denied, decide};
 
 impl Engine {
-    /// The server is known, and down.
+    /// Tells whether the server is known, and down.
     pub fn is_down(&self, server: ServerId) -> bool
         ensures down { result ≡ (state_of self.now).place.down server }
         ensures known { IsTrue result → server < (state_of self.now).sizes.servers }
@@ -26,7 +26,7 @@ impl Engine {
         server.number() < servers && self.placement.is_down(server)
     }
 
-    /// A server is up, and the spare replicas that are live at it are in the pool.
+    /// Brings a server up: the spare replicas that are live at it are in the pool again.
     pub fn bring_up(&mut self, server: ServerId)
         requires server { server < (state_of self.old).sizes.servers }
         requires fits { CanGetLive (whole_of self.old).pool (live_there (set_down (state_of self.old).place server false) server) (state_of self.old).sizes.shards }
@@ -36,7 +36,7 @@ impl Engine {
         get_live(&mut self.pool, &self.placement, server);
     }
 
-    /// A server is down, and the spare replicas that were live at it are out of the pool.
+    /// Takes a server down: the spare replicas that were live at it are out of the pool.
     pub fn take_down(&mut self, server: ServerId)
         requires server { server < (state_of self.old).sizes.servers }
         requires spare { CanPayLive (whole_of self.old).pool (live_there (state_of self.old).place server) (state_of self.old).sizes.shards }
@@ -46,14 +46,14 @@ impl Engine {
         self.placement.set_down(server);
     }
 
-    /// The unfinished plans, by their numbers, in the order of their starts.
+    /// Returns the unfinished plans, by their numbers, in the order of their starts.
     pub fn unfinished(&self) -> &[u32]
         ensures { result.now ≡ unfinished_below (whole_of self.now).unfinished (length (state_of self.now).plans) }
     {
         self.unfinished.as_slice()
     }
 
-    /// The lowest stream of a plan that engages a server.
+    /// Returns the lowest stream of a plan that engages a server.
     pub fn engaged_by(&self, plan: u32, server: ServerId) -> Option<StreamId>
         requires { plan < length (state_of self.now).plans }
         ensures { result ≡ engaged_by (state_of self.now) server plan }
@@ -61,7 +61,7 @@ impl Engine {
         self.plans.at(plan as usize).engaged(plan, server)
     }
 
-    /// Whether a server may be restarted now, as its lowest engaging stream is this one.
+    /// Tells whether a server may be restarted now, as its lowest engaging stream is this one.
     pub fn decide(&self, server: ServerId, engaged: Option<StreamId>) -> Result<Approved, Denied>
         requires server { server < (state_of self.now).sizes.servers }
         requires free { (whole_of self.now).free < 2 ^ 32 }
