@@ -1,4 +1,4 @@
-//! What a run begins with: a machine on which its plan has begun, and what a board over the machine needs.
+//! The beginning of a run: a machine on which its plan has begun, and what a board over the machine needs.
 ghost use Rattle.std.specs.Prelude.{◌≡◌, ◌≤◌, ◌+◌, ◌*◌, [], IfOk, IfErr, IsTrue, length, vec_len, vec_capacity};
 ghost use Rattle.sm_placement.specs.Setup.{sizes_of};
 ghost use Rattle.sm_placement.specs.Layout.{place_of};
@@ -27,14 +27,14 @@ pub(crate) struct Begun {
     ghost few: { length tokens.items ≤ MOST_STREAMS * length (state_of machine).plans },
 }
 
-/// The plan was checked for the placement's configuration.
+/// Tells whether the plan was checked for the placement's configuration.
 fn is_for(placement: &Placement, checked: &Checked) -> bool
     ensures { IsTrue result → checked.now.setup ≡ placement.now.setup }
 {
     checked.config() == placement.config()
 }
 
-/// What a run is answered whose plan does not begin.
+/// Returns the answer to a run whose plan does not begin.
 fn fault_of(why: &BeginFault) -> Fault {
     match why {
         BeginFault::NoMemory => Fault::NoMemory,
@@ -71,7 +71,7 @@ fn begun_on(
 }
 
 impl Begun {
-    /// Begins a checked plan on a machine that is opened at a placement, with a log of so many places.
+    /// Begins a checked plan on a machine that is opened at a placement, with a log of `places` places.
     pub fn at(
         alloc: Global,
         placement: Placement,
@@ -91,7 +91,7 @@ impl Begun {
         }
     }
 
-    /// The placement of the machine, which is given up with all that it has given out.
+    /// Returns the placement of the machine, which is given up with all that it has given out.
     pub fn give_up(self, alloc: Global) -> Placement
         ensures { result.setup ≡ self.machine.placement.setup }
     {
@@ -113,7 +113,7 @@ pub(crate) struct Prepared {
     pub base: Ground,
     /// An empty list with room for the tokens of all streams.
     pub room: Vec<StreamToken>,
-    /// How many may work beside the streams.
+    /// The greatest number of workers beside the streams.
     pub seats: usize,
     ghost map: { IsMapOf base.words (state_of begun.machine) },
     ghost setup: { base.setup ≡ begun.machine.placement.setup },
@@ -123,7 +123,8 @@ pub(crate) struct Prepared {
 }
 
 impl Prepared {
-    /// What has begun, with what a run beside so many workers needs memory for. Where memory is short, it comes back.
+    /// Takes the memory that a run beside `seats` workers needs for what has begun. If memory is short, that comes
+    /// back.
     pub fn new(alloc: Global, mut begun: Begun, seats: usize) -> Result<Prepared, Begun>
         ensures prepared { IfOk result (λ prepared. prepared.begun.machine ≡ begun.machine) }
         ensures back { IfErr result (λ back. back.machine ≡ begun.machine) }

@@ -24,7 +24,7 @@ impl<B: Ledger, C: Ledger, N: Naming> Seat<B, C, N> {
         Seat { caller, left: None }
     }
 
-    /// A worker works here, if there is one, and none has left a permit over.
+    /// Lets a worker work here, if there is one, and none has left a permit over.
     pub fn work<A: Ledger, W: Worker, R: Wait + Clock>(
         &mut self,
         rt: &R,
@@ -55,7 +55,7 @@ pub(crate) struct Crew<B: Ledger, C: Ledger, N: Naming> {
     ghost permits_room: { vec_len permits + vec_len seats ≤ vec_capacity permits },
 }
 
-/// Adds as many seats to a list as the board has callers for, so many at most.
+/// Adds a seat to a list for each caller that the board has, up to the given number.
 fn add_seats<A: Ledger, B: Ledger, C: Ledger, N: Naming, R: Wait>(
     rt: &R,
     board: &Board<A, B, C, N>,
@@ -74,8 +74,8 @@ fn add_seats<A: Ledger, B: Ledger, C: Ledger, N: Naming, R: Wait>(
 }
 
 impl<B: Ledger, C: Ledger, N: Naming> Crew<B, C, N> {
-    /// As many seats at a board as it has callers for, so many at most, beside permits that were given out already and come back where memory is
-    /// short.
+    /// Makes a seat at a board for each caller that it has, up to `count`, beside permits that were given out already
+    /// and come back if memory is short.
     pub fn new<A: Ledger, R: Wait>(
         rt: &R,
         alloc: Global,
@@ -104,7 +104,7 @@ impl<B: Ledger, C: Ledger, N: Naming> Crew<B, C, N> {
         })
     }
 
-    /// All callers, and the permits with those that workers have left over.
+    /// Returns all callers, and the permits with those that workers have left over.
     pub fn into_parts(self) -> (Vec<Caller<B, C, N>>, Vec<Permit>)
         ensures callers { vec_len result.0 ≡ vec_len self.callers + vec_len self.seats }
         ensures permits { vec_len self.permits ≤ vec_len result.1 }

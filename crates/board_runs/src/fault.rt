@@ -16,7 +16,7 @@ pub enum Fault {
     /// A thread could not be started, or the board had no caller for it.
     #[error("a thread could not be started")]
     NoThread,
-    /// Not each stream has made its end.
+    /// Some stream has not finished.
     #[error("a stream has not made its end")]
     NotEnded,
     /// The board was not closed.

@@ -22,7 +22,8 @@ use std::sync::Wait;
 use std::sync::ledger::Ledger;
 use std::thread::Threads;
 
-/// Runs the streams of a board beside workers, and closes the board. An end of the run only where each worker has started.
+/// Runs the streams of a board beside workers, and closes the board. The answer is an end of the run only if each
+/// worker has started.
 fn run_on_stage<
     A: Ledger + Send + Sync,
     B: Ledger + Send + Sync,
@@ -99,9 +100,9 @@ fn run_begun<W: Worker + Sync, R: Threads + Wait + Clock + Sync, G: Gate + Sync>
     }
 }
 
-/// Runs a checked plan beside workers, each in a thread of its own: it begins on a machine that is opened at a placement, with a log of so
-/// many places, and runs on a board over the machine. Answers the placement at which the board is closed, once all streams have made
-/// their ends and all workers are done.
+/// Runs a checked plan beside workers, each in a thread of its own. The plan begins on a machine that is opened at a
+/// placement, with a log of `places` places, and runs on a board over the machine. Returns the placement at which the
+/// board is closed, once all streams have finished and all workers are done.
 pub fn run_at<W: Worker + Sync, R: Threads + Wait + Clock + Sync, G: Gate + Sync>(
     rt: &R,
     alloc: Global,

@@ -26,7 +26,8 @@ pub(crate) struct Stage<A: Ledger, B: Ledger, C: Ledger, N: Naming> {
     pub crew: Crew<B, C, N>,
 }
 
-/// The placement of a board that is not closed, which is given up with all that it and its machine have given out.
+/// Returns the placement of a board that is not closed, which is given up with all that it and its machine have given
+/// out.
 fn given_up<A: Ledger, B: Ledger, C: Ledger, N: Naming>(
     alloc: Global,
     refused: NotClosed<A, B, C, N>,
@@ -41,7 +42,7 @@ fn given_up<A: Ledger, B: Ledger, C: Ledger, N: Naming>(
 }
 
 impl<A: Ledger, B: Ledger, C: Ledger, N: Naming> Stage<A, B, C, N> {
-    /// A board with its streams, and so many seats at it.
+    /// Sets a board up with its streams, and with this many seats at it.
     fn with_seats<R: Wait>(
         rt: &R,
         alloc: Global,

@@ -23,7 +23,7 @@ pub(crate) struct Streams<A: Ledger> {
     ghost roomy: { vec_len tokens + vec_len runners ≤ vec_capacity tokens },
 }
 
-/// What a run is answered whose streams have not made their ends.
+/// Returns the answer to a run whose streams have not finished.
 fn fault_of(why: RunFault) -> Fault {
     match why {
         RunFault::NoMemory => Fault::NoMemory,
@@ -49,7 +49,7 @@ impl<A: Ledger> Streams<A> {
         }
     }
 
-    /// Keeps the ends of streams, where there are none yet, and how the run came out.
+    /// Keeps the ends of streams, if there are none yet, and how the run came out.
     fn keep(&mut self, ended: Vec<Ended<A>>, ran: Result<(), Fault>)
         requires { vec_len self.old.ended ≡ 0 }
         ensures kept { (self.new.ended ≡ ended) × (self.new.ran ≡ ran) }
@@ -77,7 +77,7 @@ impl<A: Ledger> Streams<A> {
         self.keep(ended, Err(fault_of(fault)));
     }
 
-    /// Its runners, of which it has none then.
+    /// Takes its runners out.
     fn take_runners(&mut self, alloc: Global) -> Vec<Runner<A>>
         ensures none { vec_len self.new.runners ≡ 0 }
         ensures room { vec_len self.new.tokens + vec_len result ≤ vec_capacity self.new.tokens }
@@ -87,7 +87,7 @@ impl<A: Ledger> Streams<A> {
         mem::replace(&mut self.runners, Vec::new(alloc))
     }
 
-    /// Runs the streams, where they have not run yet. There are as many runners, ends and tokens together as before.
+    /// Runs the streams, if they have not run yet. There are as many runners, ends and tokens together as before.
     pub fn run<
         B: Ledger + Send + Sync,
         C: Ledger + Send + Sync,
@@ -109,14 +109,14 @@ impl<A: Ledger> Streams<A> {
         }
     }
 
-    /// Whether they ran to their ends.
+    /// Tells whether they ran to their ends.
     pub fn ran(&self) -> Result<(), Fault>
         ensures { result ≡ self.now.ran }
     {
         self.ran
     }
 
-    /// The ends, and the tokens of the streams that came to none.
+    /// Returns the ends, and the tokens of the streams that came to none.
     pub fn into_parts(self) -> (Vec<Ended<A>>, Vec<StreamToken>)
         ensures ended { result.0 ≡ self.ended }
         ensures tokens { result.1.items ≡ self.tokens.items ++ streams_run self.runners.items }

@@ -1,4 +1,4 @@
-//! Who works beside the streams of a run.
+//! Workers beside the streams of a run.
 use crate::finish::Finish;
 use sm_executor::{Board, Caller, Naming};
 use sm_machine::Permit;
@@ -6,10 +6,10 @@ use std::rt::Clock;
 use std::sync::Wait;
 use std::sync::ledger::Ledger;
 
-/// What a thread beside the streams of a run does.
+/// The work of a thread beside the streams of a run.
 pub trait Worker {
-    /// Works at a board, whose configuration has as many shards and servers as its map. Answers the permit of a restart that has not
-    /// ended, if there is one.
+    /// Works at a board whose configuration has the numbers of shards and servers of its map. Returns the permit of a
+    /// restart that has not ended, if there is one.
     fn work<A: Ledger, B: Ledger, C: Ledger, N: Naming, R: Wait + Clock>(
         &self,
         rt: &R,

@@ -1,10 +1,10 @@
-//! What a stream does.
+//! The code of streams.
 use crate::layout::{Shape, primary_of, secondary_of};
 use sm_plan_code::Instr;
 use sm_server::{Role, ServerId, ShardId};
 use std::alloc::{AllocError, Global};
 
-/// The stream so many behind another one, where the last is followed by the first.
+/// Returns the stream that comes `by` behind another one, if the last is followed by the first.
 pub(crate) fn behind(shape: &Shape, stream: u32, by: u32) -> u32 {
     stream.wrapping_add(by) % shape.streams.max(1)
 }
@@ -36,7 +36,7 @@ fn push_handover(
     Ok(())
 }
 
-/// Adds a turn with a shard, whose primary was moved so often and is moved so many times more.
+/// Adds a turn with a shard, whose primary was moved `moved` times before and is moved `more` times now.
 fn push_turn(code: &mut Vec<Instr>, shard: u32, moved: u64, more: u32) -> Result<(), AllocError> {
     for number in 0..more {
         let before = moved.wrapping_add(u64::from(number));
@@ -47,8 +47,8 @@ fn push_turn(code: &mut Vec<Instr>, shard: u32, moved: u64, more: u32) -> Result
     Ok(())
 }
 
-/// Adds that a shard is taken out of the published map and written into it again, and that its rights are given away by a signal
-/// and those of another one are awaited.
+/// Adds an exchange: a shard is taken out of the published map and written into it again, its rights are given away by
+/// a signal, and those of another one are awaited.
 fn push_exchange(
     code: &mut Vec<Instr>,
     shard: u32,
@@ -63,8 +63,8 @@ fn push_exchange(
     Ok(())
 }
 
-/// Adds the instructions of a stream: a turn with its own shard, one with that of the next stream and one with that of the stream
-/// after it, which gets a secondary at last.
+/// Adds the instructions of a stream: a turn with its own shard, one with that of the next stream and one with that of
+/// the stream after it, which gets a secondary at last.
 fn push_code(code: &mut Vec<Instr>, shape: &Shape, stream: u32) -> Result<(), AllocError> {
     let (next, last) = (behind(shape, stream, 1), behind(shape, stream, 2));
     let (first, second) = (u64::from(shape.first), u64::from(shape.second));
@@ -85,7 +85,7 @@ fn push_code(code: &mut Vec<Instr>, shape: &Shape, stream: u32) -> Result<(), Al
     Ok(())
 }
 
-/// The instructions of a stream.
+/// Returns the instructions of a stream.
 pub(crate) fn code_of(alloc: Global, shape: &Shape, stream: u32) -> Result<Vec<Instr>, AllocError> {
     let mut code = Vec::new(alloc);
     push_code(&mut code, shape, stream)?;

@@ -7,7 +7,7 @@ use sm_placement::{Config, OpenFault, Placement, Server, Shard};
 use sm_server::{Cell, ServerId, ShardId};
 use std::alloc::{AllocError, Global};
 
-/// How many streams a plan has, and how often a stream hands a primary over in each of its three turns.
+/// The number of streams of a plan, and how often a stream hands a primary over in each of its three turns.
 #[derive(Clone, Copy, Debug, PartialEq, Eq)]
 pub struct Shape {
     pub streams: u32,
@@ -16,16 +16,16 @@ pub struct Shape {
     pub third: u32,
 }
 
-/// How many servers there are.
+/// The number of servers.
 pub const SERVERS: u32 = 64;
 
-/// How many shards there are beside one for each stream. No plan touches them, nor the servers that they stand at.
+/// The number of shards beside one for each stream. No plan touches them, nor the servers that they stand at.
 pub const RESTING: u32 = 16;
 
-/// How many servers the first, the second and the third places of shards are spread over, each.
+/// The number of servers over which the first, the second and the third places of shards are spread, each.
 const SPREAD: u32 = 16;
 
-/// The server that has the primary of a stream's shard, after so many moves.
+/// Returns the server that has the primary of a stream's shard, after `moved` moves.
 pub(crate) const fn primary_of(shard: u32, moved: u64) -> ServerId {
     if moved.is_multiple_of(2) {
         ServerId::new(shard % SPREAD)
@@ -34,12 +34,12 @@ pub(crate) const fn primary_of(shard: u32, moved: u64) -> ServerId {
     }
 }
 
-/// The server that gets a secondary of a stream's shard.
+/// Returns the server that gets a secondary of a stream's shard.
 pub(crate) const fn secondary_of(shard: u32) -> ServerId {
     ServerId::new(2 * SPREAD + shard % SPREAD)
 }
 
-/// How often the primary of each stream's shard is moved in all.
+/// Returns how often the primary of each stream's shard is moved in all.
 pub(crate) const fn moves_of(shape: &Shape) -> u64
     ensures small { result < 2 ^ 34 }
     ensures sum { result ≡ shape.now.first + shape.now.second + shape.now.third }
@@ -47,14 +47,14 @@ pub(crate) const fn moves_of(shape: &Shape) -> u64
     shape.first as u64 + shape.second as u64 + shape.third as u64
 }
 
-/// How often each stream's shard is published in all: behind each move, and twice at each of two exchanges.
+/// Returns how often each stream's shard is published in all: behind each move, and twice at each of two exchanges.
 pub const fn publications_of(shape: &Shape) -> u64
     ensures { result ≡ shape.now.first + shape.now.second + shape.now.third + 4 }
 {
     moves_of(shape) + 4
 }
 
-/// A server.
+/// Returns a server.
 fn server_of(alloc: Global, number: u32) -> Result<Server, AllocError> {
     let name = format!(in alloc; "server-{number}")?;
     Ok(Server {
@@ -64,7 +64,7 @@ fn server_of(alloc: Global, number: u32) -> Result<Server, AllocError> {
     })
 }
 
-/// The servers.
+/// Returns the servers.
 fn servers_of(alloc: Global) -> Result<Vec<Server>, AllocError> {
     let mut servers = Vec::new(alloc);
     for number in 0..SERVERS {
@@ -105,7 +105,7 @@ fn push_resting_shards(alloc: Global, shards: &mut Vec<Shard>) -> Result<(), All
     Ok(())
 }
 
-/// The shards.
+/// Returns the shards.
 fn shards_of(alloc: Global, shape: &Shape) -> Result<Vec<Shard>, AllocError> {
     let mut shards = Vec::new(alloc);
     push_moved_shards(alloc, &mut shards, shape)?;
@@ -113,14 +113,14 @@ fn shards_of(alloc: Global, shape: &Shape) -> Result<Vec<Shard>, AllocError> {
     Ok(shards)
 }
 
-/// The configuration.
+/// Returns the configuration.
 pub fn config_of(alloc: Global, shape: &Shape) -> Result<Config, Fault> {
     let servers = servers_of(alloc)?;
     let shards = shards_of(alloc, shape)?;
     Ok(Config::new(alloc, &servers, &shards)?)
 }
 
-/// What stands where, and what the published map lists for each shard.
+/// The cells, and what the published map lists for each shard.
 struct Rows {
     cells: Vec<(ShardId, ServerId, Cell)>,
     listed: Vec<Option<ServerId>>,
@@ -142,7 +142,7 @@ impl Rows {
         }
     }
 
-    /// Adds the rows of the streams' shards, whose primaries were moved so often.
+    /// Adds the rows of the streams' shards, whose primaries were moved `moved` times.
     fn push_moved(&mut self, shape: &Shape, moved: u64) -> Result<(), AllocError> {
         for number in 0..shape.streams {
             let server = primary_of(number, moved);
@@ -189,7 +189,7 @@ impl Rows {
         self.push_resting(shape)
     }
 
-    /// The placement with these rows. One server may be down at a time.
+    /// Returns the placement with these rows. One server may be down at a time.
     fn placed(&self, alloc: Global, config: &Config) -> Result<Placement, OpenFault>
         ensures setup { IfOk result (λ placement. placement.setup ≡ config.now) }
         ensures limit { IfOk result (λ placement. (place_of placement).limit ≡ 1) }
@@ -199,7 +199,7 @@ impl Rows {
     }
 }
 
-/// The placement that a plan of this shape starts at. One server may be down at a time.
+/// Returns the placement that a plan of this shape starts at. One server may be down at a time.
 pub fn placement_before(alloc: Global, config: &Config, shape: &Shape) -> Result<Placement, Fault>
     ensures setup { IfOk result (λ placement. placement.setup ≡ config.now) }
     ensures limit { IfOk result (λ placement. (place_of placement).limit ≡ 1) }
@@ -209,7 +209,8 @@ pub fn placement_before(alloc: Global, config: &Config, shape: &Shape) -> Result
     Ok(rows.placed(alloc, config)?)
 }
 
-/// The placement that a plan of this shape ends at, but for the versions of the published map (`publications_of`).
+/// Returns the placement that a plan of this shape ends at, but for the versions of the published map
+/// (`publications_of`).
 pub fn placement_after(alloc: Global, config: &Config, shape: &Shape) -> Result<Placement, Fault>
     ensures setup { IfOk result (λ placement. placement.setup ≡ config.now) }
     ensures limit { IfOk result (λ placement. (place_of placement).limit ≡ 1) }

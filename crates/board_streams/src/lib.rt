@@ -1,9 +1,9 @@
-//! Plans of many streams that hand shards on to each other, and the placements before them and after them: for programs that try or
-//! time a board.
+//! Plans of many streams that hand shards on to each other, and the placements before them and after them: for programs
+//! that try or time a board.
 //!
-//! Each stream moves the primary of a shard of its own to and fro, and then gives the shard's rights to its neighbour by a signal,
-//! gets those of its other neighbour's shard, and goes on with that one. So the placement at the end is one whatever the
-//! schedule was.
+//! Each stream moves the primary of a shard of its own to and fro. It then gives the shard's rights to its neighbour by
+//! a signal, gets those of its other neighbour's shard, and goes on with that one. So the placement at the end is one
+//! whatever the schedule was.
 #![tactic(auto)]
 
 mod code;

@@ -11,7 +11,7 @@ use sm_server::ShardId;
 use sm_verifier::{Checked, check};
 use std::alloc::{AllocError, Global};
 
-/// No rights.
+/// Returns no rights.
 fn no_rights(alloc: Global) -> Lists {
     Lists {
         cells: Vec::new(alloc),
@@ -21,7 +21,7 @@ fn no_rights(alloc: Global) -> Lists {
     }
 }
 
-/// Adds the rights to go on with a shard whose primary was moved so often.
+/// Adds the rights to go on with a shard whose primary was moved `moved` times.
 fn push_rights(lists: &mut Lists, shard: u32, moved: u64) -> Result<(), AllocError> {
     let at = primary_of(shard, moved);
     let server = primary_of(shard, moved.wrapping_add(1));
@@ -52,14 +52,14 @@ fn push_secondary(lists: &mut Lists, shard: u32) -> Result<(), AllocError> {
     Ok(())
 }
 
-/// The rights to go on with a shard whose primary was moved so often.
+/// Returns the rights to go on with a shard whose primary was moved `moved` times.
 fn rights_of(alloc: Global, shard: u32, moved: u64) -> Result<Parcel, Fault> {
     let mut lists = no_rights(alloc);
     push_rights(&mut lists, shard, moved)?;
     Ok(Parcel::new(alloc, lists)?)
 }
 
-/// What a stream holds at its start: the rights to go on with its shard, and to add the secondary.
+/// Returns what a stream holds at its start: the rights to go on with its shard, and to add the secondary.
 fn holds_of(alloc: Global, shape: &Shape, stream: u32) -> Result<Parcel, Fault> {
     let mut lists = no_rights(alloc);
     push_rights(&mut lists, stream, 0)?;
@@ -67,18 +67,18 @@ fn holds_of(alloc: Global, shape: &Shape, stream: u32) -> Result<Parcel, Fault> 
     Ok(Parcel::new(alloc, lists)?)
 }
 
-/// How many calls a stream makes, where that is within the limit of a plan.
+/// Returns the number of calls of a stream, if that is within the limit of a plan.
 fn calls_of(shape: &Shape) -> u32 {
     (4 * moves_of(shape) + 1).min(u64::from(MOST_CALLS)) as u32
 }
 
-/// How many calls all streams make, where that is within the limit of a plan.
+/// Returns the number of calls of all streams, if that is within the limit of a plan.
 fn budget_of(shape: &Shape) -> u32 {
     let calls = u64::from(calls_of(shape)) * u64::from(shape.streams);
     calls.min(u64::from(MOST_CALLS)) as u32
 }
 
-/// A stream.
+/// Returns a stream.
 fn stream_of(alloc: Global, shape: &Shape, stream: u32) -> Result<Stream, Fault> {
     let holds = holds_of(alloc, shape, stream)?;
     Ok(Stream {
@@ -89,7 +89,7 @@ fn stream_of(alloc: Global, shape: &Shape, stream: u32) -> Result<Stream, Fault>
     })
 }
 
-/// The streams.
+/// Returns the streams.
 fn streams_of(alloc: Global, shape: &Shape) -> Result<Vec<Stream>, Fault> {
     let mut streams = Vec::new(alloc);
     for stream in 0..shape.streams {
@@ -98,7 +98,8 @@ fn streams_of(alloc: Global, shape: &Shape) -> Result<Vec<Stream>, Fault> {
     Ok(streams)
 }
 
-/// Adds for each stream the rights to go on with the shard of the stream so far behind it, whose primary was moved so often.
+/// Adds, for each stream, the rights to go on with the shard of the stream that comes `by` behind it, whose primary was
+/// moved `moved` times.
 fn push_signals(
     alloc: Global,
     signals: &mut Vec<Parcel>,
@@ -112,7 +113,7 @@ fn push_signals(
     Ok(())
 }
 
-/// What the signals carry: those behind the first turns, and those behind the second ones.
+/// Returns what the signals carry: those behind the first turns, and those behind the second ones.
 fn signals_of(alloc: Global, shape: &Shape) -> Result<Vec<Parcel>, Fault> {
     let (first, second) = (u64::from(shape.first), u64::from(shape.second));
     let mut signals = Vec::new(alloc);
@@ -121,7 +122,7 @@ fn signals_of(alloc: Global, shape: &Shape) -> Result<Vec<Parcel>, Fault> {
     Ok(signals)
 }
 
-/// The parts of the plan of a shape.
+/// Returns the parts of the plan of a shape.
 fn parts_of(alloc: Global, shape: &Shape) -> Result<Parts, Fault> {
     let streams = streams_of(alloc, shape)?;
     Ok(Parts {
@@ -131,7 +132,7 @@ fn parts_of(alloc: Global, shape: &Shape) -> Result<Parts, Fault> {
     })
 }
 
-/// A plan, checked for the configuration.
+/// Returns a plan, checked for the configuration.
 fn checked(alloc: Global, config: &Config, plan: Plan) -> Result<Checked, Fault>
     ensures { IfOk result (λ checked. checked.setup ≡ config.now) }
 {
@@ -144,7 +145,7 @@ fn checked(alloc: Global, config: &Config, plan: Plan) -> Result<Checked, Fault>
     }
 }
 
-/// The plan of a shape, checked for the configuration.
+/// Returns the plan of a shape, checked for the configuration.
 pub fn plan_of(alloc: Global, config: &Config, shape: &Shape) -> Result<Checked, Fault>
     ensures { IfOk result (λ checked. checked.setup ≡ config.now) }
 {

@@ -1,7 +1,7 @@
 //! JSON as a tree that borrows its text.
 //!
-//! What a text reads as is what `serde_json` reads of it. Its strings are not copied, but for those with escapes, and an object is a list of its
-//! members.
+//! A text reads as what `serde_json` reads of it. Its strings are not copied, but for those with escapes, and an object
+//! is a list of its members.
 #![tactic(auto)]
 
 mod number;

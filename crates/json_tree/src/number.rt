@@ -6,7 +6,7 @@ ghost use Rattle.serde_json.specs.View.{number_view};
 use fast_float::Numeral;
 use serde_json::Number;
 
-/// The number of a token, where it is in range.
+/// Returns the number of a token, if it is in range.
 pub(crate) fn number_of(text: &str) -> Option<Number>
     ensures { option_map number_view result ≡ number_of text.now }
 {

@@ -12,7 +12,7 @@ use json::{Invalid, Reader, Scratch, Token};
 use std::alloc::{AllocError, Global};
 use thiserror::Error;
 
-/// How deep arrays and objects may nest.
+/// The greatest depth to which arrays and objects may nest.
 pub const MAX_DEPTH: usize = 127;
 
 /// Why a text was not read.
@@ -61,7 +61,7 @@ impl<'a> Tree<'a> {
     }
 }
 
-/// The next value of the reader, in which arrays and objects nest at most `depth` deep.
+/// Returns the next value of the reader, in which arrays and objects nest at most `depth` deep.
 #[cycle(read)]
 #[inline(always)]
 pub fn read_value<'a>(
@@ -88,7 +88,7 @@ pub fn read_value<'a>(
     }
 }
 
-/// The entries of an array, to its end.
+/// Returns the entries of an array, to its end.
 #[cycle(read)]
 #[inline(never)]
 fn read_items<'a>(
@@ -111,7 +111,7 @@ fn read_items<'a>(
     Ok(found)
 }
 
-/// The members of an object, to its end.
+/// Returns the members of an object, to its end.
 #[cycle(read)]
 #[inline(never)]
 fn read_members<'a>(

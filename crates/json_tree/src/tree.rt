@@ -27,28 +27,28 @@ impl Drop for Tree<'_> {
 }
 
 impl<'a> Tree<'a> {
-    /// This is `null`.
+    /// Tells whether this is `null`.
     pub fn is_null(&self) -> bool
         ensures { result ≡ is_some (as_null (view self.now)) }
     {
         matches!(self, Tree::Null)
     }
 
-    /// This is a number.
+    /// Tells whether this is a number.
     pub fn is_number(&self) -> bool
         ensures { result ≡ is_some (as_number (view self.now)) }
     {
         matches!(self, Tree::Number(_))
     }
 
-    /// This is an object.
+    /// Tells whether this is an object.
     pub fn is_object(&self) -> bool
         ensures { result ≡ is_some (as_object (view self.now)) }
     {
         matches!(self, Tree::Object(_))
     }
 
-    /// The flag that this is, where it is true or false.
+    /// Returns the flag that this is, if it is true or false.
     pub fn as_bool(&self) -> Option<bool>
         ensures { result ≡ as_bool (view self.now) }
     {
@@ -58,7 +58,7 @@ impl<'a> Tree<'a> {
         }
     }
 
-    /// The number that this is, where it is written as a whole one from 0 on, below 2^64.
+    /// Returns the number that this is, if it is written as a whole one from 0 on, below 2^64.
     pub fn as_u64(&self) -> Option<u64>
         ensures { result ≡ option_and_then as_u64 (as_number (view self.now)) }
     {
@@ -68,7 +68,7 @@ impl<'a> Tree<'a> {
         }
     }
 
-    /// The text that this is, where it is one.
+    /// Returns the text that this is if it is one.
     pub fn as_str(&self) -> Option<&'a str>
         ensures { option_map (λ s. s.now) result ≡ as_str (view self.now) }
     {
@@ -78,7 +78,7 @@ impl<'a> Tree<'a> {
         }
     }
 
-    /// The entries of this, where it is an array.
+    /// Returns the entries of this, if it is an array.
     pub fn as_array(&self) -> Option<&[Tree<'a>]>
         ensures { option_map (λ items. items_view items.now) result ≡ as_array (view self.now) }
     {
@@ -88,7 +88,7 @@ impl<'a> Tree<'a> {
         }
     }
 
-    /// The members of this, where it is an object.
+    /// Returns the members of this, if it is an object.
     pub fn as_object(&self) -> Option<&[(&'a str, Tree<'a>)]>
         ensures { option_map (λ members. members_view members.now) result ≡ as_object (view self.now) }
     {
@@ -98,7 +98,7 @@ impl<'a> Tree<'a> {
         }
     }
 
-    /// The member of that name, where this is an object: the last, where it has more than one.
+    /// Returns the member of that name, if this is an object: the last, if it has more than one.
     pub fn get(&self, name: &str) -> Option<&Tree<'a>>
         ensures { option_map (λ tree. view tree.now) result ≡ get name.now (view self.now) }
     {
@@ -109,7 +109,7 @@ impl<'a> Tree<'a> {
     }
 }
 
-/// The value of the last member of that name.
+/// Returns the value of the last member of that name.
 pub fn find_member<'t, 'a>(members: &'t [(&'a str, Tree<'a>)], name: &str) -> Option<&'t Tree<'a>>
     ensures { option_map (λ tree. view tree.now) result ≡ get_member name.now (members_view members.now) }
 {

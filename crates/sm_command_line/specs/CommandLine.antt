@@ -1,5 +1,5 @@
 -- The command line: which words name a command, and what is said of other words.
--- `TellsKind` is a step of the code's own way, which private functions' contracts cite: whoever reads the public ones need not read it.
+-- `TellsKind` is internal: you need not read it for the public contracts.
 use Rattle.std.specs.Prelude.{◌≡◌, ◌≢◌, ◌⊎◌, ℕ, true, List, [], ◌∷◌, Option, Some, None, if◌then◌else◌, codes, option_map}
 use Rattle.std.specs.Str.{bytes_eq}
 use Rattle.clap.specs.Words.{App, new_app, with_subcommand}
@@ -43,13 +43,13 @@ first_words =
 abbrev pub program : App
 program = with_subcommand (with_subcommand (with_subcommand first_words (new_app (codes "play")).top) (new_app (codes "plan")).top) (new_app (codes "run")).top
 
--- what is said of an error of this kind: help where help was asked for, unless memory ran out
+-- what is said of an error of this kind: help if help was asked for, unless memory ran out
 abbrev pub TellsKind : LineFault → ErrorKind → Type 0
 TellsKind NoMemory k = Unit {0}
 TellsKind (Help text) k = k ≡ kind.DisplayHelp
 TellsKind (Bad text) k = (k ≢ kind.DisplayHelp) × (k ≢ kind.OutOfMemory)
 
--- what is said of words at which these kinds of error may come, where there may be none at words that name no command
+-- what is said of words at which these kinds of error may come, if there may be none at words that name no command
 abbrev pub Tells : LineFault → Kinds → Type 0
 Tells NoMemory kinds = Unit {0}
 Tells (Help text) kinds = IsAmong kind.DisplayHelp kinds

@@ -1,4 +1,4 @@
--- What the program writes, by the word of its command line.
+-- The texts that the program writes, by the word of its command line.
 use Rattle.std.specs.Prelude.{ℕ, List, Option}
 use Rattle.sm_report.specs.declared.limits.TheConstants.{MOST_BYTES}
 use Rattle.sm_command_line.specs.declared.words.Word.{Word}

@@ -10,7 +10,7 @@ use sm_report::Command;
 use std::alloc::{AllocError, Global};
 use thiserror::Error;
 
-/// What the words after the program's name ask for.
+/// The thing that the words after the program's name ask for.
 #[derive(Clone, Copy, Debug, PartialEq, Eq)]
 pub enum Word {
     Report(Command),
@@ -31,7 +31,7 @@ pub enum LineFault {
     Bad { text: String },
 }
 
-/// The words for calls and for checks.
+/// Returns the words for calls and for checks.
 fn first_words<'a>(alloc: Global) -> Result<Parser<'a>, AllocError>
     ensures { IfOk result (λ p. app_of p ≡ first_words) }
 {
@@ -52,7 +52,7 @@ fn first_words<'a>(alloc: Global) -> Result<Parser<'a>, AllocError>
         .subcommand(check)
 }
 
-/// The command line: one word, the name of a command.
+/// Describes the command line: one word, the name of a command.
 fn parser<'a>(alloc: Global) -> Result<Parser<'a>, AllocError>
     ensures { IfOk result (λ p. app_of p ≡ program) }
 {
@@ -71,7 +71,7 @@ fn parser<'a>(alloc: Global) -> Result<Parser<'a>, AllocError>
         .subcommand(run)
 }
 
-/// What an error of the command line tells.
+/// Returns the text of an error of the command line.
 fn fault_in(alloc: Global, error: &ParserError) -> LineFault
     ensures { TellsKind result (kind_of error.now) }
 {
@@ -85,7 +85,7 @@ fn fault_in(alloc: Global, error: &ParserError) -> LineFault
     }
 }
 
-/// The command with this name.
+/// Returns the command with this name.
 fn command_named(name: &str) -> Option<Command>
     ensures { result ≡ command_named name.now }
 {
@@ -102,7 +102,7 @@ fn command_named(name: &str) -> Option<Command>
     }
 }
 
-/// What a word asks for, where it is the name of a command.
+/// Returns what a word asks for, if it is the name of a command.
 fn word_named(word: &str) -> Option<Word>
     ensures { result ≡ word_named word.now }
 {
@@ -113,7 +113,7 @@ fn word_named(word: &str) -> Option<Word>
     }
 }
 
-/// What the words ask for, where they are the name of a command and nothing else.
+/// Returns what the words ask for, if they are the name of a command and nothing else.
 fn asked_for(words: &[&str]) -> Option<Word>
     ensures { result ≡ asked_for (texts words.now) }
 {
@@ -123,7 +123,7 @@ fn asked_for(words: &[&str]) -> Option<Word>
     }
 }
 
-/// What the words after the program's name ask for.
+/// Returns what the words after the program's name ask for.
 ///
 /// The texts of help and of faults are `clap`'s.
 pub fn command_of(alloc: Global, words: &[&str]) -> Result<Word, LineFault>

@@ -1,4 +1,4 @@
--- What the board answers. What lies behind the lock then has no name in a contract, so the answer is told by some state of the board.
+-- Answers of a board. What lies behind the lock then has no name in a contract, so the answer is told by some state of the board.
 use Rattle.std.specs.Prelude.{◌≡◌}
 use Rattle.sm_placement.specs.Setup.{Setup}
 use Rattle.sm_protocol.specs.declared.event.Played.{Played}

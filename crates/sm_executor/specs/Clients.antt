@@ -1,4 +1,4 @@
--- What an ask at a board may come to.
+-- The outcomes of an ask at a board.
 use Rattle.std.specs.Prelude.{◌≡◌, ◌+◌, ◌∷◌, [], ℕ, List, Option, Some, None, if◌then◌else◌}
 use Rattle.sm_placement.specs.Setup.{Setup}
 use Rattle.sm_placement.specs.declared.entry.Entry.{Entry}
@@ -32,7 +32,7 @@ pub record HasArrived (setup : Setup) (opened : State) (old : CallerModel) (shar
   pub counted : answer_counted old answer new
 
 -- A request that was passed on came to the server that it was passed to: at a state of the board it is answered so, a pass gives its
--- ticket, the ticket that was handed in comes back where the answer does not spend it, and the caller counts the answer.
+-- ticket, the ticket that was handed in comes back if the answer does not spend it, and the caller counts the answer.
 pub record HasPassedOn (setup : Setup) (opened : State) (old : CallerModel) (ticket : Ticket) (answer : Answer) (new : CallerModel) : Type 0 where
   pub at : HasAnswered setup opened (PassOn ticket) (played_by answer)
   pub tickets : tickets_in answer ≡ (if spends (played_by answer) then tickets_of ticket.shard ticket.target (played_by answer) else ticket ∷ [])

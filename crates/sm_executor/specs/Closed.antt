@@ -1,6 +1,5 @@
--- What is so where a board is closed, and why one is not.
--- `AreAllBack` and `StaysOpenFor` are steps of the code's own way, which private functions' contracts cite: whoever reads the public
--- ones need not read them.
+-- The facts that hold when a board is closed, and why one is not.
+-- `AreAllBack` and `StaysOpenFor` are internal: you need not read them for the public contracts.
 use Rattle.std.specs.Prelude.{◌≡◌, ◌↔◌, ◌++◌, ◌∷◌, [], ℕ, zero, suc, Bool, true, List, length, map, sum, if◌then◌else◌}
 use Rattle.sm_placement.specs.Setup.{Setup}
 use Rattle.sm_reservation.specs.declared.stream_id.StreamId.{StreamId}
@@ -50,7 +49,7 @@ pub record IsBoardState (setup : Setup) (opened now : State) : Type 0 where
   pub reached : IsReached setup now
   pub goes_on : GoesOn opened now
 
--- A state of the board at which every stream has made its end: the log has each stream's instructions in their order, each once, and
+-- A state of the board at which every stream has finished: the log has each stream's instructions in their order, each once, and
 -- then its end; and the placement is the end of the plans in the order of their starts, whatever the schedule was.
 pub record IsDoneState (setup : Setup) (opened now : State) : Type 0 where
   pub state : IsBoardState setup opened now
@@ -64,7 +63,7 @@ pub record IsDoneState (setup : Setup) (opened now : State) : Type 0 where
 abbrev pub IsAccount : State → State → List EndedModel → List CallerModel → Type 0
 IsAccount opened now ended callers = IsBooked opened now (sum (map (λ e. e.counted) ended)) (sum (map (λ c. c.executed) callers)) (sum (map (λ c. c.refused) callers))
 
--- At this state of the board every stream has made its end, and the log since the opening has as many steps, executed and refused
+-- At this state of the board every stream has finished, and the log since the opening has as many steps, executed and refused
 -- requests as these ends and callers have counted.
 pub record IsClosed (setup : Setup) (opened now : State) (ended : List EndedModel) (callers : List CallerModel) : Type 0 where
   pub state : IsDoneState setup opened now
@@ -74,7 +73,7 @@ pub record IsClosed (setup : Setup) (opened now : State) (ended : List EndedMode
 abbrev pub AreAllBack : HeldModel → ℕ → ℕ → Type 0
 AreAllBack h ended callers = (ended ≡ h.runners) × (callers ≡ h.callers)
 
--- why what lies behind the lock is not closed with so many ends and callers: a stream has not made its end; or each has, and not all
+-- why a board is not closed with these numbers of ends and callers: a stream has not finished; or each has, and not all
 -- runners and callers are back
 abbrev pub StaysOpenFor : HeldModel → ℕ → ℕ → CloseFault → Type 0
 StaysOpenFor h ended callers NotDone = ¬ AreDone (state_in h)
@@ -87,7 +86,7 @@ pub record NotClosedModel : Type 0 where
   pub callers : List CallerModel
   pub positions : List (StreamId × ℕ)
 
--- The streams named are those that have not made their ends at a state of the board, and NotDone is told just where there are some.
+-- The streams named are those that have not finished at a state of the board, and NotDone is told exactly if there are some.
 pub record IsNotClosed (setup : Setup) (opened : State) (fault : CloseFault) (positions : List (StreamId × ℕ)) : Type 0 where
   pub now : State
   pub state : IsBoardState setup opened now

@@ -1,4 +1,4 @@
--- What the books of a board count: recorded steps, requests that were executed, and requests that were refused.
+-- The counts in the books of a board: recorded steps, requests that were executed, and requests that were refused.
 use Rattle.std.specs.Prelude.{◌≡◌, ◌+◌, ◌++◌, ℕ, Bool, true, false, not, List, count_by}
 use Rattle.sm_placement.specs.Sums.{bit}
 use Rattle.sm_protocol.specs.declared.event.Event.{Event}
@@ -48,8 +48,8 @@ pub record IsBooked (opened now : State) (steps executed refused : ℕ) : Type 0
   pub executed_are : executed ≡ executed_in since
   pub refused_are : refused ≡ refused_in since
 
--- what the answer to a step does to the count of its runner, where the stream had made its end before or had not: it rises by
--- one with Moved, with Lost, and with the first Done, and else it stays
+-- what the answer to a step does to the count of its runner, if the stream had finished before or had not: it rises by
+-- one with Moved, with Lost, and with the first Done, and otherwise it stays
 abbrev pub Counts : Bool → Played → ℕ → ℕ → Type 0
 Counts ended played.Moved old new = new ≡ old + 1
 Counts ended played.Lost old new = new ≡ old + 1

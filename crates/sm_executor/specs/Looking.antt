@@ -1,4 +1,4 @@
--- What a caller knows of a board's map. What lies behind the lock has no name in a contract, so what a new caller knows is told by some state of the
+-- A caller's knowledge of a board's map. What lies behind the lock has no name in a contract, so what a new caller knows is told by some state of the
 -- board.
 use Rattle.std.specs.Prelude.{◌≡◌, ◌<◌, ℕ, List, [], ◌∷◌, Some, IfSome, slice_get, slice_set}
 use Rattle.sm_placement.specs.Place.{entry_at}

@@ -1,5 +1,6 @@
 -- The name of a board: what it is opened with.
--- `no_words`, `no_setup`, `no_place` and `no_state` are of a name of none, which no contract cites: whoever reads public contracts need not read them.
+-- `no_words`, `no_setup`, `no_place` and `no_state` are of a name of none, which no contract cites: you need not read
+-- them for the public contracts.
 use Rattle.std.specs.Prelude.{◌≡◌, ℕ, [], false, None}
 use Rattle.sm_server.specs.declared.call.Cell.TheVariants.{Absent}
 use Rattle.sm_placement.specs.Setup.{Setup, sizes_of}
@@ -8,19 +9,19 @@ use Rattle.sm_map.specs.Models.{WordsModel, words_model}
 use Rattle.sm_protocol.specs.State.{State, opened}
 use Rattle.sm_executor.specs.declared.limits.TheConstants.{PARTS}
 
--- what stands for the words of a map where there is no board
+-- what stands for the words of a map if there is no board
 abbrev pub no_words : WordsModel
 no_words = words_model (record { words = 0; slots = 0; views_name = 0; atom = 0; block = 0; offset = 0; slot_names = [] }) 0 []
 
--- what stands for a configuration where there is no board
+-- what stands for a configuration if there is no board
 abbrev pub no_setup : Setup
 no_setup = record { servers = []; shards = [] }
 
--- what stands for a placement where there is no board
+-- what stands for a placement if there is no board
 abbrev pub no_place : Place
 no_place = record { cells = λ s v. Absent; last = λ s v. 0; down = λ v. false; listed = λ s. None; version = λ s. 0; limit = 0 }
 
--- what stands for the state of an opened board where there is none
+-- what stands for the state of an opened board if there is none
 abbrev pub no_state : State
 no_state = opened (sizes_of no_setup) no_place 0
 

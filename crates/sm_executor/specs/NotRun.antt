@@ -1,4 +1,4 @@
--- What comes back of a run that has not come to the ends of all streams.
+-- The runners and ends that come back of a run whose streams have not all finished.
 use Rattle.std.specs.Prelude.{◌≡◌, ℕ, Bool, true, false, ◌+◌, [], vec_len}
 use Rattle.sm_executor.specs.declared.threads.RunFault.{RunFault}
 use Rattle.sm_executor.specs.declared.threads.RunFault.TheVariants.{NoMemory, NoThread, Halted, Spent}
@@ -11,7 +11,7 @@ may_have_stepped NoThread = false
 may_have_stepped Halted = true
 may_have_stepped Spent = true
 
--- of so many runners each comes back or its stream's end does, and no end where no stream has stepped
+-- each of the runners comes back or its stream's end does, and no end if no stream has stepped
 pub record ComesBack {A : Type 0} (count : ℕ) (back : NotRun A) : Type 0 where
   pub all : vec_len back.runners + vec_len back.ended ≡ count
   pub none : may_have_stepped back.fault ≡ false → back.ended.items ≡ []

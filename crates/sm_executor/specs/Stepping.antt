@@ -1,5 +1,5 @@
--- A stream's step at a board. What lies behind the lock then has no name in a contract, so the step is told by some state of the board.
--- `is_waiting` is a step of the code's own way, which private functions' contracts cite: whoever reads the public ones need not read it.
+-- A stream's step at a board. What lies behind the lock then has no name in a contract, so the step is told by some
+-- state of the board. `is_waiting` is internal: you need not read it for the public contracts.
 use Rattle.std.specs.Prelude.{ℕ, Bool, true, false, ◌≡◌}
 use Rattle.sm_placement.specs.Setup.{Setup}
 use Rattle.sm_reservation.specs.declared.stream_id.StreamId.{StreamId}
@@ -25,8 +25,8 @@ pub record IsStepAt (setup : Setup) (opened now : State) (before after : RunnerM
   pub state : IsBoardState setup opened now
   pub counts : Counts (progress_of now before.stream).done answer before.steps after.steps
 
--- At such a state the stream has made its step over the link: the link was asked once where the step tries a call there, and else not at
--- all, and Lost is answered just where it has lost the try.
+-- At such a state the stream has made its step over the link: the link was asked once if the step tries a call there, and otherwise not at
+-- all, and Lost is answered exactly if it has lost the try.
 pub record HasStepped {L : Type 0} (asked : L → StreamId → ℕ → Passage → L → Type 0) (old new : L) (setup : Setup) (opened : State) (before after : RunnerModel) (answer : Played) : Type 0 where
   pub now : State
   pub next : State

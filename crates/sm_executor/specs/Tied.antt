@@ -1,6 +1,5 @@
 -- How the words of the published map stand to the machine behind the lock.
--- `IsPublished`, `IsQuiet`, `Publishes` and `IsBehind` are steps of the code's own way, which private functions' contracts cite: whoever reads the public
--- ones need not read them.
+-- `IsPublished`, `IsQuiet`, `Publishes` and `IsBehind` are internal: you need not read them for the public contracts.
 use Rattle.std.specs.Prelude.{List, ◌≡◌, ◌⊎◌, ◌++◌, ◌∷◌, ◌<◌, ℕ, suc, Some, length, slice_get}
 use Rattle.sm_placement.specs.Sums.{put}
 use Rattle.sm_placement.specs.Place.{entry_at}

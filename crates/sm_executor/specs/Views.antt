@@ -1,5 +1,5 @@
--- What contracts see of what lies behind the lock, of a runner, of an end and of a caller.
--- `recorded_more` is a step of the code's own way, which private functions' contracts cite: whoever reads the public ones need not read it.
+-- The views that contracts have of the locked parts, of a runner, of an end and of a caller.
+-- `recorded_more` is internal: you need not read it for the public contracts.
 use Rattle.std.specs.Prelude.{◌≡◌, ◌<◌, ℕ, ◌-◌, List, [], length, map, slice_index_or}
 use Rattle.sm_placement.specs.declared.entry.Entry.{Entry}
 use Rattle.sm_reservation.specs.declared.stream_id.StreamId.{StreamId}
@@ -14,7 +14,7 @@ pub record HeldModel : Type 0 where
   pub runners : ℕ
   pub callers : ℕ
 
--- this machine, with so many runners and callers given out
+-- this machine, with these numbers of runners and callers given out
 abbrev pub held_model : MachineModel → ℕ → ℕ → HeldModel
 held_model machine runners callers = record { machine = machine; runners = runners; callers = callers }
 
@@ -27,7 +27,7 @@ pub record RunnerModel : Type 0 where
   pub stream : StreamId
   pub steps : ℕ
 
--- a runner of the stream, of which so many steps were recorded
+-- a runner of the stream, with this number of recorded steps
 abbrev pub running : StreamId → ℕ → RunnerModel
 running stream steps = record { stream = stream; steps = steps }
 
@@ -36,7 +36,7 @@ pub record AreRunners (plan n : ℕ) (runners : List RunnerModel) : Type 0 where
   pub count : length runners ≡ n
   pub each : (i : ℕ) (d : RunnerModel) → i < n → slice_index_or runners i d ≡ running (stream_id plan i) 0
 
--- a stream that has made its end: how many steps it made, how many of them were tries of calls, how many tries it was allowed, and
+-- a stream that has finished: how many steps it made, how many of them were tries of calls, how many tries it was allowed, and
 -- how many steps its runner has counted
 pub record EndedModel : Type 0 where
   pub stream : StreamId

@@ -76,7 +76,7 @@ impl<'b, A: Ledger, B: Ledger, C: Ledger, N: Naming> Model for Guard<'b, A, B, C
     ghost view = { λ g. mutex_guard_value g.held };
 }
 
-/// The stream waits for a signal.
+/// Tells whether the stream waits for a signal.
 fn is_blocked(step: Step) -> bool
     ensures { result ≡ is_waiting step }
 {
@@ -87,8 +87,8 @@ fn is_blocked(step: Step) -> bool
 }
 
 impl<A: Ledger, B: Ledger, C: Ledger, N: Naming> Board<A, B, C, N> {
-    /// A board over what is to lie behind its lock, beside the words, the configuration, and room for the streams that have not
-    /// made their ends.
+    /// Makes a board of what is to lie behind its lock, beside the words, the configuration, and room for the streams
+    /// that have not finished.
     pub(crate) fn of(
         held: Held<A, B, C, N>,
         words: Words,
@@ -103,7 +103,7 @@ impl<A: Ledger, B: Ledger, C: Ledger, N: Naming> Board<A, B, C, N> {
         Board::again(held, Condvar::new(), words, config, positions)
     }
 
-    /// The parts of a board, as a board again.
+    /// Makes a board of its parts again.
     pub(crate) fn again(
         held: Held<A, B, C, N>,
         moved: Condvar,
@@ -127,7 +127,8 @@ impl<A: Ledger, B: Ledger, C: Ledger, N: Naming> Board<A, B, C, N> {
         }
     }
 
-    /// The configuration of the board's machine. The board's map was opened with the entries of that machine, one for each shard.
+    /// Returns the configuration of the board's machine. The board's map was opened with the entries of that machine,
+    /// one for each shard.
     pub fn config(&self) -> &Config
         ensures setup { result.now ≡ N.setup }
         ensures map { IsMapOf N.words N.opened }
@@ -137,8 +138,8 @@ impl<A: Ledger, B: Ledger, C: Ledger, N: Naming> Board<A, B, C, N> {
         &self.config
     }
 
-    /// A plan begins that was checked for the board's configuration: each of its streams has a runner. Where it does not begin, the
-    /// checked plan comes back, and nothing changes. All memory is taken before the lock is.
+    /// Begins a plan that was checked for the board's configuration: each of its streams has a runner. If it does not
+    /// begin, the checked plan comes back, and nothing changes. All memory is taken before the lock is.
     pub fn begin<R: Wait>(
         &self,
         rt: &R,
@@ -172,8 +173,8 @@ impl<A: Ledger, B: Ledger, C: Ledger, N: Naming> Board<A, B, C, N> {
         }
     }
 
-    /// The runner's end, where its stream has made it, with what the locked machine has of that stream. Else the runner comes back, and
-    /// its stream has not made its end.
+    /// Returns the runner's end, if its stream has finished, with what the locked machine has of that stream. Otherwise
+    /// the runner comes back.
     pub fn retire<R: Wait>(&self, rt: &R, runner: Runner<A>) -> Result<Ended<A>, Runner<A>>
         ensures ended { IfOk result (λ end. (end.stream ≡ runner.stream) × (end.counted ≡ runner.steps)) }
         ensures at { IfOk result (λ end. HasEnded N.setup N.opened end) }
@@ -185,8 +186,8 @@ impl<A: Ledger, B: Ledger, C: Ledger, N: Naming> Board<A, B, C, N> {
         held.retire(runner)
     }
 
-    /// The runner's next step over a link, which is asked for the try of a call, under the board's lock. So the link must not call the
-    /// board: it would wait for itself.
+    /// Makes the runner's next step over a link, which is asked for the try of a call, under the board's lock. So the
+    /// link must not call the board: it would wait for itself.
     pub fn step_over<R: Wait, L: Link>(&self, rt: &R, runner: &mut Runner<A>, link: &mut L) -> Step
         ensures stream { runner.new.stream ≡ runner.old.stream }
         ensures over { HasStepped L.asked link.old link.new N.setup N.opened runner.old runner.new (played_of result) }
@@ -201,7 +202,8 @@ impl<A: Ledger, B: Ledger, C: Ledger, N: Naming> Board<A, B, C, N> {
         step
     }
 
-    /// A new caller, which has seen nothing and knows the entries of some state of the board. None where the board has given out 4,096.
+    /// Gives out a new caller, which has seen nothing and knows the entries of some state of the board. None if the
+    /// board has given out 4,096.
     pub fn caller<R: Wait>(&self, rt: &R) -> Option<Caller<B, C, N>>
         ensures new { IfSome result (λ caller. IsNewCaller caller) }
         ensures known { IfSome result (λ caller. HasKnownMap N.setup N.opened caller) }
@@ -211,7 +213,7 @@ impl<A: Ledger, B: Ledger, C: Ledger, N: Naming> Board<A, B, C, N> {
         held.caller(&self.words)
     }
 
-    /// The runner's next step, of which no call is lost.
+    /// Makes the runner's next step, and loses no call.
     #[tactic(auto, using(crate::proofs::SureSteps::made_surely))]
     pub fn step<R: Wait>(&self, rt: &R, runner: &mut Runner<A>) -> Step
         ensures stream { runner.new.stream ≡ runner.old.stream }
@@ -220,12 +222,13 @@ impl<A: Ledger, B: Ledger, C: Ledger, N: Naming> Board<A, B, C, N> {
         self.step_over(rt, runner, &mut Sure)
     }
 
-    /// How many instructions the runner's stream has made. None where it was not begun, or has made its end.
+    /// Returns the number of instructions that the runner's stream has made. None if it was not begun, or has finished.
     pub(crate) fn position<R: Wait>(&self, rt: &R, runner: &Runner<A>) -> Option<usize> {
         self.held.lock(rt).position(runner)
     }
 
-    /// The runner's next step over a link that is not Blocked: it waits for the signal, and asks the link for that step alone.
+    /// Makes the runner's next step over a link that is not Blocked: waits for the signal, and asks the link for that
+    /// step alone.
     pub(crate) fn step_or_wait<R: Wait, L: Link>(
         &self,
         rt: &R,
@@ -251,21 +254,23 @@ impl<A: Ledger, B: Ledger, C: Ledger, N: Naming> Board<A, B, C, N> {
         unreachable!()
     }
 
-    /// Streams stop, and those that wait are woken: their steps are answered Halted.
+    /// Stops streams, and wakes those that wait: their steps are answered with Halted.
     pub fn halt<R: Wait>(&self, rt: &R) {
         self.held.lock(rt).halt();
         self.moved.notify_all();
     }
 
-    /// Lets streams make steps again. Call it once every run that the halt stopped has come back: a stream of such a run that waits for a
-    /// signal and gets the lock only after this call waits on, also for a stream whose thread has stopped.
+    /// Lets streams make steps again. Call it once every run that the halt stopped has come back. If a stream of such a
+    /// run waits for a signal and gets the lock only after this call, it waits on, even for a stream whose thread has
+    /// stopped.
     pub fn resume<R: Wait>(&self, rt: &R) {
         self.held.lock(rt).resume();
         self.moved.notify_all();
     }
 
-    /// The map's entry of a shard, by one load of its word and without the lock. It is no older than what the caller has seen, and than what it
-    /// knows: the entry of the map when it was given out, or when it last looked behind the lock.
+    /// Returns the map's entry of a shard, by one load of its word and without the lock. It is no older than what the
+    /// caller has seen, and than what it knows: the entry of the map when it was given out, or when it last looked
+    /// behind the lock.
     pub fn look(&self, caller: &mut Caller<B, C, N>, shard: ShardId) -> Entry
         requires { shard < length N.words.opening }
         ensures seen { caller.new ≡ calling caller.old.known ((shard, result) ∷ caller.old.seen) caller.old.executed caller.old.refused }
@@ -276,7 +281,7 @@ impl<A: Ledger, B: Ledger, C: Ledger, N: Naming> Board<A, B, C, N> {
         caller.look(&self.words, shard)
     }
 
-    /// A request for a shard comes to a server, which answers as the protocol does at some state of the board.
+    /// Asks a server for a shard. It answers as the protocol does at some state of the board.
     pub fn arrive<R: Wait>(
         &self,
         rt: &R,
@@ -295,8 +300,8 @@ impl<A: Ledger, B: Ledger, C: Ledger, N: Naming> Board<A, B, C, N> {
         held.arrive(caller, shard, server)
     }
 
-    /// A request that was passed on comes to the server that it was passed to. Its ticket is spent by an answer of the server, and
-    /// else comes back.
+    /// Brings a request that was passed on to the server that it was passed to. Its ticket is spent by an answer of the
+    /// server, and otherwise comes back.
     pub fn pass_on<R: Wait>(&self, rt: &R, caller: &mut Caller<B, C, N>, ticket: Ticket) -> Answer
         ensures at { HasAnswered N.setup N.opened (happening.PassOn ticket) (played_by result) }
         ensures tickets { tickets_in result ≡ (if spends (played_by result) then tickets_of ticket.shard ticket.target (played_by result) else ticket ∷ []) }
@@ -307,8 +312,8 @@ impl<A: Ledger, B: Ledger, C: Ledger, N: Naming> Board<A, B, C, N> {
         held.pass_on(caller, ticket)
     }
 
-    /// The machine's entry of a shard, which the caller has then seen. The caller then knows the machine's entry of each shard. Each entry that
-    /// the caller had seen is one of the machine's.
+    /// Returns the machine's entry of a shard, which the caller has then seen. The caller then knows the machine's
+    /// entry of each shard. Each entry that the caller had seen is one of the machine's.
     pub fn look_held(
         &self,
         guard: &mut Guard<'_, A, B, C, N>,
@@ -325,8 +330,8 @@ impl<A: Ledger, B: Ledger, C: Ledger, N: Naming> Board<A, B, C, N> {
         guard.held.look_held(&self.words, caller, shard)
     }
 
-    /// The locked machine, which is at a state of the board. As long as a thread has the guard it must not call what takes the lock: it
-    /// would wait for itself. Looks take none.
+    /// Locks the machine, which is at a state of the board. As long as a thread has the guard it must not call what
+    /// takes the lock: it would wait for itself. Looks take none.
     pub fn hold<R: Wait>(&self, rt: &R) -> Guard<'_, A, B, C, N>
         ensures state { IsBoardState N.setup N.opened (state_in result) }
         ensures setup { result.machine.placement.setup ≡ N.setup }
@@ -341,7 +346,7 @@ impl<A: Ledger, B: Ledger, C: Ledger, N: Naming> Board<A, B, C, N> {
 }
 
 impl<'b, A: Ledger, B: Ledger, C: Ledger, N: Naming> Guard<'b, A, B, C, N> {
-    /// The machine's call of the same name, on the locked machine.
+    /// Makes the machine's call of the same name, on the locked machine.
     pub fn approve(&mut self, server: ServerId) -> Result<Permit, Denied>
         requires { server < N.words.servers }
         ensures answer { (happens (state_in self.old) (happening.Approve server)).0 ≡ Answered (approval_of result) }
@@ -353,7 +358,7 @@ impl<'b, A: Ledger, B: Ledger, C: Ledger, N: Naming> Guard<'b, A, B, C, N> {
         self.held.approve(server)
     }
 
-    /// The machine's call of the same name, on the locked machine.
+    /// Makes the machine's call of the same name, on the locked machine.
     pub fn done(&mut self, permit: Permit) -> Result<(), Permit>
         ensures answer { (happens (state_in self.old) (happening.Done permit)).0 ≡ Answered (restart_of result) }
         ensures state { state_in self.new ≡ (happens (state_in self.old) (happening.Done permit)).1 }
@@ -364,7 +369,7 @@ impl<'b, A: Ledger, B: Ledger, C: Ledger, N: Naming> Guard<'b, A, B, C, N> {
         self.held.done(permit)
     }
 
-    /// The machine's call of the same name, on the locked machine.
+    /// Makes the machine's call of the same name, on the locked machine.
     pub fn refill(&mut self, runner: &mut Runner<A>, more: u32) -> Result<(), RefillFault>
         requires { more ≤ MOST_CALLS }
         ensures answer { (happens (state_in self.old) (happening.Refill runner.old.stream more)).0 ≡ Answered (refill_answer result) }
@@ -376,7 +381,7 @@ impl<'b, A: Ledger, B: Ledger, C: Ledger, N: Naming> Guard<'b, A, B, C, N> {
         self.held.refill(runner, more)
     }
 
-    /// The locked machine.
+    /// Returns the locked machine.
     pub fn machine(&self) -> &Machine
         ensures { result.now ≡ self.now.machine }
     {

@@ -1,4 +1,4 @@
-//! Who asks at a board.
+//! Callers, who ask at a board.
 ghost use Rattle.std.specs.Prelude.{◌≡◌, ◌<◌, ◌∷◌, length};
 ghost use Rattle.sm_map.specs.Entry.{IsInRange};
 ghost use Rattle.sm_map.specs.History.{AllSameOrOlder};
@@ -36,7 +36,7 @@ impl<B: Ledger, C: Ledger, N: Naming> Model for Caller<B, C, N> {
 }
 
 impl<B: Ledger, C: Ledger, N: Naming> Caller<B, C, N> {
-    /// The map's entry of a shard, by one load of its word.
+    /// Returns the map's entry of a shard, by one load of its word.
     pub(crate) fn look(&mut self, words: &Words, shard: ShardId) -> Entry
         requires words { words.now ≡ N.words }
         requires shard { shard < length N.words.opening }

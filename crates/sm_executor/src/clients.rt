@@ -43,7 +43,7 @@ impl<B: Ledger, C: Ledger, N: Naming> Model for Client<B, C, N> {
 }
 
 impl<B: Ledger, C: Ledger, N: Naming> Client<B, C, N> {
-    /// A client that has not asked yet, with a caller that the board has given out.
+    /// Makes a client that has not asked yet, with a caller that the board has given out.
     pub fn new(caller: Caller<B, C, N>, shard: ShardId) -> Client<B, C, N>
         requires shard { shard < length N.words.opening }
         requires new { IsNewCaller caller }
@@ -56,14 +56,14 @@ impl<B: Ledger, C: Ledger, N: Naming> Client<B, C, N> {
         }
     }
 
-    /// The shard that it asks for.
+    /// Returns the shard that it asks for.
     pub fn shard(&self) -> ShardId
         ensures { result ≡ self.now.shard }
     {
         self.shard
     }
 
-    /// Asks for its shard, where it has not asked yet.
+    /// Asks for its shard, if it has not asked yet.
     pub fn ask<A: Ledger, R: Wait>(&mut self, rt: &R, board: &Board<A, B, C, N>)
         ensures shard { self.new.shard ≡ self.old.shard }
         ensures asked { self.new.asked ≢ None }
@@ -74,7 +74,7 @@ impl<B: Ledger, C: Ledger, N: Naming> Client<B, C, N> {
         }
     }
 
-    /// What it was answered. None where it has not asked yet.
+    /// Returns the answer that it got. None if it has not asked yet.
     pub fn asked(&self) -> Option<Asked>
         ensures answer { result ≡ self.now.asked }
         ensures way { IsClient N.setup N.opened self.now }
@@ -82,7 +82,7 @@ impl<B: Ledger, C: Ledger, N: Naming> Client<B, C, N> {
         self.asked
     }
 
-    /// Its caller.
+    /// Returns its caller.
     pub fn into_caller(self) -> Caller<B, C, N>
         ensures { result ≡ self.caller }
     {
@@ -95,7 +95,7 @@ impl<B: Ledger, C: Ledger, N: Naming> Client<B, C, N> {
     }
 }
 
-/// Each client that has not asked yet asks.
+/// Asks for each client that has not asked yet.
 fn ask_all<A: Ledger, B: Ledger, C: Ledger, N: Naming, R: Wait>(
     rt: &R,
     board: &Board<A, B, C, N>,
@@ -131,7 +131,7 @@ fn start_asks<
     true
 }
 
-/// What the threads of a run beside clients are lent.
+/// The things that the threads of a run beside clients are lent.
 #[derive(Drop)]
 struct Lent<'r, A: Ledger, B: Ledger, C: Ledger, N: Naming> {
     clients: &'r mut [Client<B, C, N>],
@@ -163,7 +163,7 @@ fn start_beside<
     }
 }
 
-/// As `run_all`, beside the clients.
+/// Runs as `run_all` does, beside the clients.
 fn run_all_beside<
     A: Ledger + Send + Sync,
     B: Ledger + Send + Sync,
@@ -187,9 +187,9 @@ fn run_all_beside<
     })
 }
 
-/// Makes all steps of the runners' streams beside the clients' asks, each stream and each client in a thread of its own: the
-/// clients' threads start first. What comes back is as of `run`, NoThread where a client's thread can't be started. With Ok each
-/// client has asked.
+/// Makes all steps of the runners' streams beside the clients' asks, each stream and each client in a thread of its
+/// own. The clients' threads start first. The answer is as that of `run`, NoThread if a client's thread can't be
+/// started. With Ok each client has asked.
 pub fn run_beside<
     A: Ledger + Send + Sync,
     B: Ledger + Send + Sync,

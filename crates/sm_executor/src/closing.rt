@@ -1,4 +1,4 @@
-//! How a board ends.
+//! The end of a board.
 ghost use Rattle.std.specs.Prelude.{◌≡◌, ◌≤◌, ◌↔◌, IfOk, IfErr, IfSome, IfNone, IsTrue, OnOk, length, vec_capacity};
 ghost use Rattle.sm_protocol.specs.Laws.{AreDone};
 ghost use Rattle.sm_machine.specs.State.{state_of};
@@ -23,15 +23,16 @@ use thiserror::Error;
 /// Why a board is not closed.
 #[derive(Clone, Copy, Debug, PartialEq, Eq, Error)]
 pub enum CloseFault {
-    /// A stream has not made its end.
+    /// A stream has not finished.
     #[error("a stream has not made its end")]
     NotDone,
-    /// Not as many ends or callers are handed in as the board has given runners and callers out.
+    /// The ends or the callers that are handed in are not as many as the runners or callers that the board has given
+    /// out.
     #[error("the board has given out more or fewer runners or callers than have come back")]
     BookDiffers,
 }
 
-/// A board that is not closed, with the ends and the callers that came back, and the streams that have not made their ends.
+/// A board that is not closed, with the ends and the callers that came back, and the streams that have not finished.
 pub struct NotClosed<A: Ledger, B: Ledger, C: Ledger, N: Naming> {
     board: Board<A, B, C, N>,
     ended: Vec<Ended<A>>,
@@ -48,21 +49,21 @@ impl<A: Ledger, B: Ledger, C: Ledger, N: Naming> Model for NotClosed<A, B, C, N>
 }
 
 impl<A: Ledger, B: Ledger, C: Ledger, N: Naming> NotClosed<A, B, C, N> {
-    /// Why.
+    /// Returns why it is not closed.
     pub fn fault(&self) -> CloseFault
         ensures { result ≡ self.now.fault }
     {
         self.fault
     }
 
-    /// The streams that have not made their ends, each with how many instructions it has made.
+    /// Returns the streams that have not finished, each with the number of instructions that it has made.
     pub fn positions(&self) -> &[(StreamId, usize)]
         ensures { result.now ≡ self.now.positions }
     {
         self.board.positions.as_slice()
     }
 
-    /// The board with the ends and the callers.
+    /// Returns the board with the ends and the callers.
     pub fn back(self) -> (Board<A, B, C, N>, Vec<Ended<A>>, Vec<Caller<B, C, N>>)
         ensures ended { result.1.items ≡ self.ended }
         ensures callers { result.2.items ≡ self.callers }
@@ -77,7 +78,7 @@ impl<A: Ledger, B: Ledger, C: Ledger, N: Naming> NotClosed<A, B, C, N> {
     }
 }
 
-/// What a board is made of that is not closed, with all that was handed in, and why it is not.
+/// The parts of a board that is not closed, with all that was handed in, and why it is not.
 pub(crate) struct Back<A: Ledger, B: Ledger, C: Ledger, N: Naming> {
     held: Held<A, B, C, N>,
     ended: Vec<Ended<A>>,
@@ -86,15 +87,15 @@ pub(crate) struct Back<A: Ledger, B: Ledger, C: Ledger, N: Naming> {
 }
 
 impl<A: Ledger, B: Ledger, C: Ledger, N: Naming> Held<A, B, C, N> {
-    /// Whether so many ends and callers are all whose runners and callers were given out.
+    /// Tells whether these numbers of ends and callers are those of the runners and callers that were given out.
     fn are_all_back(&self, ended: usize, callers: usize) -> bool
         ensures { IsTrue result ↔ AreAllBack self.now ended callers }
     {
         ended as u64 == self.runners && callers as u64 == self.callers
     }
 
-    /// Why it is not closed with so many ends and callers, if it isn't. The streams that have not made their ends are listed into a
-    /// list with room for them.
+    /// Returns why it is not closed with these numbers of ends and callers, if it isn't. The streams that have not
+    /// finished are listed into a list with room for them.
     fn close_fault(
         &self,
         ended: usize,
@@ -117,7 +118,7 @@ impl<A: Ledger, B: Ledger, C: Ledger, N: Naming> Held<A, B, C, N> {
         }
     }
 
-    /// The machine. The books are the sums of what all ends and callers have counted.
+    /// Returns the machine. The books are the sums of what all ends and callers have counted.
     fn settle(self, ended: Vec<Ended<A>>, callers: Vec<Caller<B, C, N>>) -> Machine
         requires { AreAllBack self (length ended.items) (length callers.items) }
         ensures machine { result ≡ self.machine }
@@ -144,9 +145,9 @@ impl<A: Ledger, B: Ledger, C: Ledger, N: Naming> Held<A, B, C, N> {
         machine
     }
 
-    /// The machine, where all streams have made their ends, and as many ends and callers are handed in as there were runners and
-    /// callers. Else all come back: NotDone where a stream has not made its end, and else BookDiffers. The streams that have not made
-    /// their ends are listed into a list with room for them.
+    /// Returns the machine, if all streams have finished, and the numbers of ends and callers that are handed in are
+    /// those of the runners and callers. Otherwise all come back: NotDone if a stream has not finished, and otherwise
+    /// BookDiffers. The streams that have not finished are listed into a list with room for them.
     pub fn close(
         self,
         ended: Vec<Ended<A>>,
@@ -176,9 +177,9 @@ impl<A: Ledger, B: Ledger, C: Ledger, N: Naming> Held<A, B, C, N> {
 }
 
 impl<A: Ledger, B: Ledger, C: Ledger, N: Naming> Board<A, B, C, N> {
-    /// The machine, where all streams have made their ends, and as many ends and callers are handed in as the board has given runners
-    /// and callers out. Else the board comes back with all that was handed in: NotDone where a stream has not made its end, and
-    /// else BookDiffers.
+    /// Returns the machine, if all streams have finished, and the numbers of ends and callers that are handed in are
+    /// those of the runners and callers that the board has given out. Otherwise the board comes back with all that was
+    /// handed in: NotDone if a stream has not finished, and otherwise BookDiffers.
     ///
     /// Takes no memory.
     pub fn close(
@@ -220,7 +221,7 @@ impl<A: Ledger, B: Ledger, C: Ledger, N: Naming> Board<A, B, C, N> {
         }
     }
 
-    /// The machine as it stands, which is at a state of the board, with nothing told of what was counted.
+    /// Returns the machine as it stands, which is at a state of the board, and says nothing of what was counted.
     pub fn give_up(self, ended: Vec<Ended<A>>, callers: Vec<Caller<B, C, N>>) -> Machine
         ensures state { IsBoardState N.setup N.opened (state_of result) }
         ensures setup { result.placement.setup ≡ N.setup }

@@ -1,4 +1,4 @@
-//! What one thread of a run does.
+//! The course of one thread of a run.
 use crate::board::Board;
 use crate::names::Naming;
 use crate::runner::Runner;
@@ -8,12 +8,12 @@ use sm_reservation::StreamId;
 use std::sync::ledger::Ledger;
 use std::sync::{Condvar, Mutex, Wait};
 
-/// What a run calls round the steps of its threads, outside the board's lock, with the stream and how many instructions it had made
-/// before the step.
+/// Calls that a run makes round the steps of its threads, outside the board's lock, with the stream and the number of
+/// instructions that it had made before the step.
 ///
-/// `before` and `after` come once for each recorded step, and once for a last step that is Halted or Spent. A step that waits for
-/// a signal waits between the two. A gate may call the board. It must not keep a guard while it calls what takes the lock, nor wait for a
-/// stream that waits for its own.
+/// `before` and `after` come once for each recorded step, and once for a last step that is Halted or Spent. A step that
+/// waits for a signal waits between the two. A gate may call the board. It must not keep a guard while it calls what
+/// takes the lock, nor wait for a stream that waits for its own.
 pub trait Gate {
     /// Comes before a step of the stream.
     fn before<R: Wait>(&self, rt: &R, stream: StreamId, at: usize);
@@ -32,7 +32,7 @@ impl Gate for Open {
     fn after<R: Wait>(&self, _rt: &R, _stream: StreamId, _at: usize) {}
 }
 
-/// What the threads of a run are told before their first steps.
+/// The word that the threads of a run wait for before their first steps.
 #[derive(Clone, Copy, PartialEq, Eq)]
 enum Start {
     /// Not all threads have started yet.
@@ -43,7 +43,8 @@ enum Start {
     Stays,
 }
 
-/// Where the threads of a run wait until all have started, and whether one has met a stream that has spent its allowance.
+/// The place where the threads of a run wait until all have started, with whether one has met a stream that has spent
+/// its allowance.
 #[derive(Drop)]
 pub(crate) struct Starter {
     start: Mutex<Start>,
@@ -52,7 +53,7 @@ pub(crate) struct Starter {
 }
 
 impl Starter {
-    /// No thread has been told anything, and no stream has spent its allowance.
+    /// Makes a starter that has told no thread anything, and of which no stream has spent its allowance.
     pub fn new() -> Starter {
         Starter {
             start: Mutex::new(Start::Waits),
@@ -61,13 +62,13 @@ impl Starter {
         }
     }
 
-    /// All threads have started, or one cannot be.
+    /// Tells the threads whether all have started, or one cannot be.
     pub fn tell<R: Wait>(&self, rt: &R, all: bool) {
         *self.start.lock(rt) = if all { Start::Goes } else { Start::Stays };
         self.changed.notify_all();
     }
 
-    /// Waits until all threads have started, or one cannot be.
+    /// Waits until all threads have started, or one cannot be. Returns whether all have.
     fn goes<R: Wait>(&self, rt: &R) -> bool {
         let start = self
             .changed
@@ -75,12 +76,12 @@ impl Starter {
         *start == Start::Goes
     }
 
-    /// A stream has spent its allowance.
+    /// Notes that a stream has spent its allowance.
     fn note_spent<R: Wait>(&self, rt: &R) {
         *self.spent.lock(rt) = true;
     }
 
-    /// A stream had spent its allowance.
+    /// Returns whether a stream had spent its allowance.
     pub fn has_spent(self) -> bool {
         let Starter {
             start: _,
@@ -115,8 +116,8 @@ fn step_on<A: Ledger, B: Ledger, C: Ledger, N: Naming, L: Link, R: Wait, G: Gate
     unreachable!()
 }
 
-/// What a thread of a run does: the steps of one stream, once all threads have started. Where its last step is Unknown or Spent,
-/// it halts the board.
+/// Does the work of a thread of a run: the steps of one stream, once all threads have started. If its last step is
+/// Unknown or Spent, it halts the board.
 pub(crate) fn drive<A: Ledger, B: Ledger, C: Ledger, N: Naming, L: Link, R: Wait, G: Gate>(
     rt: &R,
     board: &Board<A, B, C, N>,
@@ -142,7 +143,8 @@ pub(crate) fn drive<A: Ledger, B: Ledger, C: Ledger, N: Naming, L: Link, R: Wait
     }
 }
 
-/// As `drive`, over the stream's own link, which the thread keeps until its last step. Where there is none nothing is lost.
+/// Does what `drive` does, over the stream's own link, which the thread keeps until its last step. If there is none,
+/// nothing is lost.
 pub(crate) fn drive_own<A: Ledger, B: Ledger, C: Ledger, N: Naming, L: Link, R: Wait, G: Gate>(
     rt: &R,
     board: &Board<A, B, C, N>,

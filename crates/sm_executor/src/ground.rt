@@ -1,4 +1,4 @@
-//! What a board is opened with.
+//! The ground on which a board is opened.
 ghost use Rattle.std.specs.Prelude.{◌≡◌, ◌<◌, ◌≤◌, ◌*◌, [], All, IfOk, IfErr, length, map, slice_get, vec_capacity, Some, ℕ};
 ghost use Rattle.sm_placement.specs.Place.{entry_at};
 ghost use Rattle.sm_map.specs.Entry.{IsInRange};
@@ -68,7 +68,7 @@ impl Model for Ground {
         × (g.steps.parts ≡ PARTS) × (g.executed.parts ≡ PARTS) × (g.refused.parts ≡ PARTS) };
 }
 
-/// The map's entry of each shard.
+/// Returns the map's entry of each shard.
 fn entries_of(alloc: Global, machine: &Machine) -> Result<Vec<Entry>, AllocError>
     ensures count { IfOk result (λ entries. length entries.items ≡ (state_of machine.now).sizes.shards) }
     ensures each { IfOk result (λ entries. (s : ℕ) → s < (state_of machine.now).sizes.shards → slice_get entries.items s ≡ Some (entry_at (state_of machine.now).place s)) }
@@ -84,7 +84,7 @@ fn entries_of(alloc: Global, machine: &Machine) -> Result<Vec<Entry>, AllocError
     Ok(entries)
 }
 
-/// The words of a machine's map as it stands, and their publisher.
+/// Returns the words of a machine's map as it stands, and their publisher.
 fn words_of(alloc: Global, machine: &Machine) -> Result<(Words, Publisher), AllocError>
     ensures map { IfOk result (λ opened. IsMapOf opened.0 (state_of machine.now)) }
     ensures publisher { IfOk result (λ opened. opened.1 ≡ record { words = opened.0; stores = [] }) }
@@ -95,7 +95,7 @@ fn words_of(alloc: Global, machine: &Machine) -> Result<(Words, Publisher), Allo
 }
 
 impl Ground {
-    /// The ground of a machine as it stands. Takes memory, and else cannot fail.
+    /// Makes the ground of a machine as it stands. Takes memory, and otherwise cannot fail.
     pub fn new(alloc: Global, machine: &Machine) -> Result<Ground, AllocError>
         ensures map { IfOk result (λ ground. IsMapOf ground.words (state_of machine.now)) }
         ensures setup { IfOk result (λ ground. ground.setup ≡ machine.now.placement.setup) }
@@ -112,7 +112,7 @@ impl Ground {
         })
     }
 
-    /// What is to lie behind the lock of a board over its machine, with the words and the configuration.
+    /// Makes what is to lie behind the lock of a board over its machine, with the words and the configuration.
     fn laid<A: Ledger, B: Ledger, C: Ledger, N: Naming>(
         self,
         machine: Machine,
@@ -149,7 +149,7 @@ pub struct NotOpened {
     pub tokens: Vec<StreamToken>,
 }
 
-/// Room for what a board lists where it is not closed, and for so many runners.
+/// Makes room for what a board lists if it is not closed, and for `count` runners.
 fn rooms<A: Ledger>(
     alloc: Global,
     count: usize,

@@ -1,7 +1,7 @@
-//! What lies behind the board's lock: the machine, the publisher's seat, and the books.
+//! The inside of the board's lock: the machine, the publisher's seat, and the books.
 //!
-//! Each method is one event at most, and changes the machine just as the machine's own call does. The books rise with the log,
-//! and what a step publishes is stored in the words before the method returns.
+//! Each method is one event at most, and changes the machine just as the machine's own call does. The books rise with
+//! the log, and what a step publishes is stored in the words before the method returns.
 ghost use Rattle.std.specs.Prelude.{◌≡◌, ◌≢◌, OnOk, OnErr, ◌<◌, ◌≤◌, ◌+◌, ◌*◌, ◌++◌, ◌∷◌, [], length, map, IfOk, IfErr, IfSome, IfNone, true, false, if◌then◌else◌, vec_len, vec_capacity};
 ghost use Rattle.sm_placement.specs.Place.{entry_at};
 ghost use Rattle.sm_map.specs.History.{AllSameOrOlder};
@@ -43,10 +43,11 @@ use sm_task_controller::Denied;
 use std::marker::{Model, PhantomData};
 use std::sync::ledger::{Blank, Book, Ledger, Share};
 
-/// The machine, the publisher's seat, the books with the shares that nobody has, and how many runners and callers were given out.
+/// The machine, the publisher's seat, the books with the shares that nobody has, and the numbers of runners and callers
+/// that were given out.
 ///
-/// What the publisher has stored is what the machine has published since the board was opened, and the books are the counts of its
-/// log since then.
+/// The publisher has stored what the machine has published since the board was opened, and the books are the counts of
+/// its log since then.
 pub(crate) struct Held<A: Ledger, B: Ledger, C: Ledger, N: Naming> {
     pub(crate) machine: Machine,
     pub(crate) publisher: Publisher,
@@ -87,7 +88,7 @@ impl<A: Ledger, B: Ledger, C: Ledger, N: Naming> Model for Held<A, B, C, N> {
         × GoesOn N.opened (state_of h.machine) };
 }
 
-/// Stores the entry that was added behind the first so many, if one was.
+/// Stores the entry that was added behind the first `before`, if one was.
 fn store_added<N: Naming>(
     words: &Words,
     publisher: &mut Publisher,
@@ -128,7 +129,7 @@ fn count_answer<B: Ledger, C: Ledger, N: Naming>(
 }
 
 impl<A: Ledger, B: Ledger, C: Ledger, N: Naming> Held<A, B, C, N> {
-    /// What lies behind the lock of a new board.
+    /// Makes what lies behind the lock of a new board.
     pub fn open(
         machine: Machine,
         publisher: Publisher,
@@ -162,8 +163,8 @@ impl<A: Ledger, B: Ledger, C: Ledger, N: Naming> Held<A, B, C, N> {
         }
     }
 
-    /// A law: the machine is at a state of the board, and its configuration is the board's, which has as many shards and servers as the
-    /// words.
+    /// States that the machine is at a state of the board, and its configuration is the board's, which has the words'
+    /// numbers of shards and servers.
     pub fn is_of_board(&self)
         ensures state { IsBoardState N.setup N.opened (state_in self.now) }
         ensures setup { self.now.machine.placement.setup ≡ N.setup }
@@ -173,14 +174,14 @@ impl<A: Ledger, B: Ledger, C: Ledger, N: Naming> Held<A, B, C, N> {
         self.machine.is_reached();
     }
 
-    /// The machine.
+    /// Returns the machine.
     pub fn machine(&self) -> &Machine
         ensures { result.now ≡ self.now.machine }
     {
         &self.machine
     }
 
-    /// A stream makes its next step over a link. What it publishes is stored in the words.
+    /// Makes a stream's next step over a link. An entry that it publishes is stored in the words.
     pub fn step_over<L: Link>(
         &mut self,
         words: &Words,
@@ -205,8 +206,8 @@ impl<A: Ledger, B: Ledger, C: Ledger, N: Naming> Held<A, B, C, N> {
         step
     }
 
-    /// A stream makes its next step over a link, at some state that goes on from the opening. Where it waits for a signal the link is
-    /// not asked.
+    /// Makes a stream's next step over a link, at some state that goes on from the opening. If it waits for a signal
+    /// the link is not asked.
     pub fn make_step<L: Link>(
         &mut self,
         words: &Words,
@@ -226,7 +227,8 @@ impl<A: Ledger, B: Ledger, C: Ledger, N: Naming> Held<A, B, C, N> {
         self.step_over(words, runner, link)
     }
 
-    /// The tokens of streams that began before the board was opened get runners, in an empty list with room for them.
+    /// Gives runners to streams that began before the board was opened, for their tokens, in an empty list with room
+    /// for them.
     pub fn take_on(&mut self, runners: &mut Vec<Runner<A>>, tokens: Vec<StreamToken>)
         requires none { runners.old.items ≡ [] }
         requires room { vec_len tokens ≤ vec_capacity runners.old }
@@ -240,8 +242,8 @@ impl<A: Ledger, B: Ledger, C: Ledger, N: Naming> Held<A, B, C, N> {
         self.runners += count;
     }
 
-    /// A plan that is ready begins as the machine starts it, and each of its streams gets a runner, in an empty list with room for them.
-    /// Where it does not begin it comes back, and nothing changes.
+    /// Begins a plan that is ready, as the machine starts it, and gives each of its streams a runner, in an empty list
+    /// with room for them. If it does not begin it comes back, and nothing changes.
     ///
     /// Takes no memory.
     pub fn begin(
@@ -274,7 +276,7 @@ impl<A: Ledger, B: Ledger, C: Ledger, N: Naming> Held<A, B, C, N> {
         }
     }
 
-    /// How many instructions the runner's stream has made. None where it was not begun, or has made its end.
+    /// Returns the number of instructions that the runner's stream has made. None if it was not begun, or has finished.
     pub fn position(&self, runner: &Runner<A>) -> Option<usize>
         ensures some { IfSome result (λ at. (is_running (state_in self.now) runner.now.stream ≡ true) × (at ≡ (progress_of (state_in self.now) runner.now.stream).at)) }
         ensures none { IfNone result (is_running (state_in self.now) runner.now.stream ≡ false) }
@@ -287,7 +289,7 @@ impl<A: Ledger, B: Ledger, C: Ledger, N: Naming> Held<A, B, C, N> {
         }
     }
 
-    /// The runner's end, where its stream has made it. Else the runner comes back.
+    /// Returns the runner's end, if its stream has finished. Otherwise the runner comes back.
     pub fn retire(&self, runner: Runner<A>) -> Result<Ended<A>, Runner<A>>
         ensures ended { IfOk result (λ end. (has_ended (state_in self.now) runner.stream ≡ true) × (end ≡ end_in (state_in self.now) runner)) }
         ensures made { IfOk result (λ end. end.steps ≡ made_in end.stream (state_in self.now).log) }
@@ -307,7 +309,7 @@ impl<A: Ledger, B: Ledger, C: Ledger, N: Naming> Held<A, B, C, N> {
         }
     }
 
-    /// A request for a shard comes to a server.
+    /// Asks a server for a shard.
     pub fn arrive(
         &mut self,
         caller: &mut Caller<B, C, N>,
@@ -327,7 +329,7 @@ impl<A: Ledger, B: Ledger, C: Ledger, N: Naming> Held<A, B, C, N> {
         answer
     }
 
-    /// A request that was passed on comes to the server that it was passed to.
+    /// Brings a request that was passed on to the server that it was passed to.
     pub fn pass_on(&mut self, caller: &mut Caller<B, C, N>, ticket: Ticket) -> Answer
         ensures answer { (happens (state_in self.old) (happening.PassOn ticket)).0 ≡ Answered (played_by result) }
         ensures state { state_in self.new ≡ (happens (state_in self.old) (happening.PassOn ticket)).1 }
@@ -340,7 +342,8 @@ impl<A: Ledger, B: Ledger, C: Ledger, N: Naming> Held<A, B, C, N> {
         answer
     }
 
-    /// A new caller, which has seen nothing and knows the machine's entries. None where the board has given out 4,096.
+    /// Gives out a new caller, which has seen nothing and knows the machine's entries. None if the board has given out
+    /// 4,096.
     ///
     /// Takes no memory.
     pub fn caller(&mut self, words: &Words) -> Option<Caller<B, C, N>>
@@ -364,8 +367,9 @@ impl<A: Ledger, B: Ledger, C: Ledger, N: Naming> Held<A, B, C, N> {
         })
     }
 
-    /// The machine's entry of a shard, which the caller has then seen. The caller then knows the machine's entry of each shard. Each entry that the caller had seen is one of those with which
-    /// the board was opened, or one that the machine has published since.
+    /// Returns the machine's entry of a shard, which the caller has then seen. The caller then knows the machine's
+    /// entry of each shard. Each entry that the caller had seen is one with which the board was opened, or one that the
+    /// machine has published since.
     pub fn look_held(
         &mut self,
         words: &Words,
@@ -384,7 +388,7 @@ impl<A: Ledger, B: Ledger, C: Ledger, N: Naming> Held<A, B, C, N> {
         words.meet_in(&mut self.publisher, &mut caller.pass, shard)
     }
 
-    /// The cluster manager asks whether a server may be restarted, as it asks the machine.
+    /// Decides, as the machine does, whether a server may be restarted.
     pub fn approve(&mut self, server: ServerId) -> Result<Permit, Denied>
         requires { server < N.words.servers }
         ensures answer { (happens (state_in self.old) (happening.Approve server)).0 ≡ Answered (approval_of result) }
@@ -396,7 +400,7 @@ impl<A: Ledger, B: Ledger, C: Ledger, N: Naming> Held<A, B, C, N> {
         self.machine.approve(server)
     }
 
-    /// A restart has ended, as the machine has it. Where the permit's server was not down, the permit comes back.
+    /// Ends a restart, as the machine does. If the permit's server was not down, the permit comes back.
     pub fn done(&mut self, permit: Permit) -> Result<(), Permit>
         ensures answer { (happens (state_in self.old) (happening.Done permit)).0 ≡ Answered (restart_of result) }
         ensures state { state_in self.new ≡ (happens (state_in self.old) (happening.Done permit)).1 }
@@ -408,7 +412,7 @@ impl<A: Ledger, B: Ledger, C: Ledger, N: Naming> Held<A, B, C, N> {
         self.machine.done(permit)
     }
 
-    /// The allowance of a runner's stream is raised, as the machine raises it.
+    /// Raises the allowance of a runner's stream, as the machine does.
     pub fn refill(&mut self, runner: &mut Runner<A>, more: u32) -> Result<(), RefillFault>
         requires { more ≤ MOST_CALLS }
         ensures answer { (happens (state_in self.old) (happening.Refill runner.old.stream more)).0 ≡ Answered (refill_answer result) }
@@ -420,7 +424,7 @@ impl<A: Ledger, B: Ledger, C: Ledger, N: Naming> Held<A, B, C, N> {
         self.machine.refill(&mut runner.token, more)
     }
 
-    /// Streams stop: their steps are answered Halted.
+    /// Stops streams: their steps are answered with Halted.
     pub fn halt(&mut self)
         ensures state { state_in self.new ≡ record (state_in self.old) { halted = true } }
         ensures others { self.new ≡ held_model self.new.machine self.old.runners self.old.callers }

@@ -5,7 +5,7 @@
 
 use std::marker::Brand;
 
-/// What a board was opened with: the words of its map, the configuration, and the state that its machine was in.
+/// The opening of a board: the words of its map, the configuration, and the state that its machine was in.
 pub trait Naming {
     ghost use Rattle.sm_map.specs.Models.{WordsModel};
     ghost use Rattle.sm_placement.specs.Setup.{Setup};

@@ -1,4 +1,4 @@
-//! The right to make the steps of a stream on a board, and what is left of it when the stream has made its end.
+//! The right to make the steps of a stream on a board, and what is left of it when the stream has finished.
 ghost use Rattle.std.specs.Prelude.{◌≡◌, ◌≤◌, ◌+◌, ◌++◌, vec_len, vec_capacity};
 ghost use Rattle.sm_executor.specs.Views.{streams_run};
 
@@ -27,7 +27,7 @@ impl<A: Ledger> Model for Runner<A> {
 }
 
 impl<A: Ledger> Runner<A> {
-    /// Which stream it is.
+    /// Returns the stream that it is for.
     pub fn id(&self) -> StreamId
         ensures { result ≡ self.now.stream }
     {
@@ -43,7 +43,8 @@ impl<A: Ledger> Runner<A> {
     }
 }
 
-/// The tokens of runners in their order, behind those of a list with room for all. The shares are given up for good. Takes no memory.
+/// Puts the tokens of runners, in their order, behind those of a list with room for all. The shares are given up for
+/// good. Takes no memory.
 pub fn take_tokens<A: Ledger>(mut runners: Vec<Runner<A>>, tokens: &mut Vec<StreamToken>)
     requires { vec_len tokens.old + vec_len runners ≤ vec_capacity tokens.old }
     ensures items { tokens.new.items ≡ tokens.old.items ++ streams_run runners.items }
@@ -56,7 +57,7 @@ pub fn take_tokens<A: Ledger>(mut runners: Vec<Runner<A>>, tokens: &mut Vec<Stre
     runners.destroy_empty();
 }
 
-/// A stream that has made its end, with its runner's share of the steps. It can be neither copied nor dropped.
+/// A stream that has finished, with its runner's share of the steps. It can be neither copied nor dropped.
 pub struct Ended<A: Ledger> {
     pub(crate) stream: StreamId,
     pub(crate) steps: u64,
@@ -77,28 +78,28 @@ impl<A: Ledger> Model for Ended<A> {
 }
 
 impl<A: Ledger> Ended<A> {
-    /// Which stream it was.
+    /// Returns the stream that it was for.
     pub fn stream(&self) -> StreamId
         ensures { result ≡ self.now.stream }
     {
         self.stream
     }
 
-    /// How many of its steps were recorded: the tries of its calls, its other instructions, and its end.
+    /// Returns the number of its steps that were recorded: the tries of its calls, its other instructions, and its end.
     pub fn steps(&self) -> u64
         ensures { result ≡ self.now.steps }
     {
         self.steps
     }
 
-    /// How many tries of calls it made.
+    /// Returns the number of tries of calls that it made.
     pub fn calls(&self) -> u64
         ensures { result ≡ self.now.calls }
     {
         self.calls
     }
 
-    /// How many tries it was allowed: its budget, its retries and its refills.
+    /// Returns the number of tries that it was allowed: its budget, its retries and its refills.
     pub fn budget(&self) -> u64
         ensures { result ≡ self.now.budget }
     {

@@ -30,7 +30,7 @@ pub(crate) fn fill_runners<A: Ledger>(
     tokens.destroy_empty();
 }
 
-/// The share with those of all ends.
+/// Returns the share with those of all ends.
 pub(crate) fn merged<A: Ledger>(mut share: Share<A>, mut ended: Vec<Ended<A>>) -> Share<A>
     ensures parts { result.parts ≡ share.parts + length ended.items }
     ensures amount { result.amount ≡ share.amount + sum (map (λ e. e.counted) ended.items) }
@@ -49,7 +49,7 @@ pub(crate) fn merged<A: Ledger>(mut share: Share<A>, mut ended: Vec<Ended<A>>) -
     share
 }
 
-/// The shares with those of all callers.
+/// Returns the shares with those of all callers.
 pub(crate) fn both_merged<B: Ledger, C: Ledger, N: Naming>(
     mut executed: Share<B>,
     mut refused: Share<C>,

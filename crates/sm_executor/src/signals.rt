@@ -8,7 +8,8 @@ use sm_reservation::StreamId;
 use std::sync::ledger::Ledger;
 
 impl<A: Ledger, B: Ledger, C: Ledger, N: Naming> Held<A, B, C, N> {
-    /// The runner's next step posts a signal, if it is made. No other step lets a stream go on that waits.
+    /// Tells whether the runner's next step posts a signal, if it is made. No other step lets a stream go on that
+    /// waits.
     pub fn is_before_signal(&self, runner: &Runner<A>) -> bool {
         let StreamId { plan, stream } = runner.id();
         let Some(at) = self.position(runner) else {

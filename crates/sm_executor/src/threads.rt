@@ -1,8 +1,8 @@
 //! Runs: one thread for each stream.
 //!
-//! The threads wait for each other before their first steps, so that no stream has stepped where one cannot be started. What a
-//! thread did to its runner is not told to who joins it: the locked machine says of each runner whether its stream has made its end,
-//! and the ends are compared with the streams that were noted before.
+//! The threads wait for each other before their first steps, so that no stream has stepped if one cannot be started. A
+//! thread does not tell what it did to its runner. The locked machine says of each runner whether its stream has
+//! finished, and the ends are compared with the streams that were noted before.
 ghost use Rattle.std.specs.Prelude.{◌≡◌, ◌≢◌, ◌≤◌, ◌+◌, All, IfOk, IfErr, length, [], true, false, vec_len, vec_capacity};
 ghost use Rattle.sm_executor.specs.Ending.{HasEnded, HasNotEnded};
 ghost use Rattle.sm_executor.specs.Views.{streams_ended, streams_run};
@@ -44,13 +44,13 @@ pub enum RunFault {
 pub struct NotRun<A: Ledger> {
     /// Why.
     pub fault: RunFault,
-    /// The runners whose streams have not made their ends.
+    /// The runners whose streams have not finished.
     pub runners: Vec<Runner<A>>,
     /// The ends of the other streams.
     pub ended: Vec<Ended<A>>,
 }
 
-/// How the threads of a run have fared. All have ended.
+/// The outcome of a run's threads. All have ended.
 #[derive(Clone, Copy, PartialEq, Eq)]
 pub(crate) enum Ran {
     /// One of them cannot be started.
@@ -61,7 +61,7 @@ pub(crate) enum Ran {
     Through,
 }
 
-/// How they have fared, by whether all have started.
+/// Returns how they have fared, by whether all have started.
 fn outcome(all: bool, starter: Starter) -> Ran {
     if starter.has_spent() {
         Ran::Spent
@@ -72,14 +72,15 @@ fn outcome(all: bool, starter: Starter) -> Ran {
     }
 }
 
-/// What the threads of a run are lent: the runners, and the links in their places.
+/// The things that the threads of a run are lent: the runners, and the links in their places.
 #[derive(Drop)]
 struct Lent<'r, A: Ledger, L: Link> {
     runners: &'r mut [Runner<A>],
     links: &'r [Mutex<L>],
 }
 
-/// Starts a thread for each runner's stream, over the link in the runner's place. True only if all have started, and all are told.
+/// Starts a thread for each runner's stream, over the link in the runner's place. Returns true only if all have
+/// started, and all are told.
 fn start_all<
     's,
     'r: 's,
@@ -141,7 +142,7 @@ pub(crate) fn run_all<
     outcome(all, starter)
 }
 
-/// The streams of runners.
+/// Returns the streams of runners.
 fn streams_of<A: Ledger>(alloc: Global, runners: &[Runner<A>]) -> Result<Vec<StreamId>, AllocError>
     ensures { IfOk result (λ streams. streams.items ≡ streams_run runners.now) }
 {
@@ -152,7 +153,7 @@ fn streams_of<A: Ledger>(alloc: Global, runners: &[Runner<A>]) -> Result<Vec<Str
     Ok(streams)
 }
 
-/// True only if the ends are of these streams, in their order.
+/// Tells whether the ends are of these streams, in their order: true only if they are.
 fn are_of<A: Ledger>(ended: &[Ended<A>], streams: &[StreamId]) -> bool
     ensures { result ≡ true → streams_ended ended.now ≡ streams.now }
 {
@@ -167,7 +168,8 @@ fn are_of<A: Ledger>(ended: &[Ended<A>], streams: &[StreamId]) -> bool
     true
 }
 
-/// The ends of the runners whose streams have made them, and the other runners, each into a list with room for all. Takes no memory.
+/// Puts the ends of the runners whose streams have finished, and the other runners, each into a list with room for all.
+/// Takes no memory.
 fn retire_all<A: Ledger, B: Ledger, C: Ledger, N: Naming, R: Wait>(
     rt: &R,
     board: &Board<A, B, C, N>,
@@ -192,7 +194,8 @@ fn retire_all<A: Ledger, B: Ledger, C: Ledger, N: Naming, R: Wait>(
     runners.destroy_empty();
 }
 
-/// What a run needs after its threads: the streams as they were before, and two empty lists with room for all runners.
+/// The things that a run needs after its threads: the streams as they were before, and two empty lists with room for
+/// all runners.
 pub(crate) struct Lists<A: Ledger> {
     streams: Vec<StreamId>,
     ended: Vec<Ended<A>>,
@@ -201,7 +204,7 @@ pub(crate) struct Lists<A: Ledger> {
 }
 
 impl<A: Ledger> Lists<A> {
-    /// The streams of these runners, and two empty lists with room for all of them.
+    /// Returns the streams of these runners, and two empty lists with room for all of them.
     fn new(alloc: Global, runners: &[Runner<A>]) -> Result<Lists<A>, AllocError>
         ensures streams { IfOk result (λ lists. lists.streams.items ≡ streams_run runners.now) }
         ensures room { IfOk result (λ lists. (length runners.now ≤ vec_capacity lists.ended) × (length runners.now ≤ vec_capacity lists.left)) }
@@ -219,7 +222,7 @@ impl<A: Ledger> Lists<A> {
         })
     }
 
-    /// What a run of these runners needs, beside the runners. Where there is no memory they come back.
+    /// Makes what a run of these runners needs, beside the runners. If there is no memory they come back.
     pub fn beside(
         alloc: Global,
         runners: Vec<Runner<A>>,
@@ -239,7 +242,7 @@ impl<A: Ledger> Lists<A> {
         Ok((lists, runners))
     }
 
-    /// What a run is answered, after its threads have ended so.
+    /// Returns the answer to a run, after its threads have ended so.
     pub fn answer<B: Ledger, C: Ledger, N: Naming, R: Wait>(
         self,
         rt: &R,
@@ -285,8 +288,9 @@ impl<A: Ledger> Lists<A> {
     }
 }
 
-/// Makes all steps of the runners' streams, each in a thread of its own and over the link in its runner's place, which the thread keeps
-/// until its last step. Where there is no link in that place the stream loses no call. What comes back is as of `run`.
+/// Makes all steps of the runners' streams, each in a thread of its own. The thread keeps the link in its runner's
+/// place until its last step. If there is no link in that place the stream loses no call. The answer is as that of
+/// `run`.
 pub fn run_over<
     A: Ledger + Send + Sync,
     B: Ledger + Send + Sync,
@@ -315,10 +319,10 @@ pub fn run_over<
     lists.answer(rt, board, runners, ran)
 }
 
-/// Makes all steps of the runners' streams, each in a thread of its own. With Ok there is an end for each runner, in their order. Else
-/// as many runners and ends come back as there were runners, with NoMemory the runners as they were, and where streams may have
-/// stepped only runners of streams that have not made their ends. Each end tells what the machine had of its stream once that had
-/// ended.
+/// Makes all steps of the runners' streams, each in a thread of its own. With Ok there is an end for each runner, in
+/// their order. Otherwise the runners and ends that come back are together as many as there were runners. With NoMemory
+/// they are the runners as they were. If streams may have stepped, the runners that come back are of streams that have
+/// not finished. Each end tells what the machine had of its stream once that had ended.
 pub fn run<
     A: Ledger + Send + Sync,
     B: Ledger + Send + Sync,

@@ -1,4 +1,4 @@
-//! The streams of a machine that have not made their ends.
+//! The streams of a machine that have not finished.
 ghost use Rattle.std.specs.Prelude.{◌≡◌, ◌≤◌, ◌<◌, ◌+◌, ◌++◌, length, vec_len, vec_capacity};
 ghost use Rattle.sm_protocol.specs.State.{stream_count};
 ghost use Rattle.sm_machine.specs.State.{state_of};
@@ -8,7 +8,8 @@ ghost use Rattle.sm_executor.specs.declared.limits.TheConstants.{MOST_UNFINISHED
 use sm_machine::Machine;
 use sm_reservation::StreamId;
 
-/// Adds the streams of a plan that have not made their ends, each with how many instructions it has made. Takes no memory.
+/// Adds the streams of a plan that have not finished, each with the number of instructions that it has made. Takes no
+/// memory.
 fn push_unfinished(machine: &Machine, plan: u32, positions: &mut Vec<(StreamId, usize)>)
     requires known { plan < length (state_of machine.now).plans }
     requires room { vec_len positions.old + length (unfinished_in (state_of machine.now) plan (stream_count (state_of machine.now) plan)) ≤ vec_capacity positions.old }
@@ -27,7 +28,7 @@ fn push_unfinished(machine: &Machine, plan: u32, positions: &mut Vec<(StreamId, 
     }
 }
 
-/// The streams that have not made their ends, into a list with room for them. Takes no memory.
+/// Lists the streams that have not finished, in a list with room for them. Takes no memory.
 pub(crate) fn list_unfinished(machine: &Machine, positions: &mut Vec<(StreamId, usize)>)
     requires { MOST_UNFINISHED ≤ vec_capacity positions.old }
     ensures items { positions.new.items ≡ unfinished_streams (state_of machine.now) }

@@ -1,11 +1,10 @@
 -- The entries of each shard, the newest first, and what a pass has seen of them.
--- `VersionsRise`, `word_at` and `words_for` are steps of the code's own way, which private functions' contracts cite: whoever reads the public ones
--- need not read them.
+-- `VersionsRise`, `word_at` and `words_for` are internal: you need not read them for the public contracts.
 use Rattle.std.specs.Prelude.{◌≡◌, ◌⊎◌, ℕ, zero, suc, ◌+◌, ◌<◌, ◌==◌, List, [], ◌∷◌, if◌then◌else◌, Option, Some, None, IsSomeAnd, All, Contains, map}
 use Rattle.sm_placement.specs.declared.entry.Entry.{Entry}
 use Rattle.sm_map.specs.Entry.{word_for}
 
--- the entry of a shard at the opening, alone in a list; none where there is no such shard
+-- the entry of a shard at the opening, alone in a list; none if there is no such shard
 abbrev pub opened_at : List Entry → ℕ → List Entry
 opened_at [] shard = []
 opened_at (entry ∷ entries) zero = entry ∷ []
@@ -47,12 +46,12 @@ IsNotBefore opening since shard this = All (IsSameOrOlder this) (entries_of_shar
 abbrev pub AllStand : List Entry → List (ℕ × Entry) → List (ℕ × Entry) → Type 0
 AllStand opening stores seen = All (λ x. Contains (entries_of_shard opening stores x.0) x.1) seen
 
--- the word of a shard whose newest entry this is; 0 where there is none
+-- the word of a shard whose newest entry this is; 0 if there is none
 abbrev pub word_at : Option Entry → ℕ
 word_at None = 0
 word_at (Some entry) = word_for entry
 
--- the words at the opening: one for each shard, and where there is no shard one that stands for none
+-- the words at the opening: one for each shard, and if there is no shard one that stands for none
 abbrev pub words_for : List Entry → List ℕ
 words_for [] = 0 ∷ []
 words_for (entry ∷ entries) = map word_for (entry ∷ entries)

@@ -1,4 +1,4 @@
--- What contracts see of the words, of the publisher and of a pass.
+-- The views that contracts have of the words, of the publisher and of a pass.
 use Rattle.std.specs.Prelude.{◌≡◌, ◌++◌, ℕ, List}
 use Rattle.atomic_table.specs.Seated.{TableId}
 use Rattle.sm_placement.specs.declared.entry.Entry.{Entry}

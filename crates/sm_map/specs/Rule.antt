@@ -1,7 +1,7 @@
 -- The rule of the words, and what each step tells.
--- Of a publisher and of a pass contracts see `publisher_of` and `pass_model`, and come to nothing else of this. The others are what the words,
--- the publisher and a pass keep (`HasWords`, `IsPublisherSeat`, `IsPassSeat`), and steps of the code's own way, which the table's rule and its
--- steps cite: whoever reads the public ones need not read them.
+-- Of a publisher and of a pass contracts see `publisher_of` and `pass_model`, and come to nothing else of this. The
+-- others are what the words, the publisher and a pass keep (`HasWords`, `IsPublisherSeat`, `IsPassSeat`), and internal
+-- ones, which the table's rule and its steps cite: you need not read them for the public contracts.
 use Rattle.std.specs.Prelude.{◌≡◌, ℕ, ◌<◌, ◌≤◌, List, [], ◌∷◌, ◌++◌, true, false, Some, All, length, slice_index}
 use mathlib.Core.Option.{some}
 use lib.ListN.{get_elem?}
@@ -46,7 +46,7 @@ publisher_of table view = record { words = words_model table view.servers view.o
 abbrev pub pass_model : TableId → View → PassModel
 pass_model table view = record { words = words_model table view.servers view.opening; since = view.since; seen = view.seen }
 
--- the view that a pass leaves behind where it joins the publisher: nothing stored and nothing seen
+-- the view that a pass leaves behind when it joins the publisher: nothing stored and nothing seen
 abbrev pub spent : View
 spent = pass_view 0 [] [] []
 
@@ -70,7 +70,7 @@ with_seen view shard entry = record view { seen = (shard, entry) ∷ view.seen }
 abbrev pub with_store : View → ℕ → Entry → View
 with_store view shard entry = record view { stores = (shard, entry) ∷ view.stores }
 
--- What the rule says of the view of a seat: the publisher alone knows all that is stored, what was stored when the seat was parted from it
+-- The rule for the view of a seat: the publisher alone knows all that is stored, what was stored when the seat was parted from it
 -- is the earlier part of that, and each entry that was seen is one of its shard's.
 pub record Fits (servers : ℕ) (opening : List Entry) (publisher : ℕ) (stores : List (ℕ × Entry)) (seat : ℕ) (view : View) : Type 0 where
   pub one : view.publishes ≡ true → (seat ≡ publisher) × (view.servers ≡ servers) × (view.opening ≡ opening) × (view.stores ≡ stores)
@@ -79,7 +79,7 @@ pub record Fits (servers : ℕ) (opening : List Entry) (publisher : ℕ) (stores
   pub stand : AllStand opening stores view.seen
 
 -- The rule, for words that were opened with these entries. One seat is the publisher's, and all that was stored is what it stored.
--- Each word is that of its shard's newest entry, and 0 where there is no shard. Along a shard's list the versions rise by one,
+-- Each word is that of its shard's newest entry, and 0 if there is no shard. Along a shard's list the versions rise by one,
 -- and each server is below the count and each version below 2^47.
 pub record Kept {S : Type 0} (servers : ℕ) (opening : List Entry) (state : State S View) : Type 0 where
   pub publisher : ℕ

@@ -9,7 +9,7 @@ use sm_server::ServerId;
 /// A word is the version times this, plus the server's number and one, or plus 0 for no server.
 const VERSION_UNIT: u64 = 65_536;
 
-/// The word that stands for an entry.
+/// Returns the word that stands for an entry.
 pub fn word_of(entry: Entry) -> u64
     requires { IsInRange MOST_SERVERS entry }
     ensures word { result ≡ word_for entry }
@@ -22,7 +22,7 @@ pub fn word_of(entry: Entry) -> u64
     entry.version * VERSION_UNIT + server
 }
 
-/// The entry that a word stands for.
+/// Returns the entry that a word stands for.
 pub fn entry_of(word: u64) -> Entry
     ensures entry { result ≡ entry_for word }
     ensures back { word_for result ≡ word }

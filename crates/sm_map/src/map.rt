@@ -1,8 +1,8 @@
 //! The words of the map, their one publisher, and the passes by which they are read.
 //!
-//! No call here waits or takes a lock, and none but `open` takes memory. A publisher and a pass take no bytes:
-//! proofs know by them what was stored and what was seen. A look is no older than what its pass has seen, and than
-//! what had been stored when the pass was made or last met the publisher. How old it may be beyond that is not said.
+//! No call here waits or takes a lock, and none but `open` takes memory. A publisher and a pass take no bytes: proofs
+//! know by them what was stored and what was seen. A look is no older than what its pass has seen, and than what had
+//! been stored when the pass was made or last met the publisher. Nothing is said of how old it may be beyond that.
 ghost use Rattle.std.specs.Prelude.{◌≡◌, ◌<◌, ◌≤◌, [], ◌∷◌, Some, All, IfOk, length};
 ghost use Rattle.sm_map.specs.Entry.{IsInRange};
 ghost use Rattle.sm_map.specs.History.{AllSameOrOlder, Follows, IsNotBefore, newest, words_for};
@@ -52,7 +52,7 @@ impl Model for Publisher {
     ghost invariant = { λ p. IsPublisherSeat p.seat.me };
 }
 
-/// What a reader of a map's words carries. By it proofs know what the reader has seen.
+/// The pass of a reader of a map's words. By it proofs know what the reader has seen.
 #[derive(Drop)]
 pub struct Pass {
     seat: Seat<(), View>,
@@ -69,7 +69,7 @@ impl Model for Pass {
     ghost invariant = { λ p. IsPassSeat p.seat.me };
 }
 
-/// The words of some entries.
+/// Returns the words of some entries.
 fn words_of(alloc: Global, entries: &[Entry]) -> Result<Vec<u64>, AllocError>
     requires { All (IsInRange MOST_SERVERS) entries.now }
     ensures { IfOk result (λ v. v.items ≡ words_for entries.now) }
@@ -85,8 +85,8 @@ fn words_of(alloc: Global, entries: &[Entry]) -> Result<Vec<u64>, AllocError>
 }
 
 impl Words {
-    /// The words of a map with an entry for each shard, and their publisher. Where there is no shard,
-    /// there is one word that stands for none and stays 0.
+    /// Opens a map with an entry for each shard, and returns its words and their publisher. If there is no shard, one
+    /// word stands for none and stays 0.
     pub fn open(
         alloc: Global,
         servers: u32,
@@ -107,7 +107,7 @@ impl Words {
         Ok((Words { table }, Publisher { seat }))
     }
 
-    /// A new pass, which has seen nothing. Each look by it is no older than what is stored by now.
+    /// Makes a new pass, which has seen nothing. Each look by it is no older than what is stored by now.
     pub fn pass(&self, publisher: &mut Publisher) -> Pass
         requires { publisher.old.words ≡ self.now }
         ensures same { publisher.new ≡ publisher.old }
@@ -117,8 +117,8 @@ impl Words {
         Pass { seat }
     }
 
-    /// The entry of a shard, by one load of its word. It is no older than what the pass has seen, and than what had been stored when the
-    /// pass was made or last met the publisher.
+    /// Returns the entry of a shard, by one load of its word. It is no older than what the pass has seen, and than what
+    /// had been stored when the pass was made or last met the publisher.
     pub fn look(&self, pass: &mut Pass, shard: ShardId) -> Entry
         requires pass { pass.old.words ≡ self.now }
         requires shard { shard < length self.now.opening }
@@ -145,9 +145,9 @@ impl Words {
         shared.store::<Store>(&mut publisher.seat, shard.number() as usize, word);
     }
 
-    /// The publisher's newest entry of a shard, for a pass that is in one thread with the publisher,
-    /// as where the publisher stands behind a lock. One load of the shard's word gives the entry;
-    /// three loads beside it only tell proofs that the two met.
+    /// Returns the publisher's newest entry of a shard, for a pass that is in one thread with the publisher, for
+    /// example if the publisher stands behind a lock. One load of the shard's word gives the entry; three loads beside
+    /// it only tell proofs that the two met.
     pub fn meet_in(&self, publisher: &mut Publisher, pass: &mut Pass, shard: ShardId) -> Entry
         requires publisher { publisher.old.words ≡ self.now }
         requires pass { pass.old.words ≡ self.now }
@@ -169,7 +169,7 @@ impl Words {
         entry_of(word)
     }
 
-    /// As `meet_in`, by value.
+    /// Does what `meet_in` does, by value.
     pub fn meet(
         &self,
         mut publisher: Publisher,

@@ -13,7 +13,7 @@
 //!
 //! - A pass loads a shard's word (`Look`). It has then seen the word's entry.
 //! - The publisher stores a shard's word (`Store`). Its list of the shard then has the entry.
-//! - A load parts a pass from the publisher (`Parts`, as a `Split`). The pass has what was seen: nothing where it is new. It knows too what
+//! - A load parts a pass from the publisher (`Parts`, as a `Split`). The pass has what was seen: nothing if it is new. It knows too what
 //!   is stored by then.
 //! - A pass joins the publisher (`Parts`, as a `Join`), and the two load a shard's word as one (`Meet`).
 //!   They then know that the entry is the newest. The pass's old seat stays behind, with nothing stored and nothing seen.
@@ -22,15 +22,15 @@ use sm_placement::Entry;
 use sm_server::ShardId;
 use std::collections::LinkedList;
 
-/// What the words are opened with, which proofs alone read.
+/// The opening of the words, which proofs alone read.
 #[derive(Drop)]
 pub struct Opening {
     pub servers: u32,
     pub entries: Vec<Entry>,
 }
 
-/// What a seat knows: what the words were opened with and, the newest first, what the publisher has stored,
-/// what it had stored when a pass was parted from it, and what that pass has seen. No value of it is made.
+/// The knowledge of a seat: what the words were opened with and, the newest first, what the publisher has stored, what
+/// it had stored when a pass was parted from it, and what that pass has seen. No value of it is made.
 pub struct View {
     pub publishes: bool,
     pub servers: u32,
@@ -79,7 +79,7 @@ impl<S> Play<S, View> for Store {
     ghost then = { Stores };
 }
 
-/// How a pass is parted from the publisher, and how the two are joined.
+/// The parting of a pass from the publisher, and the joining of the two.
 pub struct Parts;
 
 impl Split<View> for Parts {

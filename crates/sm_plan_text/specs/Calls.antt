@@ -56,7 +56,7 @@ call_worded servers d PrepareDrop = call.PrepareDrop (id_in servers Other d) (nu
 abbrev pub NamedCall : Type 0
 NamedCall = ℕ × ℕ × Call
 
--- a call of the list by its word; where that says no call, what stands for it in a document that is refused
+-- a call of the list by its word; if that says no call, what stands for it in a document that is refused
 abbrev pub call_by : List (List ℕ) → List (List ℕ) → Data → Option CallWord → NamedCall
 call_by shards servers d None = (0, 0, call.Drop)
 call_by shards servers d (Some w) = (id_in shards Shard d, id_in servers Server d, call_worded servers d w)

@@ -68,7 +68,7 @@ event_of shards servers d Lose = event.Lose (plan_number_in d) (stream_number_in
 event_of shards servers d Refill = event.Refill (plan_number_in d) (stream_number_in d) (number_in More MOST_CALLS d)
 event_of shards servers d Begin = event.Begin (number_in Plan MOST_NUMBER d)
 
--- an event of the list by its word; where that says no event, what stands for it in a document that is refused
+-- an event of the list by its word; if that says no event, what stands for it in a document that is refused
 abbrev pub event_by : List (List ℕ) → List (List ℕ) → Data → Option EventWord → EventText
 event_by shards servers d None = event.Begin 0
 event_by shards servers d (Some w) = event_of shards servers d w

@@ -35,7 +35,7 @@ instr_word text =
     else if bytes_eq text (codes "wait") then Some Wait
     else None
 
--- the members that an instruction has by its word, in a plan with so many signals
+-- the members that an instruction has by its word, in a plan with this many signals
 abbrev pub instr_table : List (List ℕ) → List (List ℕ) → ℕ → InstrWord → List Row
 instr_table shards servers signals PrepareAdd = one Shard (known shards) ∷ one Server (known servers) ∷ one Other (known servers) ∷ []
 instr_table shards servers signals PrepareDrop = one Shard (known shards) ∷ one Server (known servers) ∷ one Other (known servers) ∷ []
@@ -47,7 +47,7 @@ instr_table shards servers signals Unlist = one Shard (known shards) ∷ []
 instr_table shards servers signals Signal = one SignalMember (below signals) ∷ []
 instr_table shards servers signals Wait = one SignalMember (below signals) ∷ []
 
--- the faults of an instruction in a plan with so many signals, whatever stands before it in the code
+-- the faults of an instruction in a plan with this many signals, whatever stands before it in the code
 abbrev pub instr_faults : List (List ℕ) → List (List ℕ) → ℕ → List Data → Data → List TextFault
 instr_faults shards servers signals before d = worded_faults Code Do instr_word (instr_table shards servers signals) d
 
@@ -63,7 +63,7 @@ instr_of shards servers signals d Unlist = instr.Unlist (id_in shards Shard d)
 instr_of shards servers signals d Signal = instr.Signal (number_below signals SignalMember d)
 instr_of shards servers signals d Wait = instr.Wait (number_below signals SignalMember d)
 
--- an instruction by its word; where that says no instruction, what stands for it in a plan that is refused
+-- an instruction by its word; if that says no instruction, what stands for it in a plan that is refused
 abbrev pub instr_by : List (List ℕ) → List (List ℕ) → ℕ → Data → Option InstrWord → Instr
 instr_by shards servers signals d None = instr.Signal 0
 instr_by shards servers signals d (Some w) = instr_of shards servers signals d w

@@ -1,4 +1,4 @@
--- What the placement of a document is opened with.
+-- The parts with which the placement of a document is opened.
 use Rattle.sm_placement.specs.Opening.{Opening}
 use Rattle.sm_plan_text.specs.Documents.{DocumentModel}
 

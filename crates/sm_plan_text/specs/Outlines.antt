@@ -1,5 +1,5 @@
--- What is read of a document whose longest lists are read as they come, and are empty in what is kept.
--- Steps of the code's own way, which private functions' contracts cite: whoever reads the public ones need not read them.
+-- The content of a document whose longest lists are read as they come, and are empty in what is kept.
+-- Internal definitions: you need not read them for the public contracts.
 use Rattle.std.specs.Prelude.{◌≡◌, ◌≤◌, ℕ, List, [], length, map, Option, Some, None, MatchOption}
 use Rattle.serde_json.specs.Data.{Data, array, object, Items, no_items, Members}
 use Rattle.serde_json.specs.Find.{get_member}
@@ -20,7 +20,7 @@ use Rattle.sm_plan_text.specs.Calls.{NamedCall, call_faults, call_in}
 use Rattle.sm_plan_text.specs.Events.{event_faults, event_in}
 use Rattle.sm_plan_text.specs.declared.limits.TheConstants.{MOST_EVENTS}
 
--- what the entries of a list were read as: their values where nothing is wrong, and what is wrong
+-- what the entries of a list were read as: their values if nothing is wrong, and what is wrong
 pub record IsEarlyList {V : Type 0} (faults_of : List Data → Data → List TextFault) (value_of : Data → V) (ids : Type 0) (list : EarlyList V) (ds : List Data) : Type 0 where
   pub few : length ds ≤ MOST_EVENTS
   pub faults : list.faults.lowest ≡ answered (walked faults_of [] ds)

@@ -1,5 +1,5 @@
 -- The parcels of a plan: what a signal carries, and what a stream holds at its start.
--- `HaveIds` is a step of the code's own way, which private functions' contracts cite: whoever reads the public ones need not read it.
+-- `HaveIds` is internal: you need not read it for the public contracts.
 use Rattle.std.specs.Prelude.{ℕ, ◌+◌, ◌≤◌, List, [], ◌∷◌, ◌++◌, length, codes, map, Option, Some, None, option_and_then, unwrap_or, is_some, if◌then◌else◌}
 use Rattle.std.specs.Str.{bytes_eq}
 use Rattle.serde_json.specs.Data.{Data}
@@ -30,7 +30,7 @@ plain_named word =
     else if bytes_eq word (codes "secondary") then Some plain.Secondary
     else None
 
--- the state of a cell right that a member says; Absent where it says none
+-- the state of a cell right that a member says; Absent if it says none
 abbrev pub plain_in : Member → Data → PlainCell
 plain_in member d = unwrap_or (option_and_then plain_named (text_found member d)) plain.Absent
 
@@ -93,7 +93,7 @@ lead_worded servers d Ready = lead.Ready (id_in servers members.From d) (id_in s
 lead_worded servers d Handing = lead.Handing (id_in servers members.From d) (id_in servers members.To d)
 lead_worded servers d Handed = lead.Handed (id_in servers members.From d) (id_in servers members.To d)
 
--- a crown by its word; where that says no lead, what stands for it in a plan that is refused
+-- a crown by its word; if that says no lead, what stands for it in a plan that is refused
 abbrev pub crown_by : List (List ℕ) → List (List ℕ) → Data → Option LeadWord → Crown
 crown_by shards servers d None = record { shard = 0; lead = lead.Gone; listed = None }
 crown_by shards servers d (Some w) = record { shard = id_in shards members.Shard d; lead = lead_worded servers d w; listed = listed_in servers d }

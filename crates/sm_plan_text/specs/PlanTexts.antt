@@ -1,6 +1,6 @@
 -- The text of a plan, over the names of the shards and servers: what is written for it.
--- `scalar_data`, `scalars_put`, `lead_text` and `step_data` are steps of the code's own way, which private functions' contracts cite: whoever reads
--- the public ones need not read them.
+-- `scalar_data`, `scalars_put`, `lead_text` and `step_data` are internal: you need not read them for the public
+-- contracts.
 use Rattle.std.specs.Prelude.{◌≡◌, ℕ, Bool, List, [], ◌∷◌, codes, map, slice_index_or, Option, Some, None, nat_lt, if◌then◌else◌}
 use Rattle.std.specs.List.{list_any}
 use Rattle.std.specs.Borrow.{Bor}
@@ -203,7 +203,7 @@ stream_data shards servers retries s = saying (
     (Holds, parcel_data shards servers s.holds) ∷
     (if retries then (Retries, whole_data s.retries) ∷ [] else []))
 
--- the format that is written: 2 where a stream has retries, which format 1 doesn't know
+-- the format that is written: 2 if a stream has retries, which format 1 doesn't know
 abbrev pub format_of : PlanModel → ℕ
 format_of p = if has_retries p then 2 else 1
 

@@ -19,7 +19,7 @@ faults_within faults (Some d) = faults d
 
 -- ---- streams
 
--- Streams may say how many retries they have, unless the plan is of format 1, as it is where it says nothing.
+-- Streams may say how many retries they have, unless the plan is of format 1, as it is if it says nothing.
 abbrev pub knows_retries : Data → Bool
 knows_retries plan = unwrap_or (option_map (λ d. not (is_number 1 (whole_number_of d))) (found members.Format plan)) false
 
@@ -38,7 +38,7 @@ stream_faults shards servers signals retries before d =
     ++ faults_within (parcel_faults members.Holds shards servers []) (found members.Holds d)
     ++ walked (instr_faults shards servers signals) [] (entries_in members.Code d)
 
--- a stream in a plan with so many signals, as its object says it; it has retries where the plan's format knows them
+-- a stream in a plan with this many signals, as its object says it; it has retries if the plan's format knows them
 abbrev pub stream_in : List (List ℕ) → List (List ℕ) → ℕ → Bool → Data → StreamModel
 stream_in shards servers signals retries d = record {
   budget = number_in members.Budget MOST_CALLS d;

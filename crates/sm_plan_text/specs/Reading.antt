@@ -1,5 +1,5 @@
--- What bytes are read as.
--- `rows_of_parts` is a step of the code's own way, which private functions' contracts cite: whoever reads the public ones need not read it.
+-- The documents that bytes are read as.
+-- `rows_of_parts` is internal: you need not read it for the public contracts.
 use Rattle.std.specs.Prelude.{ℕ, List, [], Option, Some, None, Result, Ok, Err, option_map, if◌then◌else◌}
 use Rattle.std.specs.Str.{is_utf8}
 use Rattle.serde_json.specs.Data.{Data}

@@ -1,5 +1,5 @@
 -- The rules of the code as rows of a table, over the names that a scope has.
--- Steps of the code's own way, which private functions' contracts cite: whoever reads the public ones need not read them.
+-- Internal definitions: you need not read them for the public contracts.
 use Rattle.std.specs.Prelude.{ℕ, Bool, false, ◌&&◌, not, List, [], ◌∷◌, Option, Some, None, is_some}
 use Rattle.serde_json.specs.Data.{Num}
 use Rattle.sm_placement.specs.Names.{is_name}
@@ -18,7 +18,7 @@ use Rattle.sm_plan_text.specs.Parcels.{HaveIds, plain_named}
 use Rattle.sm_plan_text.specs.declared.limits.TheConstants.{MOST_ASKS}
 use Rattle.sm_plan_code.specs.declared.limits.TheConstants.{MOST_RIGHTS}
 
--- the texts of a form, which are none where it asks for no text of its own. A new name is one that the scope hasn't
+-- the texts of a form, which are none if it asks for no text of its own. A new name is one that the scope hasn't
 abbrev pub has_form : Scope → Form → List ℕ → Bool
 has_form scope form.Name s = is_name s
 has_form scope form.NewServer s = is_name s && not (is_among scope.servers.now s)

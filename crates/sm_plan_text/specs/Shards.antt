@@ -11,7 +11,7 @@ use Rattle.sm_plan_text.specs.Values.{found, text_in, whole_number_of, number_in
 use Rattle.sm_plan_text.specs.Tables.{Row, one, maybe, new_name, whole, known, known_or_null, role, list, own_faults, walked}
 use Rattle.sm_placement.specs.declared.limits.TheConstants.{MOST_LOAD, MOST_REPLICAS, MOST_CELLS}
 
--- no more replicas of a shard may be away at once than it wants, where it says how many it wants
+-- no more replicas of a shard may be away at once than it wants, if it says how many it wants
 abbrev pub cap_limit : Data → ℕ
 cap_limit d = min MOST_REPLICAS (unwrap_or (option_and_then whole_number_of (found Want d)) MOST_REPLICAS)
 
@@ -19,7 +19,7 @@ cap_limit d = min MOST_REPLICAS (unwrap_or (option_and_then whole_number_of (fou
 abbrev pub cell_count : List Data → ℕ
 cell_count shards = length (flat_map (entries_in Cells) shards)
 
--- the members of a shard, whose name may not be one of those that are taken, and which has at most so many cells
+-- the members of a shard, whose name may not be one of those that are taken, and which has at most this many cells
 abbrev pub shard_table : List (List ℕ) → List (List ℕ) → ℕ → Data → List Row
 shard_table servers taken most_cells d =
     one Name (new_name taken) ∷
@@ -40,7 +40,7 @@ cell_table servers =
 abbrev pub cell_faults : List (List ℕ) → List Data → Data → List TextFault
 cell_faults servers before d = own_faults Cells (cell_table servers) d
 
--- the faults of a shard before which the shards have so many cells, and then of its cells. All shards together have `MOST_CELLS` at most
+-- the faults of a shard before which the shards have this many cells, and then of its cells. All shards together have `MOST_CELLS` at most
 abbrev pub faults_of_shard : List (List ℕ) → List (List ℕ) → ℕ → Data → List TextFault
 faults_of_shard servers taken cells d =
     own_faults Shards (shard_table servers taken (MOST_CELLS - cells) d) d

@@ -24,11 +24,11 @@ pub data Want : Type 0 where
   known : List (List ℕ) → Want
   -- such a text, or null
   known_or_null : List (List ℕ) → Want
-  -- a list of at most so many entries
+  -- a list of at most this many entries
   list : ℕ → Want
-  -- a list of at most so many texts, each of which names one of these
+  -- a list of at most this many texts, each of which names one of these
   known_list : ℕ → List (List ℕ) → Want
-  -- a list of at most so many objects, no two of which have the same texts in these members
+  -- a list of at most this many objects, no two of which have the same texts in these members
   keyed : ℕ → List Member → Want
   -- a whole number below a count
   below : ℕ → Want
@@ -100,7 +100,7 @@ name_fault m names (Some s) = if is_some (number_named names s) then [] else Unk
 abbrev pub count_faults : Member → ℕ → ℕ → List TextFault
 count_faults m limit count = if nat_le count limit then [] else TooMany m ∷ []
 
--- the fault of a value that is to be a list of at most so many entries
+-- the fault of a value that is to be a list of at most this many entries
 abbrev pub list_fault : Member → ℕ → Option Items → List TextFault
 list_fault m limit None = Shape m ∷ []
 list_fault m limit (Some ds) = count_faults m limit (length (entries ds))
@@ -191,7 +191,7 @@ abbrev unknown_fault : Member → List (List ℕ) → Option Members → List Te
 unknown_fault parent names None = Shape parent ∷ []
 unknown_fault parent names (Some members) = if has_unknown_member names members then Shape parent ∷ [] else []
 
--- the fault of what stands in this member where it is no object, or has a member that is none of these
+-- the fault of what stands in this member if it is no object, or has a member that is none of these
 abbrev pub object_faults : Member → List (List ℕ) → Data → List TextFault
 object_faults parent names d = unknown_fault parent names (as_object d)
 
@@ -199,7 +199,7 @@ object_faults parent names d = unknown_fault parent names (as_object d)
 abbrev pub own_faults : Member → List Row → Data → List TextFault
 own_faults parent table d = object_faults parent (map (λ row. text_of row.member) table) d ++ flat_map (row_faults d) table
 
--- the faults of what stands in this member where its word says none of the tables: it may be no object, and the word has a fault
+-- the faults of what stands in this member if its word says none of the tables: it may be no object, and the word has a fault
 abbrev pub wordless_faults : Member → Member → Data → List TextFault
 wordless_faults parent word d = (if is_some (as_object d) then [] else Shape parent ∷ []) ++ Shape word ∷ []
 
@@ -208,7 +208,7 @@ abbrev pub by_word : {W : Type 0} → Member → Member → (W → List Row) →
 by_word parent word table d None = wordless_faults parent word d
 by_word parent word table d (Some w) = object_faults parent (text_of word ∷ map (λ row. text_of row.member) (table w)) d ++ flat_map (row_faults d) (table w)
 
--- the faults of the object itself, where a word of it says which table it has
+-- the faults of the object itself, if a word of it says which table it has
 abbrev pub worded_faults : {W : Type 0} → Member → Member → (List ℕ → Option W) → (W → List Row) → Data → List TextFault
 worded_faults parent word named table d = by_word parent word table d (option_and_then named (text_found word d))
 

@@ -1,5 +1,5 @@
--- What the members of a JSON object say. A member that is missing or not in its form says nothing, and stands for 0, false, or what is empty, or
--- where it is missing for a default. A document is refused in which one is not in its form, or one is missing that may not be.
+-- The values of a JSON object's members. A member that is missing or not in its form says nothing, and stands for 0, false, or what is empty, or
+-- if it is missing for a default. A document is refused in which one is not in its form, or one is missing that may not be.
 use Rattle.std.specs.Prelude.{ℕ, Bool, true, false, List, [], ◌∷◌, codes, fold, map, Option, Some, None, nat_le, nat_lt, option_and_then, option_map, unwrap_or, position, if◌then◌else◌}
 use Rattle.std.specs.Str.{bytes_eq}
 use Rattle.indexmap.specs.IndexSet.{insert_key}
@@ -65,7 +65,7 @@ items_of d = unwrap_or (option_map entries (as_array d)) []
 abbrev pub list_in : Member → Data → Option (List Data)
 list_in member d = option_map items_of (found member d)
 
--- the entries of what was found, where that is a list
+-- the entries of what was found, if that is a list
 abbrev pub entries_found : Option Data → List Data
 entries_found found = unwrap_or (option_map items_of found) []
 
@@ -105,7 +105,7 @@ ids_in names member d = map (λ entry. unwrap_or (id_named names entry) 0) (entr
 abbrev pub role_named : List ℕ → Option Role
 role_named word = if bytes_eq word (codes "primary") then Some Primary else if bytes_eq word (codes "secondary") then Some Secondary else None
 
--- the role that a member says; Secondary where it says none
+-- the role that a member says; Secondary if it says none
 abbrev pub role_in : Member → Data → Role
 role_in member d = unwrap_or (option_and_then role_named (text_found member d)) Secondary
 

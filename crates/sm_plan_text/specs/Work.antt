@@ -1,5 +1,5 @@
--- What a document says beside its servers and shards, whose names a scope has.
--- Steps of the code's own way, which private functions' contracts cite: whoever reads the public ones need not read them.
+-- The content of a document beside its servers and shards, whose names a scope has.
+-- Internal definitions: you need not read them for the public contracts.
 use Rattle.std.specs.Prelude.{◌≡◌, [], Option, option_map, option_and_then, map}
 use Rattle.serde_json.specs.Data.{Data}
 use Rattle.sm_plan_text.specs.declared.fault.TextFault.{TextFault}
@@ -20,7 +20,7 @@ use Rattle.sm_plan_text.specs.declared.limits.TheConstants.{LOG_PLACES}
 use Rattle.sm_plan_code.specs.declared.limits.TheConstants.{MOST_PLACES}
 use Rattle.sm_placement.specs.declared.limits.TheConstants.{MOST_SERVERS}
 
--- calls and events stand here, and where they were read early, this is what is kept
+-- calls and events stand here, and if they were read early, this is what is kept
 abbrev pub AreKept : Scope → Option Early → Data → Option Data → Option Data → Type 0
 AreKept scope early d calls events =
     IsKept (call_faults scope.shards.now scope.servers.now) (call_in scope.shards.now scope.servers.now) (HasIds scope) (calls_of early) (found members.Calls d) calls

@@ -15,7 +15,7 @@ const TO: Rule = Rule::One(Member::To, Form::Role);
 
 const NUMBER: Rule = Rule::One(Member::Number, Form::Whole(MOST_NUMBER));
 
-/// The members of a call with this word.
+/// Returns the members of a call with this word.
 fn rules_of(word: &str) -> Option<&'static [Rule]>
     ensures { (scope : Scope) → option_map (λ rules. map (row_of scope) rules.now) result ≡ option_map (call_table scope.shards.now scope.servers.now) (call_word word.now) }
 {
@@ -28,7 +28,7 @@ fn rules_of(word: &str) -> Option<&'static [Rule]>
     }
 }
 
-/// The call that an object says by its word, which is one of a call.
+/// Reads the call that an object says by its word, which is one of a call.
 fn call_of(word: &str, cursor: &Cursor<'_, '_>) -> Call
     ensures { IfSome (call_word word.now) (λ w. result ≡ call_worded cursor.now.scope.servers.now (view cursor.now.tree.now) w) }
 {

@@ -1,5 +1,5 @@
-//! Where a text is read. A member of a value that is missing or not in its form stands for 0, false, or what is empty, or where it is missing
-//! for a default.
+//! Cursors: places where a text is read. If a member of a value has not its form, 0, false, or what is empty stands for
+//! it. If it is missing, that or a default does.
 ghost use Rattle.std.specs.Prelude.{◌≡◌, [], option_map, option_and_then, map, false, IfOk, string_bytes};
 ghost use Rattle.sm_plan_text.specs.Words.{view, found, whole_number_of, text_in, role_named, role_in, after_named, flag_in, number_in, number_or, number_below, items_of, entries_in, id_of, id_named, id_in, plain_named};
 
@@ -18,7 +18,7 @@ pub struct Scope<'p> {
     pub retries: bool,
 }
 
-/// Where a text is read: a JSON value, the member that it stands in, and what it may name.
+/// A place where a text is read: a JSON value, the member that it stands in, and what it may name.
 #[derive(Clone, Copy)]
 pub struct Cursor<'p, 't> {
     pub alloc: Global,
@@ -28,7 +28,7 @@ pub struct Cursor<'p, 't> {
 }
 
 impl<'p, 't> Cursor<'p, 't> {
-    /// At a value in a member, over these names, outside a plan.
+    /// Makes a cursor at a value in a member, over these names, outside a plan.
     pub fn new(
         alloc: Global,
         tree: &'p Tree<'t>,
@@ -56,49 +56,49 @@ impl<'p, 't> Cursor<'p, 't> {
         }
     }
 
-    /// The value of a member, where it stands.
+    /// Returns the value of a member, where it stands.
     pub fn find(&self, member: Member) -> Option<&'p Tree<'t>>
         ensures { option_map (λ v. view v.now) result ≡ found member (view self.now.tree.now) }
     {
         self.tree.get(member.text())
     }
 
-    /// The text of a member.
+    /// Returns the text of a member.
     pub fn text(&self, member: Member) -> &'t str
         ensures { result.now ≡ text_in member (view self.now.tree.now) }
     {
         self.find(member).and_then(Tree::as_str).unwrap_or("")
     }
 
-    /// A copy of the text of a member.
+    /// Copies the text of a member.
     pub fn name(&self, member: Member) -> Result<String, AllocError>
         ensures { IfOk result (λ s. string_bytes s ≡ text_in member (view self.now.tree.now)) }
     {
         String::from_str(self.alloc, self.text(member))
     }
 
-    /// A replica's role.
+    /// Returns a replica's role.
     pub fn role(&self, member: Member) -> Role
         ensures { result ≡ role_in member (view self.now.tree.now) }
     {
         role_of(self.text(member)).unwrap_or(Role::Secondary)
     }
 
-    /// True or false.
+    /// Returns whether a member is true.
     pub fn flag(&self, member: Member) -> bool
         ensures { result ≡ flag_in member (view self.now.tree.now) }
     {
         self.find(member).and_then(Tree::as_bool).unwrap_or(false)
     }
 
-    /// The whole number that a member is.
+    /// Returns the whole number that a member is.
     pub fn whole_number(&self, member: Member) -> Option<u64>
         ensures { result ≡ option_and_then whole_number_of (found member (view self.now.tree.now)) }
     {
         self.find(member)?.as_u64()
     }
 
-    /// A whole number up to a limit, or the default where it is missing.
+    /// Returns a whole number up to a limit, or the default if it is missing.
     pub fn number_or(&self, member: Member, limit: u32, default: u32) -> u32
         ensures { result ≡ number_or default member limit (view self.now.tree.now) }
     {
@@ -111,14 +111,14 @@ impl<'p, 't> Cursor<'p, 't> {
         }
     }
 
-    /// A whole number up to a limit.
+    /// Returns a whole number up to a limit.
     pub fn number(&self, member: Member, limit: u32) -> u32
         ensures { result ≡ number_in member limit (view self.now.tree.now) }
     {
         self.number_or(member, limit, 0)
     }
 
-    /// The signal that a member is the number of.
+    /// Returns the signal whose number a member is.
     pub fn signal(&self, member: Member) -> u32
         ensures { result ≡ number_below self.now.scope.signals member (view self.now.tree.now) }
     {
@@ -128,7 +128,7 @@ impl<'p, 't> Cursor<'p, 't> {
         }
     }
 
-    /// The server that a member names, where it does.
+    /// Returns the server that a member names, if it names one.
     pub fn server_found(&self, member: Member) -> Option<ServerId>
         ensures { result ≡ option_and_then (id_named self.now.scope.servers.now) (found member (view self.now.tree.now)) }
     {
@@ -136,14 +136,14 @@ impl<'p, 't> Cursor<'p, 't> {
         Some(ServerId::new(server))
     }
 
-    /// The server that a member names.
+    /// Returns the server that a member names.
     pub fn server(&self, member: Member) -> ServerId
         ensures { result ≡ id_in self.now.scope.servers.now member (view self.now.tree.now) }
     {
         self.server_found(member).unwrap_or(ServerId::new(0))
     }
 
-    /// The shard that a member names.
+    /// Returns the shard that a member names.
     pub fn shard(&self, member: Member) -> ShardId
         ensures { result ≡ id_in self.now.scope.shards.now member (view self.now.tree.now) }
     {
@@ -153,7 +153,7 @@ impl<'p, 't> Cursor<'p, 't> {
         }
     }
 
-    /// The entries of a list.
+    /// Returns the entries of a list.
     pub fn entries(&self, member: Member) -> &'p [Tree<'t>]
         ensures { map view result.now ≡ entries_in member (view self.now.tree.now) }
     {
@@ -164,14 +164,14 @@ impl<'p, 't> Cursor<'p, 't> {
     }
 }
 
-/// A number as an id, which has 32 bits.
+/// Returns a number as an id, which has 32 bits.
 pub fn id(n: usize) -> u32
     ensures { result ≡ id_of n }
 {
     u32::try_from(n).unwrap_or(0)
 }
 
-/// The number of what a value names.
+/// Returns the number of what a value names.
 pub fn id_named(value: &Tree<'_>, names: &Names) -> Option<u32>
     ensures { result ≡ id_named names.now (view value.now) }
 {
@@ -180,14 +180,14 @@ pub fn id_named(value: &Tree<'_>, names: &Names) -> Option<u32>
     Some(id(number))
 }
 
-/// The entries of what is no list.
+/// Returns the entries of what is no list.
 fn no_entries<'p, 't>() -> &'p [Tree<'t>]
     ensures { result.now ≡ [] }
 {
     &[]
 }
 
-/// The entries of a list.
+/// Returns the entries of a list.
 #[tactic(auto, using(crate::proofs::ObjectLemmas::entries_view))]
 pub fn items_of<'p, 't>(value: &'p Tree<'t>) -> &'p [Tree<'t>]
     ensures { map view result.now ≡ items_of (view value.now) }
@@ -198,7 +198,7 @@ pub fn items_of<'p, 't>(value: &'p Tree<'t>) -> &'p [Tree<'t>]
     items
 }
 
-/// The role that a word says.
+/// Returns the role that a word says.
 pub fn role_of(text: &str) -> Option<Role>
     ensures { result ≡ role_named text.now }
 {
@@ -209,7 +209,7 @@ pub fn role_of(text: &str) -> Option<Role>
     }
 }
 
-/// Whether a word says that a call is lost after it was made, or before.
+/// Tells whether a word says that a call is lost after it was made, or before.
 pub fn after_of(text: &str) -> Option<bool>
     ensures { result ≡ after_named text.now }
 {
@@ -220,7 +220,7 @@ pub fn after_of(text: &str) -> Option<bool>
     }
 }
 
-/// The state of a cell right that a word says.
+/// Returns the state of a cell right that a word says.
 pub fn state_of(text: &str) -> Option<PlainCell>
     ensures { result ≡ plain_named text.now }
 {

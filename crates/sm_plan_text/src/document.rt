@@ -15,18 +15,18 @@ use sm_plan_code::{MOST_MOVES, MOST_PLACES, MOST_PLANS, Move, Plan};
 use sm_server::{Call, Cell, ServerId, ShardId};
 use std::alloc::{AllocError, Global};
 
-/// What a document says.
+/// A document's content.
 pub struct Document {
     pub config: Config,
     /// The cells that hold something, each with its shard and server.
     pub cells: Vec<(ShardId, ServerId, Cell)>,
-    /// What the published map says of each shard.
+    /// The published map's entry of each shard.
     pub listed: Vec<Option<ServerId>>,
     /// The servers that are down.
     pub down: Vec<ServerId>,
-    /// How many servers may be down at once.
+    /// The greatest number of servers that may be down at once.
     pub limit: u32,
-    /// How many places the log has.
+    /// The number of places of the log.
     pub log: u32,
     /// The calls to make, each for a shard at a server.
     pub calls: Option<Vec<(ShardId, ServerId, Call)>>,
@@ -34,7 +34,7 @@ pub struct Document {
     pub plan: Option<Plan>,
     /// The plans to run beside each other.
     pub plans: Option<Vec<Plan>>,
-    /// What is to happen, one event after the other.
+    /// The events that are to happen, one after the other.
     pub events: Option<Vec<EventText>>,
     /// The moves to make a plan for.
     pub moves: Option<Vec<Move>>,
@@ -65,7 +65,8 @@ impl Drop for Document {
 }
 
 impl Document {
-    /// The placement that the document names, or the first reason why it is not opened, before which want of memory may stand.
+    /// Opens the placement that the document names, or returns the first reason why it is not opened, before which want
+    /// of memory may come.
     pub fn open(&self, alloc: Global) -> Result<Placement, OpenFault>
         ensures ok { IfOk result (λ p. place_of p ≡ opened_place (opening_of (rows_of self.now))) }
         ensures setup { IfOk result (λ p. p.setup ≡ self.now.config) }
@@ -84,7 +85,7 @@ impl Document {
     }
 }
 
-/// What a document says beside its servers and shards.
+/// The content of a document beside its servers and shards.
 #[derive(Drop)]
 struct Work {
     limit: u32,
@@ -98,7 +99,7 @@ struct Work {
     asks: Vec<ShardId>,
 }
 
-/// The JSON value of the bytes.
+/// Returns the JSON value of the bytes.
 #[tactic(auto, using(crate::proofs::Texts::data_of_text, crate::proofs::Texts::data_of_none))]
 pub fn parse<'a>(
     alloc: Global,
@@ -119,7 +120,7 @@ pub fn parse<'a>(
     }
 }
 
-/// An outline of the JSON value of the bytes. Where its lists cannot be read early, all of it is kept.
+/// Returns an outline of the JSON value of the bytes. If its lists cannot be read early, all of it is kept.
 #[tactic(auto, using(crate::proofs::Texts::data_of_text, crate::proofs::Texts::data_of_none))]
 fn outline_of<'a>(
     alloc: Global,
@@ -142,7 +143,7 @@ fn outline_of<'a>(
     Ok(Outline { tree, early: None })
 }
 
-/// The members of a document.
+/// Returns the members of a document.
 fn document_rules() -> &'static [Rule]
     ensures { (scope : Scope) → map (row_of scope) result.now ≡ document_table scope.shards.now scope.servers.now }
 {
@@ -161,7 +162,7 @@ fn document_rules() -> &'static [Rule]
     ]
 }
 
-/// A shard that is asked for. What is wrong with it is a fault of the document itself.
+/// A shard that is asked for. Its faults are those of the document itself.
 impl Entry for ShardId {
     ghost value = { λ scope entry. unwrap_or (id_named scope.shards.now entry) 0 };
 
@@ -172,7 +173,7 @@ impl Entry for ShardId {
     }
 }
 
-/// What a document says beside its servers and shards, whose names the scope has.
+/// Reads what a document says beside its servers and shards, whose names the scope has.
 fn read_work(
     cursor: &Cursor<'_, '_>,
     early: Option<Early>,
@@ -200,7 +201,7 @@ fn read_work(
     })
 }
 
-/// The servers and shards of a document, which may be no configuration, and what it says beside them.
+/// Reads the servers and shards of a document, which may be no configuration, and what it says beside them.
 fn read_parts(
     alloc: Global,
     tree: &Tree<'_>,
@@ -225,7 +226,7 @@ fn read_parts(
     Ok((servers, shards, work))
 }
 
-/// The configuration of servers and shards that are one.
+/// Makes the configuration of servers and shards that are one.
 fn configuration(alloc: Global, servers: &[Server], shards: &[Shard]) -> Result<Config, AllocError>
     requires { config_fault (setup_of servers.now shards.now) ≡ None }
     ensures { IfOk result (λ config. config ≡ setup_of servers.now shards.now) }
@@ -237,7 +238,7 @@ fn configuration(alloc: Global, servers: &[Server], shards: &[Shard]) -> Result<
     }
 }
 
-/// The document of an outline: of a tree, and of the lists that were read early.
+/// Reads the document of an outline: of a tree, and of the lists that were read early.
 fn from_outline(alloc: Global, tree: &Tree<'_>, early: Option<Early>) -> Result<Document, TextFault>
     requires { (d : Data) × IsOutlined early (view tree.now) d }
     ensures ok { (d : Data) → IsOutlined early (view tree.now) d → IfOk result (λ document. read_data (Some d) ≡ Ok (rows_of document)) }

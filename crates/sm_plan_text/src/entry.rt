@@ -1,4 +1,4 @@
-//! What stands in a list, or in a member, and is read as one value.
+//! Entries: values that stand in a list, or in a member, and are each read as one.
 ghost use Rattle.std.specs.Prelude.{◌≡◌, [], List, Option, None, map, option_map, IfOk, OnOk};
 ghost use Rattle.sm_plan_text.specs.Words.{Data, view, TextFault, Member, Scope, noted, found, list_in, items_of, entries_in, entries_found, walked, faults_within, HasIds, IsKept};
 
@@ -6,12 +6,12 @@ use crate::outline::EarlyList;
 use crate::{Cursor, Faults, Member};
 use std::alloc::AllocError;
 
-/// One value that is read of a document: what stands in a member, or an entry of a list there.
+/// A value that is read of a document: the one that stands in a member, or an entry of a list there.
 pub trait Entry: Drop {
-    /// What it is, where nothing is wrong.
+    /// The value, if nothing is wrong with it.
     ghost value: { Scope → Data → Self };
 
-    /// What is wrong with it where it stands in this member, or in a list there.
+    /// The faults that it has where it stands in this member, or in a list there.
     ghost faults_of: { Scope → Member → Data → List TextFault };
 
     /// Reads it where the cursor is, and notes what is wrong with it.
@@ -21,7 +21,7 @@ pub trait Entry: Drop {
 }
 
 impl<'p, 't> Cursor<'p, 't> {
-    /// What a member is, where it stands.
+    /// Reads what a member is.
     pub fn inner<T: Entry>(
         &self,
         member: Member,
@@ -43,7 +43,7 @@ impl<'p, 't> Cursor<'p, 't> {
         Ok(Some(T::read(&cursor, faults)?))
     }
 
-    /// What the entries of a list are, front to back.
+    /// Reads what the entries of a list are, front to back.
     pub fn list<T: Entry>(&self, member: Member, faults: &mut Faults) -> Result<Vec<T>, AllocError>
         ensures list { IfOk result (λ list. HasIds self.now.scope → faults.new.lowest ≡ None
             → list.items ≡ map (T.value self.now.scope) (entries_in member (view self.now.tree.now))) }
@@ -63,7 +63,7 @@ impl<'p, 't> Cursor<'p, 't> {
         Ok(list)
     }
 
-    /// What the entries of a list are that may be missing.
+    /// Reads what the entries of a list are that may be missing.
     pub fn list_or_none<T: Entry>(
         &self,
         member: Member,
@@ -80,7 +80,7 @@ impl<'p, 't> Cursor<'p, 't> {
         }
     }
 
-    /// What the entries of a list are that was read early, or stands here and may be missing.
+    /// Reads what the entries of a list are that was read early, or stands here and may be missing.
     pub fn list_or_early<T: Entry>(
         &self,
         member: Member,

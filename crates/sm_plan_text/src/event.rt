@@ -10,7 +10,7 @@ use sm_plan_code::{MOST_CALLS, MOST_NUMBER};
 use sm_server::{ServerId, ShardId};
 use std::alloc::AllocError;
 
-/// What happens next. A plan is its number among the plans of the document, a stream its number in the plan.
+/// An event that happens next. A plan is its number among the plans of the document, a stream its number in the plan.
 #[derive(Clone, Copy, Debug, PartialEq, Eq)]
 pub enum EventText {
     /// A stream makes one step.
@@ -25,7 +25,7 @@ pub enum EventText {
     Done { server: ServerId },
     /// A stream makes one step whose call is lost, after it was made or before.
     Lose { plan: u32, stream: u32, after: bool },
-    /// A stream gets so many tries more.
+    /// A stream gets `more` more tries.
     Refill { plan: u32, stream: u32, more: u32 },
     /// A plan is started.
     Begin { plan: u32 },
@@ -37,7 +37,7 @@ const STREAM: Rule = Rule::One(Member::Stream, Form::Whole(MOST_NUMBER));
 
 const MORE: Rule = Rule::One(Member::More, Form::Whole(MOST_CALLS));
 
-/// The members of an event with this word.
+/// Returns the members of an event with this word.
 fn rules_of(word: &str) -> Option<&'static [Rule]>
     ensures { (scope : Scope) → option_map (λ rules. map (row_of scope) rules.now) result ≡ option_map (event_table scope.shards.now scope.servers.now) (event_word word.now) }
 {
@@ -53,7 +53,7 @@ fn rules_of(word: &str) -> Option<&'static [Rule]>
     }
 }
 
-/// The event that an object says by its word, which is one of an event.
+/// Reads the event that an object says by its word, which is one of an event.
 fn event_of(word: &str, cursor: &Cursor<'_, '_>) -> EventText
     ensures { IfSome (event_word word.now) (λ w. result ≡ event_of cursor.now.scope.shards.now cursor.now.scope.servers.now (view cursor.now.tree.now) w) }
 {

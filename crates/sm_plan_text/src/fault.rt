@@ -1,4 +1,4 @@
-//! What is wrong with a text.
+//! Faults of texts.
 ghost use Rattle.std.specs.Prelude.{◌≡◌, List, [], ◌∷◌, MatchOption, if◌then◌else◌};
 ghost use Rattle.sm_plan_text.specs.Words.{TextFault, number_of, noted, answered, IsFirstOfLowest};
 ghost use Rattle.sm_plan_text.specs.declared.fault.TextFault.TheVariants.{NoMemory};
@@ -7,15 +7,17 @@ use crate::member::Member;
 use std::alloc::AllocError;
 use thiserror::Error;
 
-/// Why a text is not read. Of several faults the one of the lowest number is answered, and of one number the first that
-/// a walk through the document meets: an object, then the objects in it, lists front to back.
+/// The reason why a text is not read. If there are several faults, the answer is one of the lowest number. If several
+/// have that number, it is the first that a walk through the document meets: an object, then the objects in it, lists
+/// front to back.
 #[derive(Clone, Copy, Debug, PartialEq, Eq, Error)]
 pub enum TextFault {
     #[error("out of memory")]
     NoMemory,
     #[error("not a JSON text in UTF-8")]
     NotJson,
-    /// The member is missing or has another form, or it stands for an object that is none or has a member that it does not know.
+    /// The member is missing or has another form, or it stands for an object that is none or has a member that it does
+    /// not know.
     #[error("`{member}` is missing or not in its form")]
     Shape { member: Member },
     #[error("`{member}` names what is not in the document")]
@@ -27,7 +29,7 @@ pub enum TextFault {
 }
 
 impl TextFault {
-    /// The fault's number, by which the one that is answered is chosen.
+    /// Returns the fault's number, by which the one that is answered is chosen.
     pub const fn number(&self) -> u8
         ensures { result ≡ number_of self.now }
     {
@@ -89,7 +91,7 @@ impl Faults {
     }
 }
 
-/// What is answered is the first of the faults of the lowest number, and nothing where there is no fault.
+/// States that the answer is the first of the faults of the lowest number, and none if there is no fault.
 #[tactic(auto, using(crate::proofs::Lowest::first_of_lowest))]
 pub fn first_is_answered()
     ensures { (faults : List TextFault) → MatchOption (answered faults) (faults ≡ []) (IsFirstOfLowest faults) }

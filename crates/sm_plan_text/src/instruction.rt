@@ -8,7 +8,7 @@ use crate::{Cursor, Entry, Faults, Member};
 use sm_plan_code::Instr;
 use std::alloc::AllocError;
 
-/// The members of an instruction with this word.
+/// Returns the members of an instruction with this word.
 fn rules_of(word: &str) -> Option<&'static [Rule]>
     ensures { (scope : Scope) → option_map (λ rules. map (row_of scope) rules.now) result ≡ option_map (instr_table scope.shards.now scope.servers.now scope.signals) (instr_word word.now) }
 {
@@ -23,7 +23,7 @@ fn rules_of(word: &str) -> Option<&'static [Rule]>
     }
 }
 
-/// The instruction that an object says by its word, which is one of an instruction.
+/// Reads the instruction that an object says by its word, which is one of an instruction.
 fn instr_of(word: &str, cursor: &Cursor<'_, '_>) -> Instr
     ensures { IfSome (instr_word word.now) (λ w. result ≡ instr_of cursor.now.scope.shards.now cursor.now.scope.servers.now cursor.now.scope.signals (view cursor.now.tree.now) w) }
 {

@@ -1,18 +1,20 @@
-//! The limits of a document's own lists and numbers, and of its depth. Those of configurations, placements and plans stand in their crates.
+//! The limits of a document's own lists and numbers, and of its depth. Those of configurations, placements and plans
+//! stand in their crates.
 use json_tree::MAX_DEPTH;
 use sm_placement::{MOST_LOAD, MOST_SERVERS};
 use sm_plan_code::MOST_AMOUNT;
 
-/// How deep arrays and objects may nest in a member of a document: a level less than in the document, which is an object itself.
+/// The greatest depth to which arrays and objects may nest in a member of a document: a level less than in the
+/// document, which is an object itself.
 pub const MOST_DEPTH: usize = MAX_DEPTH - 1;
 
-/// How many calls, and how many events, a document has at most.
+/// The greatest number of calls, and of events, of a document.
 pub const MOST_EVENTS: usize = 1_048_576;
 
-/// How many shards a document asks for at most.
+/// The greatest number of shards that a document asks for.
 pub const MOST_ASKS: usize = 16;
 
-/// How many places the log has where the document does not say.
+/// The number of places of the log if the document does not say.
 pub const LOG_PLACES: u32 = 65_536;
 
 /// The greatest load and room, as they are read.

@@ -4,7 +4,8 @@ ghost use Rattle.sm_plan_text.specs.Members.{text_of};
 
 use std::fmt;
 
-/// A member of an object, or the whole text, a document or a plan, where that is no object or has a member that it does not know.
+/// A member of an object. The whole text, a document or a plan counts as one too, if that is no object or has a member
+/// that it does not know.
 #[derive(Clone, Copy, Debug, PartialEq, Eq)]
 pub enum Member {
     Document,
@@ -58,7 +59,7 @@ pub enum Member {
     Asks,
 }
 
-/// How the members are written, in their order.
+/// The texts of the members, in their order.
 const TEXTS: [&str; 49] = [
     "document", "limit", "servers", "shards", "log", "calls", "name", "region", "room", "down",
     "load", "want", "cap", "spread", "listed", "cells", "server", "state", "call", "shard", "role",
@@ -68,7 +69,7 @@ const TEXTS: [&str; 49] = [
 ];
 
 impl Member {
-    /// The member as it is written.
+    /// Returns the member as it is written.
     pub const fn text(self) -> &'static str
         ensures { result.now ≡ text_of self }
     {

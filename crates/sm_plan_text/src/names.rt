@@ -26,7 +26,7 @@ impl Model for Names {
 }
 
 impl Names {
-    /// No names.
+    /// Makes a table of no names.
     pub fn new(alloc: Global) -> Self
         ensures { result ≡ [] }
     {
@@ -35,7 +35,7 @@ impl Names {
         }
     }
 
-    /// The number of a name.
+    /// Returns the number of a name.
     pub fn find(&self, name: &str) -> Option<usize>
         ensures { result ≡ number_named self.now name.now }
     {

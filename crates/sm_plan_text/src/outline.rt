@@ -12,14 +12,15 @@ use json_tree::{ReadFault, Reader, Scratch, Token, Tree, find_member, read_value
 use sm_server::{Call, ServerId, ShardId};
 use std::alloc::{AllocError, Global};
 
-/// What was read of a list: the values of its entries, and what is wrong with them.
+/// A list that was read early: the values of its entries, and their faults.
 #[derive(Drop)]
 pub struct EarlyList<T> {
     pub values: Vec<T>,
     pub faults: Faults,
 }
 
-/// What was read early of a document: the names of its shards and servers, and the lists that came behind these.
+/// The parts of a document that were read early: the names of its shards and servers, and the lists that came behind
+/// these.
 #[derive(Drop)]
 pub struct Early {
     pub shards: Names,
@@ -42,7 +43,7 @@ struct PartialOutline<'a> {
     early: Option<Early>,
 }
 
-/// The list that stands in this member, if it is one that has no more entries than it may.
+/// Reads the list that stands in this member, if it is one that has no more entries than it may.
 fn read_list<T: Entry>(
     alloc: Global,
     reader: &mut Reader<'_>,
@@ -77,7 +78,7 @@ fn read_list<T: Entry>(
     Ok(EarlyList { values, faults })
 }
 
-/// The names of the objects of a list.
+/// Returns the names of the objects of a list.
 fn names_of(alloc: Global, items: &[Tree<'_>]) -> Result<Names, AllocError>
     ensures { IfOk result (λ names. names ≡ names_in (map view items.now)) }
 {
@@ -91,7 +92,7 @@ fn names_of(alloc: Global, items: &[Tree<'_>]) -> Result<Names, AllocError>
 }
 
 impl Early {
-    /// The names of the shards and servers among these members, where both stand there.
+    /// Returns the names of the shards and servers among these members, if both stand there.
     fn begin<'a>(alloc: Global, members: &[(&'a str, Tree<'a>)]) -> Result<Option<Self>, AllocError>
         ensures { IfOk result (λ found. IfSome found (λ early. IsEarly early (members_view members.now) (members_view members.now))) }
     {
@@ -107,8 +108,8 @@ impl Early {
         }))
     }
 
-    /// Reads the member of this name, and gives what is kept of it: of a list that is read early an empty one. Where what the
-    /// names are of comes once more, nothing can be read early.
+    /// Reads the member of this name, and returns what is kept of it: an empty list in place of one that is read early.
+    /// If the shards or servers of the names come once more, nothing can be read early.
     fn read_member<'a>(
         &mut self,
         alloc: Global,
@@ -136,7 +137,7 @@ impl Early {
 }
 
 impl<'a> PartialOutline<'a> {
-    /// Finds the names that a list with this name needs, where they have been read.
+    /// Finds the names that a list with this name needs, if they have been read.
     fn find_names(&mut self, alloc: Global, name: &str) -> Result<(), AllocError>
         ensures members { self.new.members ≡ self.old.members }
         ensures same { OnOk result ((whole : Members) → IsPartialOutline self.old whole → IsPartialOutline self.new whole) }
@@ -182,8 +183,9 @@ impl<'a> PartialOutline<'a> {
 }
 
 impl<'a> Outline<'a> {
-    /// Reads a text that is one object: calls and events early where servers and shards stand before them, and all else as trees. It answers
-    /// `NotJson` too where servers or shards come once more behind such a list, and where that is no list or has more entries than it may.
+    /// Reads a text that is one object: calls and events early if servers and shards stand before them, and all others
+    /// as trees. It returns `NotJson` also if servers or shards come once more behind such a list, or if that is no
+    /// list or has more entries than it may.
     pub fn read_early(
         alloc: Global,
         text: &'a str,

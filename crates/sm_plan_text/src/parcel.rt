@@ -38,7 +38,7 @@ impl Entry for CellRight {
     }
 }
 
-/// The members of a crown with this word.
+/// Returns the members of a crown with this word.
 fn rules_of(word: &str) -> Option<&'static [Rule]>
     ensures { (scope : Scope) → option_map (λ rules. map (row_of scope) rules.now) result ≡ option_map (crown_table scope.shards.now scope.servers.now) (lead_word word.now) }
 {
@@ -50,7 +50,7 @@ fn rules_of(word: &str) -> Option<&'static [Rule]>
     }
 }
 
-/// The lead that a crown says by its word, which is one of a lead.
+/// Returns the lead that a crown says by its word, which is one of a lead.
 fn lead_of(word: &str, cursor: &Cursor<'_, '_>) -> Lead
     ensures { IfSome (lead_word word.now) (λ w. result ≡ lead_worded cursor.now.scope.servers.now (view cursor.now.tree.now) w) }
 {
@@ -109,14 +109,14 @@ impl Entry for Spare {
     }
 }
 
-/// A parcel of no rights.
+/// Makes a parcel of no rights.
 pub fn empty_parcel(alloc: Global) -> Result<Parcel, AllocError>
     ensures { IfOk result (λ parcel. parcel ≡ no_rights) }
 {
     Ok(Hold::empty(alloc, 0)?.into_parcel())
 }
 
-/// The parcel of rights no two of which have the same key, and an empty one of others.
+/// Returns the parcel of rights no two of which have the same key, and an empty one of others.
 fn parcel_of(alloc: Global, lists: Lists) -> Result<Parcel, AllocError>
     ensures { IfOk result (λ parcel. IsOnce (rights_of lists) → parcel ≡ in_order (rights_of lists)) }
 {
@@ -127,7 +127,7 @@ fn parcel_of(alloc: Global, lists: Lists) -> Result<Parcel, AllocError>
     }
 }
 
-/// Where keys stand twice, which is noted, the parcel is empty.
+/// If two of its rights have the same key, which is noted, the parcel is empty.
 impl Entry for Parcel {
     ghost value = { λ scope entry. parcel_in scope.shards.now scope.servers.now entry };
 

@@ -26,7 +26,8 @@ const PLAN: &[Rule] = &[
     Rule::One(Member::Streams, Form::List(MOST_STREAMS)),
 ];
 
-/// The streams of a plan may say how many retries they have: in each format but 1, which a plan is of that says no format.
+/// Tells whether the streams of a plan may say how many retries they have. They may in each format but 1, which a plan
+/// has that names no format.
 fn knows_retries(plan: &Cursor<'_, '_>) -> bool
     ensures { result ≡ knows_retries (view plan.now.tree.now) }
 {
@@ -72,7 +73,7 @@ impl Entry for Stream {
     }
 }
 
-/// The plan of parts that are one, and an empty one of others.
+/// Returns the plan of parts that are one, and an empty one of others.
 #[tactic(auto, using(crate::proofs::PlanLemmas::empty_is_plan))]
 fn plan_of(alloc: Global, parts: Parts) -> Plan
     ensures { IsPlan (parts_of parts) → result ≡ parts_of parts }
@@ -88,7 +89,7 @@ fn plan_of(alloc: Global, parts: Parts) -> Plan
     }
 }
 
-/// Where something is wrong with it, which is noted, the plan may be empty.
+/// If something is wrong with it, which is noted, the plan may be empty.
 impl Entry for Plan {
     ghost value = { λ scope entry. plan_in scope.shards.now scope.servers.now entry };
 

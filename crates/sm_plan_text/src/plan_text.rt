@@ -10,7 +10,7 @@ use sm_plan_code::Plan;
 use sm_server::{ServerId, ShardId};
 use std::alloc::{AllocError, Global};
 
-/// The names of the servers of a configuration.
+/// Returns the names of the servers of a configuration.
 fn server_names(alloc: Global, config: &Config) -> Result<Names, AllocError>
     ensures names { IfOk result (λ names. names ≡ names_of_servers config.now) }
     ensures setup { IsSetup config.now }
@@ -22,7 +22,7 @@ fn server_names(alloc: Global, config: &Config) -> Result<Names, AllocError>
     Ok(names)
 }
 
-/// The names of the shards of a configuration.
+/// Returns the names of the shards of a configuration.
 fn shard_names(alloc: Global, config: &Config) -> Result<Names, AllocError>
     ensures names { IfOk result (λ names. names ≡ names_of_shards config.now) }
     ensures setup { IsSetup config.now }

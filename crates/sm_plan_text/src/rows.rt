@@ -61,7 +61,7 @@ fn add_server(
     Ok(())
 }
 
-/// The servers of a list.
+/// Reads the servers of a list.
 pub fn read_servers(
     alloc: Global,
     items: &[Tree<'_>],
@@ -95,7 +95,7 @@ pub struct Shards {
     pub cells: Vec<NamedCell>,
 }
 
-/// How many of a shard's replicas may be away at once at most.
+/// Returns the greatest number of a shard's replicas that may be away at once.
 fn cap_limit(shard: &Cursor<'_, '_>) -> u32
     ensures { result ≡ cap_limit (view shard.now.tree.now) }
 {
@@ -105,7 +105,7 @@ fn cap_limit(shard: &Cursor<'_, '_>) -> u32
     }
 }
 
-/// The cell of a replica in a role.
+/// Returns the cell of a replica in a role.
 fn cell_of(role: Role) -> Cell
     ensures { result ≡ cell_in role }
 {
@@ -195,7 +195,7 @@ fn add_shard(
     Ok(())
 }
 
-/// The shards of a list.
+/// Reads the shards of a list.
 pub fn read_shards(
     alloc: Global,
     items: &[Tree<'_>],

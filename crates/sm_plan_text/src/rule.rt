@@ -1,4 +1,4 @@
-//! What the members of an object are to be, and the faults of one that is not so.
+//! Rules for the members of an object, and the faults of one that breaks them.
 ghost use Rattle.std.specs.Prelude.{◌≡◌, map, option_map, IfOk, OnOk};
 ghost use Rattle.std.specs.List.{flat_map, cons_option};
 ghost use Rattle.sm_plan_text.specs.Words.{view, members_view, as_number, text_of, noted, is_name, own_faults, row_of};
@@ -14,7 +14,7 @@ use sm_placement::is_name;
 use sm_plan_code::MOST_RIGHTS;
 use std::alloc::{AllocError, Global};
 
-/// What the value of a member is to be.
+/// The form that the value of a member is to have.
 #[derive(Clone, Copy)]
 pub enum Form {
     /// A whole number up to a limit.
@@ -32,7 +32,7 @@ pub enum Form {
     Shard,
     Server,
     ServerOrNull,
-    /// A list of at most so many entries.
+    /// A list of at most this many entries.
     List(usize),
     /// The names of shards to ask for.
     Asks,
@@ -48,7 +48,7 @@ pub enum Form {
     Object,
 }
 
-/// What a member is to be that may not be missing, or one that may.
+/// The form of a member that may not be missing, or of one that may.
 #[derive(Clone, Copy)]
 pub enum Rule {
     One(Member, Form),
@@ -79,7 +79,7 @@ impl Rule {
     }
 }
 
-/// The text is of the form, which no text is where the form asks for no text of its own.
+/// Tells whether the text is of the form. No text is if the form asks for no text of its own.
 #[tactic(auto, using(crate::proofs::NameLemmas::found_among))]
 fn has_form(text: &str, form: Form, scope: &Scope<'_>) -> bool
     ensures { result ≡ has_form scope.now form text.now }
@@ -113,14 +113,14 @@ fn note_all_known(items: &[Tree<'_>], member: Member, names: &Names, faults: &mu
     }
 }
 
-/// The key is a member with a rule.
+/// Tells whether the key is a member with a rule.
 fn has_rule(key: &str, rules: &[Rule]) -> bool
     ensures { result ≡ is_among (map (λ rule. text_of (member_of rule)) rules.now) key.now }
 {
     rules.iter().any(|rule| key == rule.member().text())
 }
 
-/// The key is the word, or a member with a rule.
+/// Tells whether the key is the word, or a member with a rule.
 fn is_known(key: &str, word: Option<Member>, rules: &[Rule]) -> bool
     ensures { result ≡ is_among (cons_option (option_map text_of word) (map (λ rule. text_of (member_of rule)) rules.now)) key.now }
 {
@@ -133,7 +133,7 @@ fn has_unknown(members: &[(&str, Tree<'_>)], word: Option<Member>, rules: &[Rule
     members.iter().any(|pair| !is_known(pair.0, word, rules))
 }
 
-/// The key of an entry, which has none where one of the members is no text.
+/// Returns the key of an entry, which has none if one of the members is no text.
 fn key_of<'t>(
     alloc: Global,
     entry: &Tree<'t>,
@@ -151,7 +151,7 @@ fn key_of<'t>(
     Ok(Some(texts))
 }
 
-/// Two entries have the same key.
+/// Tells whether two entries have the same key.
 fn has_double_key(
     alloc: Global,
     entries: &[Tree<'_>],
@@ -250,7 +250,7 @@ impl<'p, 't> Cursor<'p, 't> {
         Ok(())
     }
 
-    /// One member of an object.
+    /// Notes the faults of one member of an object.
     fn note_row(&self, rule: &Rule, faults: &mut Faults) -> Result<(), AllocError>
         ensures { OnOk result (faults.new.lowest ≡ noted faults.old.lowest (row_faults (view self.now.tree.now) (row_of self.now.scope rule.now))) }
     {
@@ -269,7 +269,7 @@ impl<'p, 't> Cursor<'p, 't> {
         Ok(())
     }
 
-    /// The members of an object.
+    /// Notes the faults of the members of an object.
     fn note_rows(&self, rules: &[Rule], faults: &mut Faults) -> Result<(), AllocError>
         ensures { OnOk result (faults.new.lowest
             ≡ noted faults.old.lowest (flat_map (row_faults (view self.now.tree.now)) (map (row_of self.now.scope) rules.now))) }
@@ -280,7 +280,7 @@ impl<'p, 't> Cursor<'p, 't> {
         Ok(())
     }
 
-    /// An object that has no members beside its word and those with a rule.
+    /// Notes a fault unless it is an object that has no members beside its word and those with a rule.
     fn note_unknown(&self, word: Option<Member>, rules: &[Rule], faults: &mut Faults)
         ensures { faults.new.lowest ≡ noted faults.old.lowest
             (object_faults self.now.member (cons_option (option_map text_of word) (map (λ rule. text_of (member_of rule)) rules.now)) (view self.now.tree.now)) }
@@ -292,7 +292,7 @@ impl<'p, 't> Cursor<'p, 't> {
         }
     }
 
-    /// An object with these members, without what stands in them.
+    /// Notes the faults of an object with these members, without those inside its members.
     pub fn note_own(&self, rules: &[Rule], faults: &mut Faults) -> Result<(), AllocError>
         ensures { OnOk result (faults.new.lowest
             ≡ noted faults.old.lowest (own_faults self.now.member (map (row_of self.now.scope) rules.now) (view self.now.tree.now))) }
@@ -301,7 +301,8 @@ impl<'p, 't> Cursor<'p, 't> {
         self.note_rows(rules, faults)
     }
 
-    /// An object whose word has these rules, or has none where it is no word that may stand there; without what stands in its members.
+    /// Notes the faults of an object whose word has these rules, or has none if it may not stand there, without those
+    /// inside its members.
     pub fn note_worded(
         &self,
         word: Member,

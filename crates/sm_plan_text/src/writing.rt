@@ -14,7 +14,7 @@ use sm_reservation::{CellRight, Crown, Parcel, PlainCell, Room, Spare};
 use sm_server::{Role, ServerId, ShardId};
 use std::alloc::{AllocError, Global};
 
-/// What a member says that is neither a list nor an object.
+/// A member's value that is neither a list nor an object.
 #[derive(Clone, Copy)]
 enum Scalar<'a> {
     Null,
@@ -31,7 +31,7 @@ struct Writer<'c> {
 }
 
 impl<'c> Writer<'c> {
-    /// An object of members that are neither lists nor objects.
+    /// Returns an object of members that are neither lists nor objects.
     fn object(&self, members: &[(&str, Scalar<'_>)]) -> Result<Value, AllocError>
         ensures { IfOk result (λ value. view value ≡ object (scalars_put no_members members.now)) }
     {
@@ -63,7 +63,7 @@ impl<'c> Writer<'c> {
         Text(self.config.server(server).name.as_str())
     }
 
-    /// An instruction for a shard at a server, with one member more.
+    /// Returns an instruction for a shard at a server, with one more member.
     fn step(
         &self,
         word: &str,
@@ -81,14 +81,14 @@ impl<'c> Writer<'c> {
         self.object(&[("do", Text(word)), server, shard, (key, more)])
     }
 
-    /// An instruction of a signal.
+    /// Returns an instruction of a signal.
     fn signal(&self, word: &str, signal: u32) -> Result<Value, AllocError>
         ensures { IfOk result (λ value. view value ≡ signal_data word.now signal) }
     {
         self.object(&[("do", Text(word)), ("signal", Number(u64::from(signal)))])
     }
 
-    /// A list.
+    /// Returns a list.
     fn list<T: PlanPart>(&self, items: &[T]) -> Result<Value, AllocError>
         requires { All (T.fits (length self.now.config.now.shards) (length self.now.config.now.servers)) items.now }
         ensures { IfOk result (λ value. view value ≡ list_data (map (T.written_as (names_of_shards self.now.config.now) (names_of_servers self.now.config.now) self.now.retries) items.now)) }
@@ -131,12 +131,12 @@ fn lead_word(lead: Lead) -> &'static str
     }
 }
 
-/// What is written over the names of a configuration.
+/// A part of a plan, which is written over the names of a configuration.
 trait PlanPart {
-    /// Its ids are of so many shards and servers.
+    /// The parts whose ids are below these numbers of shards and servers.
     ghost fits: { ℕ → ℕ → Self → Type 0 };
 
-    /// What it is written as over the names of the shards and of the servers, with retries or without.
+    /// The data that it is written as over the names of the shards and of the servers, with retries or without.
     ghost written_as: { List (List ℕ) → List (List ℕ) → Bool → Self → Data };
 
     fn value(&self, writer: &Writer<'_>) -> Result<Value, AllocError>
@@ -282,14 +282,14 @@ impl PlanPart for Stream {
     }
 }
 
-/// A stream of the plan has retries.
+/// Tells whether a stream of the plan has retries.
 fn has_retries(plan: &Plan) -> bool
     ensures { result ≡ has_retries plan.now }
 {
     plan.streams().iter().any(|stream| stream.retries > 0)
 }
 
-/// A plan.
+/// Returns a plan.
 fn plan_value(alloc: Global, config: &Config, plan: &Plan) -> Result<Value, AllocError>
     requires { IsKnownPlan (length config.now.shards) (length config.now.servers) plan.now }
     ensures { IfOk result (λ value. view value ≡ plan_data (names_of_shards config.now) (names_of_servers config.now) plan.now) }
@@ -308,7 +308,7 @@ fn plan_value(alloc: Global, config: &Config, plan: &Plan) -> Result<Value, Allo
     })
 }
 
-/// What is written for a plan is read as that plan.
+/// States that what is written for a plan is read as that plan.
 fn read_back(config: &Config, plan: &Plan)
     requires { IsKnownPlan (length config.now.shards) (length config.now.servers) plan.now }
     ensures { IsReadBack members.Document (names_of_shards config.now) (names_of_servers config.now) plan.now }
@@ -329,12 +329,12 @@ pub fn write_plan(alloc: Global, config: &Config, plan: &Plan) -> Result<Vec<u8>
     plan_value(alloc, config, plan)?.to_vec(alloc)
 }
 
-/// What is written for a plan is read as that plan: no fault is found in it, in whatever member it stands.
+/// States that what is written for a plan is read as that plan: no fault is found in it, in whatever member it stands.
 pub fn written_plan_is_read()
     ensures { (parent : Member) (setup : Setup) (p : PlanModel) → IsSetup setup → IsPlan p → IsKnownPlan (length setup.shards) (length setup.servers) p → IsReadBack parent (names_of_shards setup) (names_of_servers setup) p }
 {}
 
-/// The text of a plan is read as that plan: its bytes, over the names of a configuration.
+/// States that the text of a plan is read as that plan: its bytes, over the names of a configuration.
 pub fn plan_text_is_read()
     ensures { (setup : Setup) (p : PlanModel) → IsSetup setup → IsPlan p → IsKnownPlan (length setup.shards) (length setup.servers) p
         → read_plan (names_of_shards setup) (names_of_servers setup) (plan_text (names_of_shards setup) (names_of_servers setup) p) ≡ Ok p }

@@ -1,12 +1,12 @@
 -- How placed moves are kept account of: by marks, and by the amounts of room that are left.
--- Steps of the code's own way, which private functions' contracts cite: whoever reads the public ones need not read them.
+-- Internal definitions: you need not read them for the public contracts.
 use Rattle.std.specs.Prelude.{ℕ, ◌+◌, ◌-◌, ◌&&◌, not, nat_le, Bool, false, List, map, slice_index, slice_index_or, slice_set}
 use Rattle.std.specs.List.{range_with_len}
 use Rattle.sm_placement.specs.Setup.{Setup}
 use Rattle.sm_plan_code.specs.declared.moves.Move.{Move}
 use Rattle.sm_planner.specs.Basis.{move_at, move_load}
 
--- nothing of any of so many servers
+-- nothing of any of this many servers
 abbrev pub no_amounts : ℕ → List ℕ
 no_amounts n = map (λ v. 0) (range_with_len 0 n)
 
@@ -19,7 +19,7 @@ abbrev pub is_next : Setup → List Move → List Bool → List ℕ → ℕ → 
 is_next setup moves marks room i =
     is_left marks i && nat_le (move_load setup (move_at moves i)) (slice_index room (move_at moves i).to)
 
--- the room of each server, where one has so much more
+-- the room of each server, of which one has this much more
 abbrev pub room_freed : List ℕ → ℕ → ℕ → List ℕ
 room_freed room v amount = slice_set room v (slice_index room v + amount)
 

@@ -1,5 +1,5 @@
--- What a plan is made from, and the moves that it is to make.
--- `basis_of` is a step of the code's own way, which private functions' contracts cite: whoever reads the public ones need not read it.
+-- The basis that a plan is made from, and the moves that it is to make.
+-- `basis_of` is internal: you need not read it for the public contracts.
 use Rattle.std.specs.Prelude.{ℕ, ◌||◌, Bool, List, length, slice_index_or}
 use Rattle.sm_server.specs.declared.call.Cell.{Cell}
 use Rattle.sm_server.specs.Cell.{is_primary, is_secondary}
@@ -30,7 +30,7 @@ basis_of placement pool = basis placement.setup (place_of placement) (pool_hold 
 abbrev pub basis_at : Setup → State → Basis
 basis_at setup w = basis setup w.place (pool w)
 
--- what stands where the list has no such move
+-- the default if the list has no such move
 abbrev pub no_move : Move
 no_move = record { shard = 0; from = 0; to = 0 }
 

@@ -1,5 +1,5 @@
 -- Placed moves as they are drafted for a plan: in their order, with their stretches, and the room that they hand on.
--- Steps of the code's own way, which private functions' contracts cite: whoever reads the public ones need not read them.
+-- Internal definitions: you need not read them for the public contracts.
 use Rattle.std.specs.Prelude.{◌≡◌, ◌≤◌, ◌<◌, ◌*◌, ℕ, None, List, All, length, map, slice_index}
 use Rattle.std.specs.List.{range_with_len}
 use Rattle.sm_placement.specs.Setup.{IsSetup}

@@ -1,6 +1,5 @@
 -- To which servers the replicas of a server go that is to be emptied.
--- `AreStaying`, `IsMost`, `IsBestOf` and `IsRoomBeside` are steps of the code's own way, which private functions' contracts cite: whoever reads the public
--- ones need not read them.
+-- `AreStaying`, `IsMost`, `IsBestOf` and `IsRoomBeside` are internal: you need not read them for the public contracts.
 use Rattle.std.specs.Prelude.{◌≡◌, ◌<◌, ◌≤◌, ◌⊎◌, ℕ, zero, suc, ◌-◌, ◌&&◌, ◌||◌, ◌==◌, not, nat_le, Bool, true, false, Option, Some, None, option_map, MatchOption, length, slice_index, slice_index_or, List, [], ◌∷◌, ◌++◌, sum_by, if◌then◌else◌}
 use Rattle.std.specs.Option.{option_or}
 use Rattle.sm_server.specs.Cell.{is_absent, is_primary, is_secondary}
@@ -45,7 +44,7 @@ pub record AreStaying (setup : Setup) (p : Place) (s v : ℕ) (marks : List Bool
   pub wide : length marks ≡ length setup.servers
   pub marked : (w : ℕ) → w < length setup.servers → slice_index_or marks w false ≡ (is_replica (p.cells s w) && not (w == v))
 
--- A server that a shard may go to from v, where so much room is left of each: another one, up, with nothing of the shard
+-- A server that a shard may go to from v, with the room that is left of each: another one, up, with nothing of the shard
 -- and the right to its cell in the pool, with room for the load, and in whose place the replicas lie in enough regions.
 abbrev pub has_place : Basis → ℕ → (ℕ → ℕ) → ℕ → ℕ → Bool
 has_place b v room s u =
@@ -66,7 +65,7 @@ pub record IsMost (has : ℕ → Bool) (room : ℕ → ℕ) (n u : ℕ) : Type 0
   pub passes : has u ≡ true
   pub most : (w : ℕ) → w < n → has w ≡ true → (room w < room u) ⊎ ((room w ≡ room u) × (u ≤ w))
 
--- it, or None where none of them passes
+-- it, or None if none of them passes
 abbrev pub IsBestOf : (ℕ → Bool) → (ℕ → ℕ) → ℕ → Option ℕ → Type 0
 IsBestOf has room n o = MatchOption o ((w : ℕ) → w < n → has w ≡ false) (IsMost has room n)
 
@@ -113,7 +112,7 @@ AreDepartures b v moves = (drain_refusal b v ≡ None) × AreLeaving b v (sizes_
 abbrev pub IsDrainPlan : Basis → ℕ → PlanModel → Type 0
 IsDrainPlan b v plan = (moves : List Move) × AreDepartures b v moves × IsPlanOf b moves plan
 
--- Why the rule doesn't empty a server: for the server's own reason, or where it has none, for the first shard that has no target. Where the setup
+-- Why the rule doesn't empty a server: for the server's own reason, or if it has none, for the first shard that has no target. If the setup
 -- is a configuration there is no other reason, since of the moves to the targets the rule then refuses none (`DrainsHavePlans`).
 abbrev pub IsDrainRefused : Basis → ℕ → NoPlan → Type 0
 IsDrainRefused b v why =

@@ -1,5 +1,5 @@
 -- Laws of the rule's plans.
--- `HasScene` is a step of the code's own way, which private functions' contracts cite: whoever reads the public ones need not read it.
+-- `HasScene` is internal: you need not read it for the public contracts.
 use Rattle.std.specs.Prelude.{◌≡◌, ◌≢◌, ◌⊎◌, ◌<◌, ◌≤◌, ℕ, true, false, None, option_map, List, All, length}
 use Rattle.sm_server.specs.declared.call.Cell.TheVariants as cell
 use Rattle.sm_server.specs.Cell.{is_primary}
@@ -53,8 +53,8 @@ abbrev pub PlansAreUsableAt : Type 0
 PlansAreUsableAt = (setup : Setup) (w : State) (moves : List Move) (plan : PlanModel) →
     IsReached setup w → All (IsMoveOf setup) moves → IsPlanOf (basis_at setup w) moves plan → IsUsable (basis_at setup w) plan
 
--- Each replica that is moved has left its server, and stands at the new one as it stood at the old one; where nothing is
--- moved to or from, all is as before. Where the published map names a server of a shard whose primary is moved, it names the new one;
+-- Each replica that is moved has left its server, and stands at the new one as it stood at the old one; if nothing is
+-- moved to or from, all is as before. If the published map names a server of a shard whose primary is moved, it names the new one;
 -- of all other shards it says what it said before.
 pub record HasMoved (old new : Place) (moves : List Move) : Type 0 where
   pub left : (i : ℕ) → i < length moves → new.cells (move_at moves i).shard (move_at moves i).from ≡ cell.Absent
@@ -104,7 +104,7 @@ abbrev pub DrainsEmpty : Type 0
 DrainsEmpty = (b : Basis) (v : ℕ) (moves : List Move) (plan : PlanModel) →
     v < (sizes_of b.setup).servers → AreLeaving b v (sizes_of b.setup).shards moves → IsPlanOf b moves plan → IsDrained b v plan
 
--- in a configuration the rule refuses none of the moves of a drain: where the server may be emptied and each shard has a target, there is a plan
+-- in a configuration the rule refuses none of the moves of a drain: if the server may be emptied and each shard has a target, there is a plan
 abbrev pub DrainsHavePlans : Type 0
 DrainsHavePlans = (b : Basis) (v : ℕ) (moves : List Move) →
     IsSetup b.setup → drain_refusal b v ≡ None → AreLeaving b v (sizes_of b.setup).shards moves → (plan : PlanModel) × IsPlanOf b moves plan

@@ -1,4 +1,4 @@
--- Who pays for the room that a move takes. The room of a server is used up from its front: first what the pool has, then
+-- The payment for the room that a move takes. The room of a server is used up from its front: first what the pool has, then
 -- what placed moves free there, in their order. Each move that goes there takes a stretch of it, and begins where the
 -- moves placed before it ended.
 use Rattle.std.specs.Prelude.{ℕ, ◌+◌, ◌-◌, ◌%◌, ◌&&◌, ◌==◌, not, nat_lt, min, max, Bool, List, length, take, sum_by, filter, map, if◌then◌else◌}

@@ -24,12 +24,12 @@ use Rattle.sm_planner.specs.Payment.{HandedRoom, handed, from_pool, from_move, s
 
 -- ---- instructions
 
--- the published map is told, where it names a server
+-- the published map is told, if it names a server
 abbrev pub publication : Option ℕ → ℕ → List Instr
 publication None s = []
 publication (Some v) s = Publish s ∷ []
 
--- a primary is handed over, in the five steps of a handover (SM 2021); the fourth is left out where no server is listed
+-- a primary is handed over, in the five steps of a handover (SM 2021); the fourth is left out if no server is listed
 abbrev pub handing_over : Option ℕ → Move → List Instr
 handing_over listed m =
     PrepareAdd m.shard m.to m.from ∷ PrepareDrop m.shard m.from m.to ∷ Add m.shard m.to role.Primary

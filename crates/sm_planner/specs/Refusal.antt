@@ -37,7 +37,7 @@ abbrev pub first_held : Basis → List Move → Option NoPlan
 first_held b moves =
     option_map (λ i. Held (move_at moves i).shard (move_at moves i).to) (first_below (length moves) (is_closed b moves))
 
--- of a move with a server that is down: the server that it leaves, if that is down, or else the one to which it goes
+-- of a move with a server that is down: the server that it leaves, if that is down, or otherwise the one to which it goes
 abbrev pub end_down : Place → Move → ℕ
 end_down p m = if p.down m.from then m.from else m.to
 
@@ -68,7 +68,7 @@ abbrev pub too_many : Basis → List Move → List ℕ → Option NoPlan
 too_many b moves placed =
     if nat_lt MOST_MOVES (length moves) || nat_lt MOST_SIGNALS (length (signals_of b (in_placed_order moves placed))) then Some TooMany else None
 
--- why moves that are placed so get no plan, None where they get one
+-- why moves that are placed so get no plan, None if they get one
 abbrev pub refusal : Basis → List Move → List ℕ → Option NoPlan
 refusal b moves placed =
     option_or (first_refused b moves)

@@ -1,5 +1,5 @@
 -- Regions by numbers, and which of them replicas lie in.
--- Steps of the code's own way, which private functions' contracts cite: whoever reads the public ones need not read them.
+-- Internal definitions: you need not read them for the public contracts.
 use Rattle.std.specs.Prelude.{◌≡◌, ◌<◌, ◌≤◌, ℕ, ◌&&◌, ◌==◌, not, Bool, true, false, List, length, slice_index, slice_index_or}
 use Rattle.sm_placement.specs.declared.limits.TheConstants.{MOST_SERVERS}
 use Rattle.sm_placement.specs.Sums.{any_below}
@@ -14,7 +14,7 @@ pub record IsRegionOf (setup : Setup) (v r : ℕ) : Type 0 where
   pub same : same_region setup r v ≡ true
   pub lowest : (u : ℕ) → u < r → same_region setup u v ≡ false
 
--- a number for the region of each server, the same where the regions are
+-- a number for the region of each server, the same if the regions are
 pub record AreRegions (setup : Setup) (regions : List ℕ) : Type 0 where
   pub wide : length regions ≡ length setup.servers
   pub known : (v : ℕ) → v < length setup.servers → slice_index regions v < length setup.servers
@@ -24,7 +24,7 @@ pub record AreRegions (setup : Setup) (regions : List ℕ) : Type 0 where
 abbrev pub is_occupied : List ℕ → (ℕ → Bool) → ℕ → ℕ → Bool
 is_occupied regions has n r = any_below n (λ u. has u && (slice_index regions u == r))
 
--- the regions that are marked are those in which servers lie that pass, and they are so many
+-- the regions that are marked are those in which servers lie that pass, and this is their number
 pub record IsOccupied (setup : Setup) (regions : List ℕ) (has : ℕ → Bool) (marks : List Bool) (total : ℕ) : Type 0 where
   pub wide : length marks ≡ length setup.servers
   pub marked : (r : ℕ) → r < length setup.servers → slice_index_or marks r false ≡ is_occupied regions has (length setup.servers) r

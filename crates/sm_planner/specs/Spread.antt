@@ -18,7 +18,7 @@ abbrev pub region_count : Setup → (ℕ → Bool) → ℕ
 region_count setup has =
     count_below (sizes_of setup).servers (λ v. has v && not (any_below v (λ u. has u && same_region setup u v)))
 
--- the shard is to be in so many regions at least
+-- the shard is to be in at least this many regions
 abbrev pub spread_of : Setup → ℕ → ℕ
 spread_of setup s = (slice_index_or setup.shards s no_shard).spread
 

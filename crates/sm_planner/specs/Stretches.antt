@@ -1,5 +1,5 @@
 -- A placed move, with the stretches of room that it takes and frees.
--- Steps of the code's own way, which private functions' contracts cite: whoever reads the public ones need not read them.
+-- Internal definitions: you need not read them for the public contracts.
 use Rattle.std.specs.Prelude.{◌<◌, ℕ, ◌&&◌, ◌==◌, not, nat_lt, Bool, List, length, map, filter, slice_index_or, if◌then◌else◌}
 use Rattle.std.specs.List.{range_with_len}
 use Rattle.sm_plan_code.specs.declared.moves.Move.{Move}
@@ -28,7 +28,7 @@ pub record IsGiven (b : Basis) (order : List Move) (h : HandedRoom) : Type 0 whe
   pub source : h.source < h.payer
   pub amount : 0 < from_move b order h.payer h.source
 
--- what stands where there is no such placed move
+-- the default if there is no such placed move
 abbrev pub no_stretch : Placed
 no_stretch = record { wanted = no_move; load = 0; pool = 0; takes_from = 0; frees_from = 0 }
 

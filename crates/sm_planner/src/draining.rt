@@ -22,7 +22,7 @@ use sm_reservation::{PlainCell, Pool};
 use sm_server::{ServerId, ShardId};
 use std::alloc::{AllocError, Global};
 
-/// The server has nothing of the shard, or a replica that may leave it.
+/// Tells whether the server has nothing of the shard, or a replica that may leave it.
 fn may_leave(placement: &Placement, pool: &Pool, server: ServerId, shard: ShardId) -> bool
     requires shard { shard < length placement.now.setup.shards }
     requires server { server < length placement.now.setup.servers }
@@ -33,7 +33,7 @@ fn may_leave(placement: &Placement, pool: &Pool, server: ServerId, shard: ShardI
             || (is_secondary(placement, shard, server) && has_secondary(pool, shard, server)))
 }
 
-/// The lowest shard that may not leave the server.
+/// Returns the lowest shard that may not leave the server.
 #[tactic(auto, using(sm_placement::proofs::Searches::find_range_more))]
 fn first_stuck(placement: &Placement, pool: &Pool, server: ServerId) -> Option<ShardId>
     requires { server < length placement.now.setup.servers }
@@ -48,7 +48,7 @@ fn first_stuck(placement: &Placement, pool: &Pool, server: ServerId) -> Option<S
     None
 }
 
-/// The servers whose replica of a shard stays.
+/// Returns the servers whose replica of a shard stays.
 fn staying(
     alloc: Global,
     placement: &Placement,
@@ -65,7 +65,7 @@ fn staying(
     Ok(has)
 }
 
-/// The regions in which the replicas of a shard lie that stay.
+/// Returns the regions in which the replicas of a shard lie that stay.
 fn staying_regions(
     alloc: Global,
     placement: &Placement,
@@ -84,7 +84,7 @@ fn staying_regions(
     Ok(kept)
 }
 
-/// With a replica at the target beside those that stay, the shard's replicas lie in enough regions.
+/// Tells whether the shard's replicas lie in enough regions, with one at the target beside those that stay.
 fn is_spread(placement: &Placement, regions: &[u32], staying: &Occupied, leaving: &Move) -> bool
     requires leaving { IsMoveOf placement.now.setup leaving.now }
     requires regions { AreRegions placement.now.setup regions.now }
@@ -96,7 +96,8 @@ fn is_spread(placement: &Placement, regions: &[u32], staying: &Occupied, leaving
     config.shard(leaving.shard).spread <= staying.count_with(region)
 }
 
-/// The server is another one, up, with nothing of the shard and the right to its cell in the pool, and has room for it.
+/// Tells whether the server is another one, up, with nothing of the shard and the right to its cell in the pool, and
+/// has room for it.
 fn is_open(placement: &Placement, pool: &Pool, room: &Amounts, leaving: &Move) -> bool
     requires { IsMoveOf placement.now.setup leaving.now }
     ensures { result ≡ (not (leaving.now.to == leaving.now.from) && (not ((place_of placement.now).down leaving.now.to) && (is_absent ((place_of placement.now).cells leaving.now.shard leaving.now.to) && (is_cell PlainCell.Absent ((pool_hold pool.now).cells leaving.now.shard leaving.now.to) && nat_le (move_load placement.now.setup leaving.now) (slice_index room.now leaving.now.to))))) }
@@ -109,7 +110,7 @@ fn is_open(placement: &Placement, pool: &Pool, room: &Amounts, leaving: &Move) -
         && u128::from(placement.config().load(shard)) <= room.at(to)
 }
 
-/// The server may take the shard.
+/// Tells whether the server may take the shard.
 fn may_take(
     placement: &Placement,
     pool: &Pool,
@@ -126,7 +127,7 @@ fn may_take(
     is_open(placement, pool, room, leaving) && is_spread(placement, regions, staying, leaving)
 }
 
-/// There is no target yet, or the server has more room left than it.
+/// Tells whether there is no target yet, or the server has more room left than it.
 fn is_better(room: &Amounts, best: &Option<ServerId>, to: ServerId) -> bool
     ensures { MatchOption best.now (result ≡ true) (λ u. result ≡ nat_lt (slice_index room.now u) (slice_index room.now to)) }
 {
@@ -136,7 +137,7 @@ fn is_better(room: &Amounts, best: &Option<ServerId>, to: ServerId) -> bool
     }
 }
 
-/// The target of the servers up to this one, where that of the lower ones is known.
+/// Returns the target of the servers up to this one, if that of the lower ones is known.
 #[tactic(auto, using(crate::proofs::Departing::most_here, crate::proofs::Departing::most_next, crate::proofs::Departing::most_stays))]
 fn target_with(
     placement: &Placement,
@@ -161,7 +162,7 @@ fn target_with(
     }
 }
 
-/// The server that takes the shard: the one with the most room left, of equals the lowest.
+/// Returns the server that takes the shard: the one with the most room left, of equals the lowest.
 fn target(
     alloc: Global,
     placement: &Placement,
@@ -186,8 +187,8 @@ fn target(
     Ok(best)
 }
 
-/// Puts the move of a shard behind those of the lower ones, where the server has a replica of it, and takes the room of its
-/// target. False where it has none.
+/// Puts the move of a shard behind those of the lower ones, if the server has a replica of it, and takes the room of
+/// its target. Returns false if it has none.
 fn put_departure(
     alloc: Global,
     placement: &Placement,
@@ -221,14 +222,14 @@ fn put_departure(
     }
 }
 
-/// The moves that empty a server, by shard, as far as there is a target for each: the first shard without one is told.
+/// The moves that empty a server, by shard, as far as there is a target for each, and the first shard without one.
 #[derive(Drop)]
 pub(crate) struct Departures {
     pub(crate) moves: Vec<Move>,
     pub(crate) stuck: Option<ShardId>,
 }
 
-/// The moves that empty a server, by shard.
+/// Returns the moves that empty a server, by shard.
 fn targets_of(
     alloc: Global,
     placement: &Placement,
@@ -257,7 +258,7 @@ fn targets_of(
     Ok(Departures { moves, stuck: None })
 }
 
-/// The moves that empty a server, or why it is not emptied.
+/// Returns the moves that empty a server, or why it is not emptied.
 pub(crate) fn leaving(
     alloc: Global,
     placement: &Placement,

@@ -16,8 +16,8 @@ use sm_server::ServerId;
 use sm_verifier::Checked;
 use std::alloc::Global;
 
-/// A plan that makes the moves, for the machine as it stands: it may start beside the plans that run.
-/// Where the rule refuses nothing, only memory may be short.
+/// Plans the moves, for the machine as it stands: the plan may start beside the plans that run. If the rule refuses
+/// nothing, only memory may be short.
 pub fn moves(alloc: Global, machine: &Machine, moves: &[Move]) -> Result<Checked, NoPlan>
     requires { All (IsMoveOf machine.now.placement.setup) moves.now }
     ensures setup { IfOk result (λ checked. checked.setup ≡ machine.now.placement.setup) }
@@ -31,7 +31,7 @@ pub fn moves(alloc: Global, machine: &Machine, moves: &[Move]) -> Result<Checked
     moves_at(alloc, machine.placement(), machine.pool(), moves)
 }
 
-/// A plan that empties a server, for the machine as it stands. Where the rule refuses nothing, only memory may be short.
+/// Plans to empty a server, for the machine as it stands. If the rule refuses nothing, only memory may be short.
 pub fn drain(alloc: Global, machine: &Machine, server: ServerId) -> Result<Checked, NoPlan>
     requires { server < length machine.now.placement.setup.servers }
     ensures setup { IfOk result (λ checked. checked.setup ≡ machine.now.placement.setup) }

@@ -14,7 +14,7 @@ use sm_plan_code::Move;
 use sm_reservation::{PlainCell, Pool};
 use sm_server::{Cell, ServerId, ShardId};
 
-/// The server has a primary of the shard.
+/// Tells whether the server has a primary of the shard.
 pub(crate) fn is_primary(placement: &Placement, shard: ShardId, server: ServerId) -> bool
     requires shard { shard < length placement.now.setup.shards }
     requires server { server < length placement.now.setup.servers }
@@ -23,7 +23,7 @@ pub(crate) fn is_primary(placement: &Placement, shard: ShardId, server: ServerId
     matches!(placement.cell(shard, server), Cell::Primary)
 }
 
-/// The server has a secondary of the shard.
+/// Tells whether the server has a secondary of the shard.
 pub(crate) fn is_secondary(placement: &Placement, shard: ShardId, server: ServerId) -> bool
     requires shard { shard < length placement.now.setup.shards }
     requires server { server < length placement.now.setup.servers }
@@ -32,7 +32,7 @@ pub(crate) fn is_secondary(placement: &Placement, shard: ShardId, server: Server
     matches!(placement.cell(shard, server), Cell::Secondary)
 }
 
-/// The server has a replica of the shard.
+/// Tells whether the server has a replica of the shard.
 pub(crate) fn is_replica(placement: &Placement, shard: ShardId, server: ServerId) -> bool
     requires shard { shard < length placement.now.setup.shards }
     requires server { server < length placement.now.setup.servers }
@@ -41,7 +41,7 @@ pub(crate) fn is_replica(placement: &Placement, shard: ShardId, server: ServerId
     is_primary(placement, shard, server) || is_secondary(placement, shard, server)
 }
 
-/// The server has nothing of the shard.
+/// Tells whether the server has nothing of the shard.
 pub(crate) fn is_absent(placement: &Placement, shard: ShardId, server: ServerId) -> bool
     requires shard { shard < length placement.now.setup.shards }
     requires server { server < length placement.now.setup.servers }
@@ -50,21 +50,21 @@ pub(crate) fn is_absent(placement: &Placement, shard: ShardId, server: ServerId)
     matches!(placement.cell(shard, server), Cell::Absent)
 }
 
-/// The pool has the right to a cell that is absent.
+/// Tells whether the pool has the right to a cell that is absent.
 pub(crate) fn has_absent(pool: &Pool, shard: ShardId, server: ServerId) -> bool
     ensures { result ≡ is_cell PlainCell.Absent ((pool_hold pool.now).cells shard server) }
 {
     matches!(pool.cell_right(shard, server), Some(PlainCell::Absent))
 }
 
-/// The pool has the right to the cell of a secondary.
+/// Tells whether the pool has the right to the cell of a secondary.
 pub(crate) fn has_secondary(pool: &Pool, shard: ShardId, server: ServerId) -> bool
     ensures { result ≡ is_cell PlainCell.Secondary ((pool_hold pool.now).cells shard server) }
 {
     matches!(pool.cell_right(shard, server), Some(PlainCell::Secondary))
 }
 
-/// The pool has the crown of a shard whose primary stands at the server.
+/// Tells whether the pool has the crown of a shard whose primary stands at the server.
 pub(crate) fn has_crown(
     placement: &Placement,
     pool: &Pool,
@@ -80,7 +80,7 @@ pub(crate) fn has_crown(
     }
 }
 
-/// The pool has the rights that a move needs.
+/// Tells whether the pool has the rights that a move needs.
 fn has_rights(placement: &Placement, pool: &Pool, wanted: &Move) -> bool
     requires { IsMoveOf placement.now.setup wanted.now }
     ensures { result ≡ has_rights (basis_of placement.now pool.now) wanted.now }
@@ -91,7 +91,7 @@ fn has_rights(placement: &Placement, pool: &Pool, wanted: &Move) -> bool
         && (!is_primary(placement, shard, from) || has_crown(placement, pool, shard, from))
 }
 
-/// A move needs the right to its shard's cell at a server.
+/// Tells whether a move needs the right to its shard's cell at a server.
 fn needs_cell(placement: &Placement, other: &Move, server: ServerId) -> bool
     requires { IsMoveOf placement.now.setup other.now }
     ensures { result ≡ needs_cell (place_of placement.now) other.now server }
@@ -99,7 +99,7 @@ fn needs_cell(placement: &Placement, other: &Move, server: ServerId) -> bool
     other.to == server || (other.from == server && is_secondary(placement, other.shard, other.from))
 }
 
-/// There is a right that both moves need.
+/// Tells whether there is a right that both moves need.
 fn shares_right(placement: &Placement, wanted: &Move, other: &Move) -> bool
     requires wanted { IsMoveOf placement.now.setup wanted.now }
     requires other { IsMoveOf placement.now.setup other.now }
@@ -113,7 +113,7 @@ fn shares_right(placement: &Placement, wanted: &Move, other: &Move) -> bool
                 && is_primary(placement, other.shard, other.from)))
 }
 
-/// One of the earlier moves needs a right that a move needs.
+/// Tells whether one of the earlier moves needs a right that a move needs.
 fn is_forestalled(placement: &Placement, earlier: &[Move], wanted: &Move) -> bool
     requires wanted { IsMoveOf placement.now.setup wanted.now }
     requires earlier { All (IsMoveOf placement.now.setup) earlier.now }
@@ -127,7 +127,7 @@ fn is_forestalled(placement: &Placement, earlier: &[Move], wanted: &Move) -> boo
     false
 }
 
-/// The new cell of a move is absent, and its rights are in the pool and needed by no earlier move.
+/// Tells whether the new cell of a move is absent, and its rights are in the pool and needed by no earlier move.
 fn is_open(placement: &Placement, pool: &Pool, earlier: &[Move], wanted: &Move) -> bool
     requires wanted { IsMoveOf placement.now.setup wanted.now }
     requires earlier { All (IsMoveOf placement.now.setup) earlier.now }
@@ -138,7 +138,7 @@ fn is_open(placement: &Placement, pool: &Pool, earlier: &[Move], wanted: &Move) 
         && !is_forestalled(placement, earlier, wanted)
 }
 
-/// The first move that leaves a server without a replica.
+/// Returns the first move that leaves a server without a replica.
 pub(crate) fn first_not_there(placement: &Placement, moves: &[Move]) -> Option<NoPlan>
     requires { All (IsMoveOf placement.now.setup) moves.now }
     ensures { result ≡ first_not_there (place_of placement.now) moves.now }
@@ -154,7 +154,7 @@ pub(crate) fn first_not_there(placement: &Placement, moves: &[Move]) -> Option<N
     None
 }
 
-/// The first move whose rights are not free.
+/// Returns the first move whose rights are not free.
 pub(crate) fn first_held(placement: &Placement, pool: &Pool, moves: &[Move]) -> Option<NoPlan>
     requires { All (IsMoveOf placement.now.setup) moves.now }
     ensures { result ≡ first_held (basis_of placement.now pool.now) moves.now }
@@ -170,7 +170,7 @@ pub(crate) fn first_held(placement: &Placement, pool: &Pool, moves: &[Move]) -> 
     None
 }
 
-/// The first move with a server that is down.
+/// Returns the first move with a server that is down.
 pub(crate) fn first_down(placement: &Placement, moves: &[Move]) -> Option<NoPlan>
     requires { All (IsMoveOf placement.now.setup) moves.now }
     ensures { result ≡ first_down (place_of placement.now) moves.now }
@@ -185,7 +185,7 @@ pub(crate) fn first_down(placement: &Placement, moves: &[Move]) -> Option<NoPlan
     None
 }
 
-/// The server that a move leaves where it is down, and else the one to which it goes.
+/// Returns the server that a move leaves if it is down, and otherwise the one to which it goes.
 fn down_of(placement: &Placement, wanted: &Move) -> ServerId
     requires { IsMoveOf placement.now.setup wanted.now }
     ensures { result ≡ end_down (place_of placement.now) wanted.now }
@@ -197,7 +197,7 @@ fn down_of(placement: &Placement, wanted: &Move) -> ServerId
     }
 }
 
-/// Why moves are refused one by one: the first reason, and of one reason the first move.
+/// Returns why moves are refused one by one: the first reason, and of that one the first move.
 pub(crate) fn first_refused(placement: &Placement, pool: &Pool, moves: &[Move]) -> Option<NoPlan>
     requires { All (IsMoveOf placement.now.setup) moves.now }
     ensures { result ≡ first_refused (basis_of placement.now pool.now) moves.now }

@@ -11,7 +11,7 @@ use sm_server::ServerId;
 use std::alloc::{AllocError, Global};
 use std::marker::Model;
 
-/// The number is marked.
+/// Tells whether the number is marked.
 pub(crate) fn is_marked(marks: &[bool], number: usize) -> bool
     ensures { result ≡ slice_index_or marks.now number false }
 {
@@ -42,7 +42,7 @@ impl Model for Amounts {
 }
 
 impl Amounts {
-    /// Nothing of any server.
+    /// Makes a list with nothing of any server.
     pub(crate) fn none(alloc: Global, config: &Config) -> Result<Amounts, AllocError>
         ensures setup { IsSetup config.now }
         ensures none { IfOk result (λ amounts. amounts ≡ no_amounts (length config.now.servers)) }
@@ -51,7 +51,7 @@ impl Amounts {
         Ok(Amounts { by_server })
     }
 
-    /// The room of each server that the pool has.
+    /// Returns the room of each server that the pool has.
     pub(crate) fn of_pool(
         alloc: Global,
         config: &Config,
@@ -67,7 +67,7 @@ impl Amounts {
         Ok(Amounts { by_server })
     }
 
-    /// How much of a server there is.
+    /// Returns the amount of a server.
     pub(crate) fn at(&self, server: ServerId) -> u128
         ensures { result ≡ slice_index self.now server }
     {
@@ -75,7 +75,7 @@ impl Amounts {
         self.by_server.get(number).copied().unwrap_or(0)
     }
 
-    /// Makes it so much.
+    /// Sets the amount of a server.
     fn set(&mut self, server: ServerId, amount: u128)
         ensures { self.new ≡ slice_set self.old server amount }
     {

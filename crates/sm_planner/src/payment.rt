@@ -1,4 +1,4 @@
-//! Who pays for the room that moves take.
+//! Payment for the room that moves take.
 ghost use Rattle.std.specs.Prelude.{◌≡◌, ◌≤◌, ◌<◌, All, IfOk, OnOk, length, map, ◌++◌};
 ghost use Rattle.std.specs.List.{flat_map, range_with_len};
 ghost use Rattle.sm_placement.specs.Setup.{IsSetup};
@@ -19,7 +19,7 @@ pub(crate) struct Placed {
     load: u64,
     /// The pool's room of the server to which it goes.
     pool: u64,
-    /// Where the stretches begin.
+    /// The number at which the stretches begin.
     takes_from: u128,
     frees_from: u128,
 }
@@ -33,7 +33,7 @@ pub(crate) struct HandedRoom {
     pub(crate) source: usize,
 }
 
-/// How much of a stretch of `n` from `a` on lies in a stretch of `m` from `b` on.
+/// Returns how much of a stretch of `n` from `a` on lies in a stretch of `m` from `b` on.
 fn overlap(a: u128, n: u64, b: u128, m: u64) -> u64
     ensures value { result ≡ overlap a n b m }
     ensures within { result ≤ n }
@@ -48,7 +48,7 @@ fn overlap(a: u128, n: u64, b: u128, m: u64) -> u64
 }
 
 impl Placed {
-    /// What the move pays from the pool.
+    /// Returns the room of the pool that the move pays with.
     pub(crate) fn from_pool(&self) -> u64
         ensures value { result ≡ overlap self.now.takes_from self.now.load 0 self.now.pool }
         ensures within { result ≤ self.now.load }
@@ -56,7 +56,7 @@ impl Placed {
         overlap(self.takes_from, self.load, 0, self.pool)
     }
 
-    /// What it pays from the room that an earlier one freed.
+    /// Returns the room, freed by an earlier one, that it pays with.
     pub(crate) fn from_move(&self, source: &Placed) -> u64
         ensures { result ≡ paid_from self.now source.now }
     {
@@ -67,7 +67,7 @@ impl Placed {
     }
 }
 
-/// The stretches of moves in the order in which they are placed.
+/// Returns the stretches of moves in the order in which they are placed.
 pub(crate) fn stretches(
     alloc: Global,
     placement: &Placement,
@@ -97,7 +97,7 @@ pub(crate) fn stretches(
     Ok(stretches)
 }
 
-/// The k-th placed move pays with room of the j-th, which is of another stream.
+/// Tells whether the k-th placed move pays with room of the j-th, which is of another stream.
 fn is_paid_by(order: &[Placed], k: usize, j: usize) -> bool
     requires payer { k < length order.now }
     requires source { j < length order.now }
@@ -122,7 +122,7 @@ fn put_handed(order: &[Placed], k: usize, signals: &mut Vec<HandedRoom>) -> Resu
     Ok(())
 }
 
-/// The signals in their order.
+/// Returns the signals in their order.
 pub(crate) fn signals(alloc: Global, order: &[Placed]) -> Result<Vec<HandedRoom>, AllocError>
     ensures { IfOk result (λ signals. signals.items ≡ flat_map (handed_to order.now) (range_with_len 0 (length order.now))) }
 {

@@ -17,13 +17,13 @@ use std::alloc::{AllocError, Global};
 pub(crate) struct Placing {
     /// The places in the list of the moves that are placed, the first placed first.
     pub(crate) placed: Vec<usize>,
-    /// Which moves of the list are placed.
+    /// For each move of the list, whether it is placed.
     pub(crate) marks: Vec<bool>,
-    /// How much room of each server is left.
+    /// The room of each server that is left.
     room: Amounts,
 }
 
-/// One call where it goes out of scope, and not one for each list.
+/// Drops everything in one call, instead of one call for each list.
 impl Drop for Placing {
     fn drop(self) {
         let Placing {
@@ -38,7 +38,7 @@ impl Drop for Placing {
 }
 
 impl Placing {
-    /// The move at a place of the list is not placed, and its load fits.
+    /// Tells whether the move at a place of the list is not placed, and its load fits.
     fn is_next(&self, config: &Config, i: usize, wanted: &Move) -> bool
         requires { IsMoveOf config.now wanted.now }
         ensures { result ≡ (is_left self.now.marks.items i && nat_le (move_load config.now wanted.now) (slice_index self.now.room wanted.now.to)) }
@@ -47,7 +47,7 @@ impl Placing {
         !is_marked(&self.marks, i) && load <= self.room.at(wanted.to)
     }
 
-    /// The first move that is not placed and whose load fits.
+    /// Returns the first move that is not placed and whose load fits.
     fn first_fit(&self, config: &Config, moves: &[Move]) -> Option<usize>
         requires { All (IsMoveOf config.now) moves.now }
         ensures { result ≡ first_below (length moves.now) (is_next config.now moves.now self.now.marks.items self.now.room) }
@@ -60,7 +60,7 @@ impl Placing {
         None
     }
 
-    /// Places a move: it takes room where it goes, and then frees room where it comes from.
+    /// Places a move: it takes room at its target, and then frees room at its source.
     fn place(&mut self, config: &Config, i: usize, moves: &[Move]) -> Result<(), AllocError>
         requires known { All (IsMoveOf config.now) moves.now }
         requires within { i < length moves.now }
@@ -78,7 +78,7 @@ impl Placing {
         Ok(self.placed.push(i)?)
     }
 
-    /// The first move that is not placed.
+    /// Returns the first move that is not placed.
     pub(crate) fn first_left(&self, moves: &[Move]) -> Option<usize>
         ensures first { result ≡ first_below (length moves.now) (is_left self.now.marks.items) }
         ensures within { IfSome result (λ i. i < length moves.now) }
@@ -91,7 +91,7 @@ impl Placing {
         None
     }
 
-    /// The placed moves in their order.
+    /// Returns the placed moves in their order.
     pub(crate) fn in_order(&self, alloc: Global, moves: &[Move]) -> Result<Vec<Move>, AllocError>
         requires { All (λ i. i < length moves.now) self.now.placed.items }
         ensures { IfOk result (λ order. order.items ≡ in_placed_order moves.now self.now.placed.items) }

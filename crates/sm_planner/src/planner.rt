@@ -56,7 +56,7 @@ fn draft(alloc: Global, placement: &Placement, pool: &Pool, moves: &[Move]) -> R
     })
 }
 
-/// The plan, checked for the configuration of the placement. It passes the check, and is admitted.
+/// Returns the plan, checked for the configuration of the placement. It passes the check, and is admitted.
 fn checked(alloc: Global, placement: &Placement, pool: &Pool, plan: Plan) -> Result<Checked, NoPlan>
     requires { IsUsable (basis_of placement.now pool.now) plan }
     ensures plan { IfOk result (λ checked. checked.plan ≡ plan) }
@@ -71,7 +71,7 @@ fn checked(alloc: Global, placement: &Placement, pool: &Pool, plan: Plan) -> Res
     }
 }
 
-/// A plan that makes the moves, at a placement with its pool.
+/// Plans the moves, at a placement with its pool.
 #[tactic(auto, using(crate::proofs::law::Existing::refused_alone, crate::proofs::Answering::alone_not_memory))]
 pub(crate) fn moves_at(
     alloc: Global,
@@ -95,7 +95,7 @@ pub(crate) fn moves_at(
     checked(alloc, placement, pool, plan)
 }
 
-/// A plan that empties a server, at a placement with its pool.
+/// Plans to empty a server, at a placement with its pool.
 #[tactic(auto, using(crate::proofs::Departing::drain_planned))]
 pub(crate) fn drain_at(
     alloc: Global,

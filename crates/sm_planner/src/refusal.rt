@@ -3,8 +3,8 @@ use sm_server::{ServerId, ShardId};
 use std::alloc::AllocError;
 use thiserror::Error;
 
-/// Why there is no plan. Of several reasons other than `NoMemory` the first one in this order is given. `NoMemory` comes only where
-/// `NotThere`, `Held` and `ServerDown` do not, and says nothing of the others.
+/// The reason why there is no plan. If there are several reasons other than `NoMemory`, the first one in this order is
+/// given. `NoMemory` comes only if `NotThere`, `Held` and `ServerDown` do not, and says nothing of the others.
 #[derive(Clone, Copy, Debug, PartialEq, Eq, Error)]
 pub enum NoPlan {
     /// Memory was short.

@@ -9,7 +9,7 @@ use sm_placement::Config;
 use sm_server::ServerId;
 use std::alloc::{AllocError, Global};
 
-/// Two servers stand in one region.
+/// Tells whether two servers are in one region.
 fn same_region(config: &Config, one: ServerId, other: ServerId) -> bool
     requires one { one < length config.now.servers }
     requires other { other < length config.now.servers }
@@ -18,7 +18,7 @@ fn same_region(config: &Config, one: ServerId, other: ServerId) -> bool
     config.server(one).region == config.server(other).region
 }
 
-/// The number of a server's region: of the servers that stand in it, the lowest.
+/// Returns the number of a server's region: the lowest of the servers in it.
 fn region_of(config: &Config, server: ServerId) -> u32
     requires { server < length config.now.servers }
     ensures { IsRegionOf config.now server result }
@@ -31,7 +31,7 @@ fn region_of(config: &Config, server: ServerId) -> u32
     server.number()
 }
 
-/// The number of each server's region.
+/// Returns the number of each server's region.
 pub(crate) fn regions_of(alloc: Global, config: &Config) -> Result<Vec<u32>, AllocError>
     ensures { IfOk result (λ regions. AreRegions config.now regions.items) }
 {
@@ -45,14 +45,14 @@ pub(crate) fn regions_of(alloc: Global, config: &Config) -> Result<Vec<u32>, All
 /// The regions in which some servers lie.
 #[derive(Drop)]
 pub(crate) struct Occupied {
-    /// Which regions, by their numbers.
+    /// For each region, by its number, whether it is one of them.
     pub(crate) marks: Vec<bool>,
-    /// How many.
+    /// The number of them.
     pub(crate) count: u32,
 }
 
 impl Occupied {
-    /// Enters the region of a server, where it is one of them.
+    /// Enters the region of a server, if it is one of them.
     #[tactic(auto, using(crate::proofs::Numbering::mark_entered, crate::proofs::Numbering::mark_stands))]
     fn enter(&mut self, region: usize, is_there: bool)
         requires known { region < length self.old.marks.items }
@@ -67,7 +67,7 @@ impl Occupied {
         }
     }
 
-    /// In how many regions they lie with one more server, whose region this is.
+    /// Returns the number of regions with one more server, whose region this is.
     pub(crate) fn count_with(&self, region: usize) -> u32
         requires { self.now.count + 1 < 2 ^ 32 }
         ensures { result ≡ self.now.count + bit (not (slice_index_or self.now.marks.items region false)) }
@@ -80,7 +80,7 @@ impl Occupied {
     }
 }
 
-/// The regions in which the servers lie that are marked.
+/// Returns the regions in which the servers lie that are marked.
 pub(crate) fn occupied_by(
     alloc: Global,
     config: &Config,

@@ -63,7 +63,7 @@ fn mark_after(placement: &Placement, moves: &[Move], shard: ShardId, has: &mut [
     mark_gained(moves, shard, has);
 }
 
-/// The shard is moved.
+/// Tells whether the shard is moved.
 fn is_moved(moves: &[Move], shard: ShardId) -> bool
     ensures { result ≡ list_any (λ m. m.shard == shard) moves.now }
 {
@@ -75,7 +75,7 @@ fn is_moved(moves: &[Move], shard: ShardId) -> bool
     false
 }
 
-/// The servers that have a replica of a shard once all moves are made.
+/// Returns the servers that have a replica of a shard once all moves are made.
 fn holders_after(
     alloc: Global,
     placement: &Placement,
@@ -91,7 +91,7 @@ fn holders_after(
     Ok(has)
 }
 
-/// The shard is moved, and its replicas then lie in fewer regions than its spread.
+/// Tells whether the shard is moved, and its replicas then lie in fewer regions than its spread.
 fn is_too_close(
     alloc: Global,
     placement: &Placement,
@@ -113,7 +113,7 @@ fn is_too_close(
     Ok(held.count < config.shard(shard).spread)
 }
 
-/// The lowest shard that is moved and whose replicas then lie in fewer regions than its spread.
+/// Returns the lowest shard that is moved and whose replicas then lie in fewer regions than its spread.
 pub(crate) fn first_too_close(
     alloc: Global,
     placement: &Placement,

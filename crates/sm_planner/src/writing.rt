@@ -34,7 +34,7 @@ pub(crate) struct Draft {
     pub(crate) signals: Vec<HandedRoom>,
 }
 
-/// One call where it goes out of scope, and not one for each list.
+/// Drops everything in one call, instead of one call for each list.
 impl Drop for Draft {
     fn drop(self) {
         let Draft {
@@ -48,7 +48,7 @@ impl Drop for Draft {
     }
 }
 
-/// The instructions that hand a primary over.
+/// Returns the instructions that hand a primary over.
 fn put_handover(
     placement: &Placement,
     wanted: &Move,
@@ -82,7 +82,7 @@ fn put_handover(
     })?)
 }
 
-/// The instructions that bring a secondary to another server.
+/// Returns the instructions that bring a secondary to another server.
 fn put_copy(wanted: &Move, code: &mut Vec<Instr>) -> Result<(), AllocError>
     ensures { OnOk result (code.new.items ≡ code.old.items ++ copying wanted.now) }
 {
@@ -98,7 +98,7 @@ fn put_copy(wanted: &Move, code: &mut Vec<Instr>) -> Result<(), AllocError>
     })?)
 }
 
-/// The instructions of a move.
+/// Returns the instructions of a move.
 fn put_instructions(
     placement: &Placement,
     wanted: &Move,
@@ -114,7 +114,7 @@ fn put_instructions(
     }
 }
 
-/// A placed move waits for the room that it is handed.
+/// Adds waits for the room that a placed move is handed.
 fn put_waits(signals: &[HandedRoom], k: usize, code: &mut Vec<Instr>) -> Result<(), AllocError>
     requires { length signals.now ≤ MOST_SIGNALS }
     ensures { OnOk result (code.new.items ≡ code.old.items ++ waits_of signals.now k) }
@@ -128,7 +128,7 @@ fn put_waits(signals: &[HandedRoom], k: usize, code: &mut Vec<Instr>) -> Result<
     Ok(())
 }
 
-/// It hands on what it freed.
+/// Adds signals that hand on the room that a placed move freed.
 fn put_posts(signals: &[HandedRoom], k: usize, code: &mut Vec<Instr>) -> Result<(), AllocError>
     requires { length signals.now ≤ MOST_SIGNALS }
     ensures { OnOk result (code.new.items ≡ code.old.items ++ posts_of signals.now k) }
@@ -142,7 +142,8 @@ fn put_posts(signals: &[HandedRoom], k: usize, code: &mut Vec<Instr>) -> Result<
     Ok(())
 }
 
-/// The instructions of a placed move: it waits for the room that it is handed, moves, and hands on what it freed.
+/// Writes the instructions of a placed move: it waits for the room that it is handed, moves, and hands on what it
+/// freed.
 fn put_code(
     placement: &Placement,
     draft: &Draft,
@@ -159,7 +160,7 @@ fn put_code(
     put_posts(&draft.signals, k, code)
 }
 
-/// The rights to cells that a move needs.
+/// Returns the rights to cells that a move needs.
 fn put_cells(
     placement: &Placement,
     wanted: &Move,
@@ -184,7 +185,7 @@ fn put_cells(
     })?)
 }
 
-/// The crown that a move needs.
+/// Returns the crown that a move needs.
 fn put_crowns(
     placement: &Placement,
     wanted: &Move,
@@ -204,7 +205,7 @@ fn put_crowns(
     })?)
 }
 
-/// The numbers of the placed moves of a stream.
+/// Returns the numbers of the placed moves of a stream.
 fn moves_of(alloc: Global, count: usize, stream: usize) -> Result<Vec<usize>, AllocError>
     ensures { IfOk result (λ numbers. numbers.items ≡ filter (λ k. stream_of k == stream) (range_with_len 0 count)) }
 {
@@ -217,7 +218,7 @@ fn moves_of(alloc: Global, count: usize, stream: usize) -> Result<Vec<usize>, Al
     Ok(numbers)
 }
 
-/// The instructions of the placed moves of a stream, one after another.
+/// Returns the instructions of the placed moves of a stream, one after another.
 fn code_of(
     alloc: Global,
     placement: &Placement,
@@ -236,7 +237,7 @@ fn code_of(
     Ok(code)
 }
 
-/// The rights to cells that the placed moves of a stream need.
+/// Returns the rights to cells that the placed moves of a stream need.
 fn cells_of(
     alloc: Global,
     placement: &Placement,
@@ -254,7 +255,7 @@ fn cells_of(
     Ok(cells)
 }
 
-/// The crowns that they need.
+/// Returns the crowns that they need.
 fn crowns_of(
     alloc: Global,
     placement: &Placement,
@@ -272,7 +273,7 @@ fn crowns_of(
     Ok(crowns)
 }
 
-/// What the placed moves of a stream pay from the pool, by server.
+/// Returns what the placed moves of a stream pay from the pool, by server.
 fn payments(
     alloc: Global,
     placement: &Placement,
@@ -293,7 +294,7 @@ fn payments(
     Ok(paid)
 }
 
-/// The room that the placed moves of a stream pay from the pool.
+/// Returns the room that the placed moves of a stream pay from the pool.
 fn rooms_of(
     alloc: Global,
     placement: &Placement,
@@ -318,7 +319,7 @@ fn rooms_of(
     Ok(rooms)
 }
 
-/// Four lists in the order of their keys, without amounts of 0.
+/// Makes a parcel of four lists in the order of their keys, without amounts of 0.
 #[tactic(auto, using(crate::proofs::Keys::no_double))]
 fn parcel(alloc: Global, lists: Lists) -> Result<Parcel, AllocError>
     requires { IsOnce (rights_of lists) }
@@ -331,7 +332,7 @@ fn parcel(alloc: Global, lists: Lists) -> Result<Parcel, AllocError>
     }
 }
 
-/// How many calls instructions have.
+/// Returns the number of calls among instructions.
 fn call_count(code: &[Instr]) -> u32
     requires { length code.now < 2 ^ 32 }
     ensures { result ≡ count_by is_call code.now }
@@ -345,7 +346,7 @@ fn call_count(code: &[Instr]) -> u32
     count
 }
 
-/// What a stream of these placed moves declares: the rights that they need, and what they pay from the pool.
+/// Returns what a stream of these placed moves declares: the rights that they need, and what they pay from the pool.
 fn holds_of(
     alloc: Global,
     placement: &Placement,
@@ -368,7 +369,7 @@ fn holds_of(
     parcel(alloc, lists)
 }
 
-/// A stream: the placed moves whose number is the stream's modulo 64, one after another.
+/// Returns a stream: the placed moves whose number is the stream's modulo 64, one after another.
 fn stream(
     alloc: Global,
     placement: &Placement,
@@ -390,7 +391,7 @@ fn stream(
     })
 }
 
-/// What a signal carries: the room that is handed on, and nothing else.
+/// Returns the parcel of a signal: the room that is handed on, and nothing else.
 fn carried(
     alloc: Global,
     placement: &Placement,
@@ -417,7 +418,7 @@ fn carried(
     parcel(alloc, lists)
 }
 
-/// What the signals carry.
+/// Returns what the signals carry.
 fn signals_of(
     alloc: Global,
     placement: &Placement,
@@ -434,7 +435,7 @@ fn signals_of(
     Ok(parcels)
 }
 
-/// The parts of the plan of placed moves.
+/// Returns the parts of the plan of placed moves.
 fn parts(
     alloc: Global,
     placement: &Placement,
@@ -459,7 +460,7 @@ fn parts(
     })
 }
 
-/// The plan of placed moves, which is within the limits of plans.
+/// Returns the plan of placed moves, which is within the limits of plans.
 #[tactic(auto, using(crate::proofs::Keys::no_fault))]
 pub(crate) fn write(
     alloc: Global,

@@ -1,5 +1,5 @@
 -- Calls made one after the other, and the lines of their answers.
--- `IsKnownNamed` is a step of the code's own way, which private functions' contracts cite: whoever reads the public ones need not read it.
+-- `IsKnownNamed` is internal: you need not read it for the public contracts.
 use Rattle.std.specs.Prelude.{◌<◌, ℕ, ◌+◌, length, List, [], ◌∷◌, ◌++◌, codes, Option, Some, None, Result, Ok, Err}
 use Rattle.std.specs.Fmt.{decimal}
 use Rattle.sm_server.specs.declared.call.Refusal.{Refusal}
@@ -18,7 +18,7 @@ IsKnownNamed setup named = (named.0 < length setup.shards) × (named.1 < length 
 abbrev pub result_of : Sizes → Place → NamedCall → Result Place Refusal
 result_of c p named = called c p named.0 named.1 named.2
 
--- the placement that a call led to; where it was refused, the one before it
+-- the placement that a call led to; if it was refused, the one before it
 abbrev place_in : Place → Result Place Refusal → Place
 place_in p (Ok next) = next
 place_in p (Err why) = p
@@ -27,12 +27,12 @@ place_in p (Err why) = p
 abbrev pub place_after : Sizes → Place → NamedCall → Place
 place_after c p named = place_in p (result_of c p named)
 
--- why a call was refused, where it was
+-- why a call was refused, if it was
 abbrev refusal_in : Result Place Refusal → Option Refusal
 refusal_in (Ok next) = None
 refusal_in (Err why) = Some why
 
--- why a call is refused, where it is
+-- why a call is refused, if it is
 abbrev pub refusal_at : Sizes → Place → NamedCall → Option Refusal
 refusal_at c p named = refusal_in (result_of c p named)
 

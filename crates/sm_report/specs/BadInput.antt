@@ -13,7 +13,7 @@ bad_input_line what = line (codes "bad input: " ∷ what ∷ [])
 abbrev pub bad_member_line : List ℕ → List ℕ → List ℕ
 bad_member_line what member = line (codes "bad input: " ∷ what ∷ codes " " ∷ member ∷ [])
 
--- The line that says what is wrong with a text. The one of NoMemory is in no report: where memory is short, nothing is
+-- The line that says what is wrong with a text. The one of NoMemory is in no report: if memory is short, nothing is
 -- written.
 abbrev pub text_fault_line : TextFault → List ℕ
 text_fault_line NoMemory = bad_input_line (codes "1 NoMemory")

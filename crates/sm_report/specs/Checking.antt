@@ -62,7 +62,7 @@ position_text position = codes " " ++ decimal position
 abbrev pub stuck_line : List ℕ → List ℕ
 stuck_line positions = line (codes "refused: 5 Stuck positions" ∷ flat_map position_text positions ∷ [])
 
--- The line that says what is wrong with a plan. The one of NoMemory is in no report: where memory is short, nothing is
+-- The line that says what is wrong with a plan. The one of NoMemory is in no report: if memory is short, nothing is
 -- written.
 abbrev pub fault_line : Fault → List ℕ
 fault_line fault.NoMemory = line (codes "refused: 1 NoMemory" ∷ [])
@@ -92,7 +92,7 @@ short_line what name free declared = line (codes "held: " ∷ what ∷ codes " "
 abbrev pub down_line : List ℕ → List ℕ
 down_line server = line (codes "held: 5 ServerDown server " ∷ server ∷ [])
 
--- The line that says why a plan may not start. Of room and spare replicas no line of 1 or 2 is in a report, since only
+-- The line that says why a plan may not start. No line of 1 or 2 about room or spare replicas is in a report, since only
 -- cell rights and crowns are Untrue or Taken.
 abbrev pub holding_line : Setup → Holding → List ℕ
 holding_line setup (holding.Untrue k) = key_line (codes "1 Untrue") (key_text setup k)

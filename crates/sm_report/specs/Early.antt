@@ -1,11 +1,11 @@
 -- Reports that end before the command's own text.
--- Steps of the code's own way, which private functions' contracts cite: whoever reads the public ones need not read them.
+-- Internal definitions: you need not read them for the public contracts.
 use Rattle.std.specs.Prelude.{Result, Ok, Err}
 use Rattle.sm_report.specs.declared.early.Early.{Early}
 use Rattle.sm_report.specs.declared.early.Early.TheVariants.{NoMemory, ReadFailed, Report}
 use Rattle.sm_report.specs.Report.{Output}
 
--- The report with which a stage behind the reading ended is one of these; where memory was short, there is none. Such a stage
+-- The report with which a stage behind the reading ended is one of these; if memory was short, there is none. Such a stage
 -- reads nothing.
 abbrev pub IfEnded : Early → (Output → Type 0) → Type 0
 IfEnded NoMemory Is = Unit {0}
@@ -17,13 +17,13 @@ abbrev pub IfMade : Result Output Early → (Output → Type 0) → Type 0
 IfMade (Ok made) Is = Is made
 IfMade (Err early) Is = IfEnded early Is
 
--- the same of a stage that reads: where a read failed, there is no report either
+-- the same of a stage that reads: if a read failed, there is no report either
 abbrev pub IfReadEnded : Early → (Output → Type 0) → Type 0
 IfReadEnded NoMemory Is = Unit {0}
 IfReadEnded ReadFailed Is = Unit {0}
 IfReadEnded (Report made) Is = Is made
 
--- the same of all stages, with the one that reads: where a read failed, there is no report either
+-- the same of all stages, with the one that reads: if a read failed, there is no report either
 abbrev pub IfReadMade : Result Output Early → (Output → Type 0) → Type 0
 IfReadMade (Ok made) Is = Is made
 IfReadMade (Err early) Is = IfReadEnded early Is

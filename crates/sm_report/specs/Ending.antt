@@ -42,7 +42,7 @@ replica_line server role = line (codes "  " ∷ server ∷ codes " " ∷ role �
 abbrev pub handover_line : List ℕ → List ℕ → List ℕ → ℕ → List ℕ
 handover_line server way other number = line (codes "  " ∷ server ∷ codes " " ∷ way ∷ codes " " ∷ other ∷ codes " number " ∷ decimal number ∷ [])
 
--- the line of what a server has of a shard, where it has something
+-- the line of what a server has of a shard, if it has something
 abbrev pub cell_line : Setup → ℕ → Cell → List ℕ
 cell_line setup v Absent = []
 cell_line setup v Primary = replica_line (server_name setup v) (codes "primary")

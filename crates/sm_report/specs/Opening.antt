@@ -22,7 +22,7 @@ server_refusal_line what server = line (codes "placement refused: " ∷ what ∷
 abbrev pub double_cell_line : List ℕ → List ℕ → List ℕ
 double_cell_line shard server = line (codes "placement refused: 4 DoubleCell shard " ∷ shard ∷ codes " server " ∷ server ∷ [])
 
--- The line that says why a placement is not opened. Those of the first three are in no report: where memory is short,
+-- The line that says why a placement is not opened. Those of the first three are in no report: if memory is short,
 -- nothing is written, and a document that is read has no more cells than a placement and no unknown name.
 abbrev pub open_fault_line : Setup → OpenFault → List ℕ
 open_fault_line setup NoMemory = refusal_line (codes "1 NoMemory")

@@ -1,5 +1,5 @@
--- What each command reports, for all the bytes that may be read.
--- `IsReadAs` is a step of the code's own way, which private functions' contracts cite: whoever reads the public ones need not read it.
+-- The report of each command, for all the bytes that may be read.
+-- `IsReadAs` is internal: you need not read it for the public contracts.
 use Rattle.std.specs.Prelude.{◌≡◌, ℕ, Bool, true, false, List, [], ◌∷◌, ◌++◌, Option, Some, None, IfSome, Result}
 use Rattle.sm_placement.specs.Setup.{Setup, sizes_of}
 use Rattle.sm_placement.specs.Place.{Place}
@@ -132,7 +132,7 @@ IsDocumentReport Check d = IsCheckReport d
 IsDocumentReport Play d = IsPlayReport d
 IsDocumentReport Plan d = IsPlanningReport d
 
--- what a command reports of the bytes that are read, where there may be at most so many
+-- what a command reports of the bytes that are read, if there are at most this many
 abbrev pub IsReport : Command → ℕ → List ℕ → Output → Type 0
 IsReport command most bytes = Then (read_stage most bytes) (IsDocumentReport command)
 

@@ -1,6 +1,5 @@
 -- Plans that are made for a document: for its moves, or to empty a server.
--- `aim_of` and `IsAimOf` are steps of the code's own way, which private functions' contracts cite: whoever reads the public
--- ones need not read them.
+-- `aim_of` and `IsAimOf` are internal: you need not read them for the public contracts.
 use Rattle.std.specs.Prelude.{◌≡◌, ◌⊎◌, ◌<◌, ℕ, List, [], ◌∷◌, All, codes, length, Option, Some, None, Result, Ok, Err}
 use Rattle.sm_placement.specs.Setup.{Setup, sizes_of, names_of_servers, names_of_shards}
 use Rattle.sm_placement.specs.Place.{Place}
@@ -48,7 +47,7 @@ IsAimOf setup (Emptying server) = server < length setup.servers
 
 -- ---- what it is made from
 
--- what a plan is made from where a machine is opened over a placement
+-- what a plan is made from when a machine is opened over a placement
 abbrev pub opened_basis : Setup → Place → ℕ → Basis
 opened_basis setup p log = basis_at setup (opened (sizes_of setup) p log)
 
@@ -84,7 +83,7 @@ no_server_line what server = line (codes "no plan: " ∷ what ∷ codes " server
 abbrev pub no_shard_line : List ℕ → List ℕ → List ℕ
 no_shard_line what shard = line (codes "no plan: " ∷ what ∷ codes " shard " ∷ shard ∷ [])
 
--- Why there is no plan. The line of NoMemory is in no report: where memory is short, nothing is written.
+-- Why there is no plan. The line of NoMemory is in no report: if memory is short, nothing is written.
 abbrev pub no_plan_line : Setup → NoPlan → List ℕ
 no_plan_line setup no_plan.NoMemory = no_plan_line_of (codes "1 NoMemory")
 no_plan_line setup (no_plan.NotThere s v) = no_cell_line (codes "2 NotThere") (shard_name setup s) (server_name setup v)

@@ -23,13 +23,13 @@ use Rattle.sm_report.specs.Playing.{Scene, start_number, event_turn}
 
 -- ---- plans and streams by their names
 
--- A plan in front of what is said of it: its place in the document, where that has a list of plans; one plan alone goes
+-- A plan in front of what is said of it: its place in the document, if that has a list of plans; one plan alone goes
 -- without it.
 abbrev pub plan_front : Bool → ℕ → List ℕ
 plan_front true place = codes "plan " ++ decimal place ++ codes ": "
 plan_front false place = []
 
--- a stream, with its plan's place where there may be several
+-- a stream, with its plan's place if there may be several
 abbrev pub stream_text : Bool → ℕ → ℕ → List ℕ
 stream_text true place i = codes "plan " ++ decimal place ++ codes " stream " ++ decimal i
 stream_text false place i = codes "stream " ++ decimal i
@@ -68,13 +68,13 @@ denied_line setup many places denied.GlobalCap = word_line (codes "denied 3 Glob
 denied_line setup many places (denied.ShardCap s) = shard_cap_line (shard_name setup s)
 denied_line setup many places denied.LogFull = word_line (codes "denied 5 LogFull")
 
--- why a stream may not make so many tries more
+-- why a stream may not make this many more tries
 abbrev pub refill_line : RefillFault → List ℕ
 refill_line refill_fault.Ended = word_line (codes "refill refused 1 Ended")
 refill_line refill_fault.TooMany = word_line (codes "refill refused 2 TooMany")
 refill_line refill_fault.LogFull = word_line (codes "refill refused 3 LogFull")
 
--- the plan has begun: so many calls stand in its codes, and it has so many streams
+-- the plan has begun: its codes have this many calls, and it has this many streams
 abbrev pub begun_counts_line : ℕ → ℕ → List ℕ
 begun_counts_line calls streams = line (codes "begun: calls " ∷ decimal calls ∷ codes " streams " ∷ decimal streams ∷ [])
 
@@ -82,7 +82,7 @@ begun_counts_line calls streams = line (codes "begun: calls " ∷ decimal calls 
 abbrev pub begun_line : PlanModel → List ℕ
 begun_line plan = begun_counts_line (call_count plan) (length plan.streams)
 
--- Why a plan does not start. The line of NoMemory is in no report: where memory is short, nothing is written. Nor is that of
+-- Why a plan does not start. The line of NoMemory is in no report: if memory is short, nothing is written. Nor is that of
 -- TooManyPlans, since a document has no more plans than may run at once.
 abbrev pub not_begun_line : Setup → BeginFault → List ℕ
 not_begun_line setup begin_fault.NoMemory = word_line (codes "not begun: 1 NoMemory")
@@ -90,7 +90,7 @@ not_begun_line setup (begin_fault.Holding h) = holding_line setup h
 not_begun_line setup begin_fault.LogFull = word_line (codes "not begun: 4 LogFull")
 not_begun_line setup begin_fault.TooManyPlans = word_line (codes "not begun: 5 TooManyPlans")
 
--- What an event is answered, at the scene after it. Halted has no line in any report: nothing halts the machine.
+-- The answer to an event, at the scene after it. Halted has no line in any report: nothing halts the machine.
 abbrev pub played_line : Setup → Bool → Scene → Played → List ℕ
 played_line setup many x played.Moved = word_line (codes "moved")
 played_line setup many x (played.Blocked signal) = blocked_line signal
@@ -132,7 +132,7 @@ event_lines setup many x i (e ∷ es) = outcome_line setup many i (event_turn x 
 abbrev pub stream_at_line : List ℕ → ℕ → ℕ → List ℕ
 stream_at_line stream at length = line (stream ∷ codes ": at " ∷ decimal at ∷ codes " of " ∷ decimal length ∷ [])
 
--- a stream has made its end
+-- a stream has finished
 abbrev pub stream_done_line : List ℕ → List ℕ
 stream_done_line stream = line (stream ∷ codes ": done" ∷ [])
 

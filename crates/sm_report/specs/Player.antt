@@ -1,5 +1,5 @@
--- Who plays events: a machine with all its rights, and the plans of a document.
--- Steps of the code's own way, which private functions' contracts cite: whoever reads the public ones need not read them.
+-- The player of events: a machine with all its rights, and the plans of a document.
+-- Internal definitions: you need not read them for the public contracts.
 use Rattle.std.specs.Prelude.{◌≡◌, ◌≢◌, ◌<◌, ◌≤◌, ◌^◌, ℕ, length, map}
 use Rattle.sm_plan_text.specs.declared.event.EventText.{EventText}
 use Rattle.sm_plan_text.specs.declared.event.EventText.TheVariants as text

@@ -1,4 +1,4 @@
--- Events of a document, which are played one after the other. Who plays has every right that a machine gives away: the token
+-- Events of a document, which are played one after the other. The player has every right that a machine gives away: the token
 -- of each stream that was begun, a permit for each server that is down, and the ticket of each pass that was recorded. So what
 -- an event asks for hangs on the state alone, and on where the plans stand in the document: an event names a plan by its
 -- place there, and a stream that runs has the number that the start of its plan was answered with.
@@ -19,7 +19,7 @@ use Rattle.sm_protocol.specs.State.{State, opened, stream_id, is_begun}
 use Rattle.sm_protocol.specs.Steps.{Outcome, Answered}
 use Rattle.sm_protocol.specs.Happens.{Happening, Begin, happens}
 
--- What events are played at: the state of the protocol, and which plans of the document have begun.
+-- The scene at which events are played: the state of the protocol, and which plans of the document have begun.
 pub record Scene : Type 0 where
   pub state : State
   -- the plans by their places in the document, None once they have begun
@@ -45,7 +45,7 @@ if_begun w id = if is_begun w id then Some id else None
 abbrev pub named_stream : Scene → ℕ → ℕ → Option StreamId
 named_stream x place i = option_and_then (λ number. if_begun x.state (stream_id number i)) (start_number x.places place)
 
--- The event of the protocol that an event of a document is; None where its stream has not begun. A start is none, since it names its plan by
+-- The event of the protocol that an event of a document is; None if its stream has not begun. A start is none, since it names its plan by
 -- a place in the document.
 abbrev pub event_named : Scene → EventText → Option Event
 event_named x (text.Step place i) = option_map event.Step (named_stream x place i)
@@ -57,7 +57,7 @@ event_named x (text.Approve v) = Some (event.Approve v)
 event_named x (text.Done v) = Some (event.Done v)
 event_named x (text.Begin place) = None
 
--- what an event asks for; None where there is nothing that it speaks of
+-- what an event asks for; None if there is nothing that it speaks of
 abbrev pub asked_by : Scene → EventText → Option Happening
 asked_by x (text.Begin place) = option_map Begin (slice_index_or x.waiting place None)
 asked_by x e = option_and_then (named x.state) (event_named x e)

@@ -1,5 +1,5 @@
 -- The lines of a plan that was run, and of what was asked beside it.
--- `end_line` and `end_lines` are steps of the code's own way, which private functions' contracts cite: whoever reads the public ones need not read them.
+-- `end_line` and `end_lines` are internal: you need not read them for the public contracts.
 use Rattle.std.specs.Prelude.{ℕ, ◌+◌, Option, Some, None, List, [], ◌∷◌, ◌++◌, codes, count_by, length, slice_index_or}
 use Rattle.std.specs.List.{flat_map, range_with_len}
 use Rattle.std.specs.Fmt.{decimal}
@@ -19,7 +19,7 @@ use Rattle.sm_report.specs.PlayLines.{word_line, executed_line}
 
 -- ---- streams
 
--- a stream that has made its end: its recorded steps, the tries of its calls, and how many it was allowed
+-- a stream that has finished: its recorded steps, the tries of its calls, and how many it was allowed
 abbrev pub stream_end_line : ℕ → ℕ → ℕ → ℕ → List ℕ
 stream_end_line stream steps calls budget
     = line (codes "stream " ∷ decimal stream ∷ codes ": steps " ∷ decimal steps ∷ codes " calls " ∷ decimal calls ∷ codes " budget " ∷ decimal budget ∷ [])

@@ -1,5 +1,5 @@
--- What is reported of a plan that is run, with a thread for each of its streams and each ask. The stages before the board are those of
--- the other commands. What comes of threads hangs on their schedule, so the rest is told by what is so at the end.
+-- The report of a plan that is run, with a thread for each of its streams and each ask. The stages before the board are those of
+-- the other commands. The outcome of threads depends on their schedule, so the rest is told by what is so at the end.
 use Rattle.std.specs.Prelude.{◌≡◌, ◌≢◌, ◌⊎◌, ℕ, Bool, true, false, List, [], ◌++◌, All, None, Option, map}
 use Rattle.std.specs.List.{list_all, range_with_len}
 use Rattle.sm_placement.specs.Setup.{Setup, sizes_of}
@@ -66,7 +66,7 @@ pub record WasRun (begun : State) (setup : Setup) (asks : List ℕ) (output : Ou
 abbrev pub WasRunOrNot : State → Setup → List ℕ → Output → Type 0
 WasRunOrNot begun setup asks output = WasRun begun setup asks output ⊎ IsUnrun output
 
--- a plan begins from this state, where it may, and is then run beside asks
+-- a plan begins from this state, if it may, and is then run beside asks
 abbrev pub IsStartedForRun : State → Setup → PlanModel → List ℕ → Output → Type 0
 IsStartedForRun opened setup plan asks = Then (start_stage setup opened plan) (λ begun. WasRunOrNot begun setup asks)
 

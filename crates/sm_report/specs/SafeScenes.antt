@@ -1,4 +1,4 @@
--- What holds of the scenes that a document's events lead to, and so of every line that `play` prints of them.
+-- The facts that hold of the scenes that a document's events lead to, and so of every line that `play` prints of them.
 use Rattle.std.specs.Prelude.{◌≡◌, ℕ, Option, Some, List, [], ◌∷◌, length}
 use Rattle.std.specs.List.{AllByRecursion, filter_map}
 use Rattle.sm_placement.specs.Setup.{Setup, sizes_of}

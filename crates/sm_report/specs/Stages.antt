@@ -35,7 +35,7 @@ use Rattle.sm_protocol.specs.Steps.{Outcome, Answered}
 use Rattle.sm_protocol.specs.Happens.{happens}
 use Rattle.sm_protocol.specs.Happens as happening
 
--- What is reported where a stage comes before the others: what the next ones say of what it found, or its own ending.
+-- The report if a stage comes before the others: what the next ones say of what it found, or its own ending.
 abbrev pub Then : {A : Type 0} → Result A Output → (A → Output → Type 0) → Output → Type 0
 Then (Ok found) Next output = Next found output
 Then (Err ending) Next output = output ≡ ending
@@ -47,7 +47,7 @@ abbrev pub read_or_bad : Result DocumentModel TextFault → Result DocumentModel
 read_or_bad (Ok d) = Ok d
 read_or_bad (Err fault) = Err (bad_input (text_fault_line fault))
 
--- the bytes are read, where there are no more than may be
+-- the bytes are read, if there are no more than may be
 abbrev pub read_stage : ℕ → List ℕ → Result DocumentModel Output
 read_stage most bytes = if nat_lt most (length bytes) then Err (bad_input too_long_line) else read_or_bad (read bytes)
 

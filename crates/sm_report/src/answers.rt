@@ -8,7 +8,7 @@ use sm_placement::Placement;
 use sm_server::{Call, Refusal, ServerId, ShardId};
 use std::alloc::AllocError;
 
-/// The number of a refusal.
+/// Returns the number of a refusal.
 fn number_of(refusal: Refusal) -> u8
     ensures { result ≡ refusal_number refusal }
 {
@@ -21,7 +21,7 @@ fn number_of(refusal: Refusal) -> u8
     }
 }
 
-/// The name of a refusal.
+/// Returns the name of a refusal.
 fn name_of(refusal: Refusal) -> &'static str
     ensures { result.now ≡ refusal_name refusal }
 {

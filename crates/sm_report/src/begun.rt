@@ -7,7 +7,7 @@ use sm_machine::{Machine, Permit, StreamToken};
 use std::alloc::{AllocError, Global};
 use std::sync::ledger::Ledger;
 
-/// A plan that has begun on a machine, with what the machine has given out and what is told of the plan so far.
+/// A plan that has begun on a machine, with what the machine has given out and what the report says of the plan so far.
 pub struct Begun {
     /// The machine that the board is to stand over.
     pub machine: Machine,
@@ -31,7 +31,7 @@ impl Begun {
         machine.give_up(tokens, permits, Vec::new(alloc));
     }
 
-    /// Room for what a board gives out for the plan and so many asks. Where memory runs out, the plan is given up.
+    /// Makes room for what a board gives out for the plan and this many asks. If memory runs out, the plan is given up.
     pub fn with_room<A: Ledger, B: Ledger, C: Ledger, N: Naming>(
         self,
         alloc: Global,

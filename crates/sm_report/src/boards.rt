@@ -39,7 +39,7 @@ use std::sync::Wait;
 use std::sync::ledger::Ledger;
 use std::thread::Threads;
 
-/// The report of a plan that does not begin; none where memory was short for its start.
+/// Returns the report of a plan that does not begin; none if memory was short for its start.
 fn not_begun(alloc: Global, config: &Config, fault: BeginFault) -> Result<Made, AllocError>
     ensures { IfOk result (λ made. (fault ≢ begin_fault.NoMemory) × (made ≡ refused (not_begun_line config.now fault))) }
 {
@@ -49,7 +49,8 @@ fn not_begun(alloc: Global, config: &Config, fault: BeginFault) -> Result<Made, 
     Made::not_begun(alloc, config, fault)
 }
 
-/// A client for each ask, into an empty list with room for all; false where the board gives out no more callers.
+/// Makes a client for each ask, in an empty list with room for all. Returns false if the board gives out no more
+/// callers.
 fn make_clients<A: Ledger, B: Ledger, C: Ledger, N: Naming, R: Wait>(
     rt: &R,
     board: &Board<A, B, C, N>,
@@ -71,8 +72,8 @@ fn make_clients<A: Ledger, B: Ledger, C: Ledger, N: Naming, R: Wait>(
     true
 }
 
-/// Whether each client is of the ask at its place, and there is one for each. What a thread did to its client is not told to who joins
-/// it, so the clients themselves are looked at.
+/// Tells whether each client is of the ask at its place, and there is one for each. A thread does not tell what it did
+/// to its client, so the clients themselves are looked at.
 fn are_of<B: Ledger, C: Ledger, N: Naming>(clients: &[Client<B, C, N>], asks: &[ShardId]) -> bool
     ensures { result ≡ true → map (λ client. client.shard) clients.now ≡ asks.now }
 {
@@ -125,7 +126,7 @@ fn run_begun<
     }
 }
 
-/// The lines of what clients were answered, where each client is of the ask at its place.
+/// Returns the lines of clients' answers, if each client is of the ask at its place.
 fn tell_asks<B: Ledger, C: Ledger, N: Naming>(
     alloc: Global,
     config: &Config,
@@ -176,7 +177,7 @@ fn run_told<
     tell_asks(alloc, board.config(), given.clients.as_slice(), asks)
 }
 
-/// Whether an event is a step of a stream by which no call is lost, or a request.
+/// Tells whether an event is a step of a stream by which no call is lost, or a request.
 fn is_step_or_request(event: &Event) -> bool
     ensures { result ≡ is_step_or_request event.now }
 {
@@ -190,14 +191,14 @@ fn is_step_or_request(event: &Event) -> bool
     }
 }
 
-/// Whether all events of a log are steps by which no call is lost, and requests.
+/// Tells whether all events of a log are steps by which no call is lost, and requests.
 fn are_steps_and_requests(log: &[Logged]) -> bool
     ensures { result ≡ are_steps_and_requests log.now }
 {
     log.iter().all(|line| is_step_or_request(&line.event))
 }
 
-/// Adds the lines of the streams of a machine's one plan. What threads did to a board is not told to who closes it, so it is looked
+/// Adds the lines of the streams of a machine's one plan. Threads do not tell what they did to a board. So it looks
 /// whether another plan has begun, and whether the log has other events than the run's.
 fn push_plan_ends(out: &mut String, machine: &Machine) -> Result<(), Unmade>
     ensures alone { OnOk result (length (state_of machine.now).plans ≡ 1) }
@@ -212,7 +213,7 @@ fn push_plan_ends(out: &mut String, machine: &Machine) -> Result<(), Unmade>
     Ok(())
 }
 
-/// The report of a plan that was run on the board that this machine is from.
+/// Returns the report of a plan that was run on the board that this machine is from.
 fn report_machine(
     alloc: Global,
     machine: Machine,
@@ -235,7 +236,7 @@ fn report_machine(
     Ok(Made::done(text))
 }
 
-/// The report of a plan that was run on a board, which is closed.
+/// Closes a board, and returns the report of the plan that was run on it.
 fn report_ran<A: Ledger, B: Ledger, C: Ledger, N: Naming>(
     alloc: Global,
     board: Board<A, B, C, N>,
@@ -291,7 +292,7 @@ fn give_up<A: Ledger, B: Ledger, C: Ledger, N: Naming>(
     machine.give_up(tokens, permits, Vec::new(alloc));
 }
 
-/// The report of the plan that has begun, which is run on a board, with lists for what the board gives out.
+/// Runs the plan that has begun on a board, with lists for what the board gives out, and returns its report.
 fn report_given<
     A: Ledger + Send + Sync,
     B: Ledger + Send + Sync,
@@ -325,7 +326,7 @@ fn report_given<
     }
 }
 
-/// The report of the plan that has begun on a machine, which is run on a board over the machine, on this ground of it.
+/// Runs the plan that has begun on a machine on a board over the machine, on this ground of it, and returns its report.
 fn report_on_ground<
     A: Ledger + Send + Sync,
     B: Ledger + Send + Sync,
@@ -371,7 +372,7 @@ fn report_on_ground<
     }
 }
 
-/// The report of the plan that has begun on a machine, which is run on a board over the machine, beside asks.
+/// Runs the plan that has begun on a machine on a board over the machine, beside asks, and returns its report.
 fn report_on_board<R: Threads + Wait + Sync>(
     rt: &R,
     alloc: Global,
@@ -397,8 +398,8 @@ fn report_on_board<R: Threads + Wait + Sync>(
     }
 }
 
-/// The report of a checked plan that begins on a machine which has begun none, and which has these permits, and is then run beside
-/// asks. Its first line says that the plan is accepted.
+/// Begins a checked plan on a machine which has begun none, and which has these permits, runs it beside asks, and
+/// returns its report. Its first line says that the plan is accepted.
 pub fn report_started<R: Threads + Wait + Sync>(
     rt: &R,
     alloc: Global,

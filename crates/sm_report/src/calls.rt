@@ -17,7 +17,7 @@ use sm_plan_text::{Document, Member};
 use sm_server::{Call, ServerId, ShardId};
 use std::alloc::{AllocError, Global};
 
-/// The report of calls that are made one after the other.
+/// Makes calls one after the other, and returns their report.
 fn report_made(
     alloc: Global,
     placement: &mut Placement,
@@ -32,7 +32,7 @@ fn report_made(
     Ok(Made::done(text))
 }
 
-/// The report of a document's calls, which are taken out of it.
+/// Takes a document's calls out of it, and returns their report.
 pub fn report_calls(alloc: Global, document: &mut Document) -> Result<Made, Early>
     requires { IsDocument (rows_of document.old) }
     ensures { IfMade result (IsCallsReport (rows_of document.old)) }

@@ -18,7 +18,7 @@ use sm_plan_text::{Document, Member};
 use sm_reservation::Pool;
 use std::alloc::Global;
 
-/// The report of a plan at a placement that is opened.
+/// Returns the report of a plan at a placement that is opened.
 fn report_plan(alloc: Global, placement: &Placement, plan: Plan) -> Result<Made, Early>
     requires settled { IsSettled (sizes_of placement.now.setup) (place_of placement.now) }
     requires fits { IsKnownPlan (length placement.now.setup.shards) (length placement.now.setup.servers) plan }
@@ -30,7 +30,7 @@ fn report_plan(alloc: Global, placement: &Placement, plan: Plan) -> Result<Made,
     Ok(Made::accepted(alloc, checked.plan())?)
 }
 
-/// The report of a document's plan, which is taken out of it.
+/// Takes a document's plan out of it, and returns its report.
 pub fn report_check(alloc: Global, document: &mut Document) -> Result<Made, Early>
     requires { IsDocument (rows_of document.old) }
     ensures { IfMade result (IsCheckReport (rows_of document.old)) }

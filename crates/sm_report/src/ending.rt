@@ -8,14 +8,14 @@ use sm_placement::{Config, Placement};
 use sm_server::{Cell, ServerId, ShardId};
 use std::alloc::AllocError;
 
-/// Whether a server is down, in a word.
+/// Returns the word for a server that is up or down.
 fn state_word(down: bool) -> &'static str
     ensures { result.now ≡ state_word down }
 {
     if down { "down" } else { "up" }
 }
 
-/// The name of the server that the published map names.
+/// Returns the name of the server that the published map names.
 fn listed_name<'a>(config: &'a Config, listed: Option<ServerId>) -> &'a str
     ensures { result.now ≡ listed_name config.now listed }
 {
@@ -43,7 +43,7 @@ fn push_handover(
     writeln!(out, "  {server} {way} {other} number {number}")
 }
 
-/// Adds the line of what a server has of a shard, where it has something.
+/// Adds the line of what a server has of a shard, if it has something.
 fn push_cell(
     out: &mut String,
     config: &Config,

@@ -1,4 +1,4 @@
-//! What a board has given out, and takes back where it ends.
+//! The things that a board has given out, and takes back at its end.
 ghost use Rattle.std.specs.Prelude.{◌≡◌, ◌≤◌, ◌+◌, IfOk, [], map, vec_len, vec_capacity};
 ghost use Rattle.sm_report.specs.Unmade.{IsOfRun};
 
@@ -10,8 +10,8 @@ use std::alloc::{AllocError, Global};
 use std::mem;
 use std::sync::ledger::Ledger;
 
-/// What a board has given out: the ends of streams, the clients of asks with its callers, and the tokens of streams that have made no
-/// end. Each list has room for all, as nothing of this can be let fall.
+/// The things that a board has given out: the ends of streams, the clients of asks with its callers, and the tokens of
+/// streams that came to no end. Each list has room for all, as nothing of this can be dropped.
 pub struct Given<A: Ledger, B: Ledger, C: Ledger, N: Naming> {
     pub ended: Vec<Ended<A>>,
     pub clients: Vec<Client<B, C, N>>,
@@ -21,7 +21,7 @@ pub struct Given<A: Ledger, B: Ledger, C: Ledger, N: Naming> {
 }
 
 impl<A: Ledger, B: Ledger, C: Ledger, N: Naming> Given<A, B, C, N> {
-    /// Room for what a plan of so many streams and so many asks are given.
+    /// Makes room for what a plan of this many streams, and this many asks, are given.
     pub fn with_room(alloc: Global, streams: usize, asks: usize) -> Result<Self, AllocError>
         ensures ended { IfOk result (λ given. given.ended.items ≡ []) }
         ensures clients { IfOk result (λ given. (given.clients.items ≡ []) × (asks ≤ vec_capacity given.clients)) }
@@ -76,7 +76,7 @@ pub fn keep_ends<A: Ledger>(kept: &mut Vec<Ended<A>>, ended: Vec<Ended<A>>)
     mem::replace(kept, ended).destroy_empty();
 }
 
-/// Why there is no report of a run whose streams have not made their ends.
+/// Returns why there is no report of a run whose streams have not finished.
 fn unmade_of(why: RunFault) -> Unmade
     ensures { IsOfRun result }
 {
@@ -108,7 +108,7 @@ pub fn keep_back<A: Ledger>(
     unmade_of(fault)
 }
 
-/// The callers of clients in their order, into an empty list with room for all. Takes no memory.
+/// Takes the callers of clients, in their order, into an empty list with room for all. Takes no memory.
 pub fn take_callers<B: Ledger, C: Ledger, N: Naming>(
     mut clients: Vec<Client<B, C, N>>,
     callers: &mut Vec<Caller<B, C, N>>,

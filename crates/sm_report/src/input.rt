@@ -18,7 +18,7 @@ pub enum InputFault {
 
 const PIECE: usize = 65_536;
 
-/// Reads to the end, by at most so many reads, where there are at most so many bytes.
+/// Reads to the end, by at most `turns` reads, if there are at most `most` bytes.
 ///
 /// A read that is interrupted is tried again, and counts.
 pub fn take_input<R: Read>(

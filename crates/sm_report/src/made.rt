@@ -48,7 +48,7 @@ impl Model for Made {
 }
 
 impl Made {
-    /// The report of an input that is no document for the command.
+    /// Returns the report of an input that is no document for the command.
     pub fn bad_input(alloc: Global, fault: TextFault) -> Result<Self, AllocError>
         ensures { IfOk result (λ made. made ≡ bad_input (text_fault_line fault)) }
     {
@@ -60,7 +60,7 @@ impl Made {
         })
     }
 
-    /// The report of an input that is longer than any document may be.
+    /// Returns the report of an input that is longer than any document may be.
     pub fn too_long(alloc: Global) -> Result<Self, AllocError>
         ensures { IfOk result (λ made. made ≡ bad_input too_long_line) }
     {
@@ -72,7 +72,7 @@ impl Made {
         })
     }
 
-    /// The report of a command whose placement or plan is refused.
+    /// Returns the report of a command whose placement or plan is refused.
     fn refused(text: String) -> Self
         ensures { result ≡ refused (string_bytes text) }
     {
@@ -82,7 +82,7 @@ impl Made {
         }
     }
 
-    /// The report of a placement that is not opened.
+    /// Returns the report of a placement that is not opened.
     pub fn unopened(alloc: Global, config: &Config, fault: OpenFault) -> Result<Self, AllocError>
         ensures { IfOk result (λ made. made ≡ refused (open_fault_line config.now fault)) }
     {
@@ -91,7 +91,7 @@ impl Made {
         Ok(Made::refused(text))
     }
 
-    /// The report of a plan that does not pass the check, behind a front.
+    /// Returns the report of a plan that does not pass the check, behind a front.
     pub fn unsound(alloc: Global, front: &str, fault: &Fault) -> Result<Self, AllocError>
         ensures { IfOk result (λ made. made ≡ refused (front.now ++ fault_line fault.now)) }
     {
@@ -101,7 +101,7 @@ impl Made {
         Ok(Made::refused(text))
     }
 
-    /// The report of a log that has no room for the restarts under way.
+    /// Returns the report of a log that has no room for the restarts under way.
     pub fn log_full(alloc: Global) -> Result<Self, AllocError>
         ensures { IfOk result (λ made. made ≡ refused log_refused_line) }
     {
@@ -110,7 +110,7 @@ impl Made {
         Ok(Made::refused(text))
     }
 
-    /// The report of a plan that does not start.
+    /// Returns the report of a plan that does not start.
     pub fn not_begun(alloc: Global, config: &Config, fault: BeginFault) -> Result<Self, AllocError>
         ensures { IfOk result (λ made. made ≡ refused (not_begun_line config.now fault)) }
     {
@@ -119,7 +119,7 @@ impl Made {
         Ok(Made::refused(text))
     }
 
-    /// The report of a plan that may not start.
+    /// Returns the report of a plan that may not start.
     pub fn held(alloc: Global, config: &Config, holding: Holding) -> Result<Self, AllocError>
         ensures { IfOk result (λ made. made ≡ refused (holding_line config.now holding)) }
     {
@@ -128,7 +128,7 @@ impl Made {
         Ok(Made::refused(text))
     }
 
-    /// The report of a plan that is accepted.
+    /// Returns the report of a plan that is accepted.
     pub fn accepted(alloc: Global, plan: &Plan) -> Result<Self, AllocError>
         ensures { IfOk result (λ made. made ≡ done (accepted_line plan.now)) }
     {
@@ -137,7 +137,7 @@ impl Made {
         Ok(Made::done(text))
     }
 
-    /// The report of a plan that was made.
+    /// Returns the report of a plan that was made.
     pub fn planned(alloc: Global, config: &Config, plan: &Plan) -> Result<Self, AllocError>
         requires { IsKnownPlan (length config.now.shards) (length config.now.servers) plan.now }
         ensures { IfOk result (λ made. made ≡ done (made_line config.now plan.now)) }
@@ -150,7 +150,7 @@ impl Made {
         })
     }
 
-    /// The report of why no plan was made.
+    /// Returns the report of a plan that was not made, with the reason.
     pub fn unplanned(alloc: Global, config: &Config, why: NoPlan) -> Result<Self, AllocError>
         ensures { IfOk result (λ made. made ≡ refused (no_plan_line config.now why)) }
     {
@@ -159,7 +159,7 @@ impl Made {
         Ok(Made::refused(text))
     }
 
-    /// The report of a command that was carried out.
+    /// Returns the report of a command that was carried out.
     pub fn done(text: String) -> Self
         ensures { result ≡ done (string_bytes text) }
     {

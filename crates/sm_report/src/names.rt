@@ -5,7 +5,7 @@ ghost use Rattle.sm_report.specs.Ending.{server_name, shard_name};
 use sm_placement::Config;
 use sm_server::{ServerId, ShardId};
 
-/// The name of a server. It is empty where there is no such server.
+/// Returns the name of a server. It is empty if there is no such server.
 pub fn server_name<'a>(config: &'a Config, server: ServerId) -> &'a str
     ensures { result.now ≡ server_name config.now server }
 {
@@ -15,7 +15,7 @@ pub fn server_name<'a>(config: &'a Config, server: ServerId) -> &'a str
     }
 }
 
-/// The name of a shard. It is empty where there is no such shard.
+/// Returns the name of a shard. It is empty if there is no such shard.
 pub fn shard_name<'a>(config: &'a Config, shard: ShardId) -> &'a str
     ensures { result.now ≡ shard_name config.now shard }
 {

@@ -26,7 +26,7 @@ use sm_server::ServerId;
 use sm_verifier::Checked;
 use std::alloc::{AllocError, Global};
 
-/// What a plan is wanted for.
+/// The task that a plan is wanted for.
 #[derive(Clone, Copy)]
 pub enum Wanted<'a> {
     /// To make moves.
@@ -35,14 +35,14 @@ pub enum Wanted<'a> {
     Drain(ServerId),
 }
 
-/// The report of a document that is not one for a plan.
+/// Returns the report of a document that is not one for a plan.
 fn misfit(alloc: Global, member: Member) -> Result<Made, AllocError>
     ensures { IfOk result (λ made. made ≡ bad_input (text_fault_line (TextFault.Shape member))) }
 {
     Made::bad_input(alloc, TextFault::Shape { member })
 }
 
-/// What a document wants a plan for: its moves, or a server that is to be emptied, and not both.
+/// Returns the task that a document wants a plan for: its moves, or a server that is to be emptied, and not both.
 fn wanted_of(alloc: Global, document: &Document) -> Result<Wanted<'_>, Early>
     requires { IsDocument (rows_of document.now) }
     ensures ok { IfOk result (λ wanted. aim_stage (rows_of document.now).moves (rows_of document.now).drain ≡ Ok (aim_of wanted)) }
@@ -57,7 +57,7 @@ fn wanted_of(alloc: Global, document: &Document) -> Result<Wanted<'_>, Early>
     }
 }
 
-/// The plan that is wanted, for the machine as it stands.
+/// Plans what is wanted, for the machine as it stands.
 fn plan(alloc: Global, machine: &Machine, wanted: &Wanted<'_>) -> Result<Checked, NoPlan>
     requires { IsAimOf machine.now.placement.setup (aim_of wanted.now) }
     ensures setup { IfOk result (λ checked. checked.setup ≡ machine.now.placement.setup) }
@@ -70,7 +70,7 @@ fn plan(alloc: Global, machine: &Machine, wanted: &Wanted<'_>) -> Result<Checked
     }
 }
 
-/// The report of a machine's answer.
+/// Returns the report of a machine's answer.
 fn report_answer(
     alloc: Global,
     config: &Config,
@@ -88,7 +88,7 @@ fn report_answer(
     }
 }
 
-/// The report of what is wanted, for a machine that is opened at the placement, whose log has room.
+/// Returns the report of what is wanted, for a machine that is opened at the placement, whose log has room.
 fn report_logged(
     alloc: Global,
     document: &Document,
@@ -108,7 +108,7 @@ fn report_logged(
     made
 }
 
-/// The report of what is wanted, at a placement that is opened.
+/// Returns the report of what is wanted, at a placement that is opened.
 fn report_placed(
     alloc: Global,
     document: &Document,
@@ -125,7 +125,7 @@ fn report_placed(
     report_logged(alloc, document, placement, wanted)
 }
 
-/// The report of what a document wants a plan for.
+/// Returns the report of the task that a document wants a plan for.
 fn report_wanted(alloc: Global, document: &Document, wanted: &Wanted<'_>) -> Result<Made, Early>
     requires document { IsDocument (rows_of document.now) }
     requires aim { IsAimOf (rows_of document.now).setup (aim_of wanted.now) }
@@ -135,7 +135,7 @@ fn report_wanted(alloc: Global, document: &Document, wanted: &Wanted<'_>) -> Res
     report_placed(alloc, document, placement, wanted)
 }
 
-/// The report of a plan that is made for a document.
+/// Makes a plan for a document, and returns its report.
 pub fn report_plan(alloc: Global, document: &Document) -> Result<Made, Early>
     requires { IsDocument (rows_of document.now) }
     ensures { IfMade result (IsPlanningReport (rows_of document.now)) }

@@ -16,7 +16,7 @@ pub fn push_word(out: &mut String, word: &str) -> Result<(), AllocError>
     writeln!(out, "{word}")
 }
 
-/// Adds a plan in front of what is said of it, where the document has a list of plans.
+/// Adds a plan in front of what is said of it, if the document has a list of plans.
 pub fn push_plan_front(out: &mut String, many: bool, place: usize) -> Result<(), AllocError>
     ensures { OnOk result (string_bytes out.new ≡ string_bytes out.old ++ plan_front many place) }
 {
@@ -33,7 +33,7 @@ pub fn push_event_front(out: &mut String, i: usize) -> Result<(), AllocError>
     write!(out, "event {i}: ")
 }
 
-/// Adds a stream, with its plan's place where the document has a list of plans.
+/// Adds a stream, with its plan's place if the document has a list of plans.
 pub fn push_stream_text(
     out: &mut String,
     many: bool,
@@ -88,7 +88,7 @@ fn push_engaged(out: &mut String, many: bool, place: usize, stream: u32) -> Resu
     writeln!(out)
 }
 
-/// Where the plan of a number stands in the document.
+/// Returns the document's place of the plan with a number.
 fn place_of_number(places: &[u32], number: u32) -> u32
     ensures { result ≡ slice_index_or places.now number 0 }
 {
@@ -120,7 +120,7 @@ pub fn push_denied(
     }
 }
 
-/// The words that say why an allowance is not raised.
+/// Returns the words that say why an allowance is not raised.
 fn refill_words(fault: RefillFault) -> &'static str
     ensures { word_line result.now ≡ refill_line fault }
 {
@@ -161,14 +161,14 @@ pub fn push_not_begun(
     }
 }
 
-/// Adds behind a stream that it has not made its end.
+/// Adds, behind a stream, that it has not finished.
 pub fn push_at(out: &mut String, at: usize, length: usize) -> Result<(), AllocError>
     ensures { OnOk result (string_bytes out.new ≡ string_bytes out.old ++ stream_at_line [] at length) }
 {
     writeln!(out, ": at {at} of {length}")
 }
 
-/// Adds behind a stream that it has made its end.
+/// Adds, behind a stream, that it has finished.
 pub fn push_done(out: &mut String) -> Result<(), AllocError>
     ensures { OnOk result (string_bytes out.new ≡ string_bytes out.old ++ stream_done_line []) }
 {

@@ -1,4 +1,4 @@
-//! Who plays events on a machine.
+//! The player of events on a machine.
 ghost use Rattle.std.specs.Prelude.{◌≡◌, ◌≤◌, ◌<◌, ◌^◌, [], IfOk, length, map, slice_set, Some};
 ghost use Rattle.sm_placement.specs.Setup.{sizes_of};
 ghost use Rattle.sm_placement.specs.Place.{down_count};
@@ -22,7 +22,7 @@ use sm_reservation::StreamId;
 use sm_verifier::Checked;
 use std::alloc::{AllocError, Global};
 
-/// Who plays the events of a document: a machine with all its rights, and the document's plans.
+/// The player of a document's events: a machine with all its rights, and the document's plans.
 pub struct Player {
     director: Director,
     /// The plans by their places in the document, none once they have begun.
@@ -31,7 +31,7 @@ pub struct Player {
     places: Vec<u32>,
 }
 
-/// The number of the plan at this place of the document, once it has begun.
+/// Returns the number of the plan at this place of the document, once it has begun.
 fn start_number(places: &[u32], place: usize) -> Option<u32>
     requires { length places.now ≤ 2 ^ 32 }
     ensures { result ≡ start_number places.now place }
@@ -78,28 +78,28 @@ impl Player {
         })
     }
 
-    /// The machine.
+    /// Returns the machine.
     pub fn machine(&self) -> &Machine
         ensures { result.now ≡ self.now.director }
     {
         self.director.machine()
     }
 
-    /// How many plans the document has.
+    /// Returns the number of plans of the document.
     pub fn plan_count(&self) -> usize
         ensures { result ≡ length self.now.waiting.items }
     {
         self.waiting.len()
     }
 
-    /// The places of the plans that have begun, by their numbers.
+    /// Returns the places of the plans that have begun, by their numbers.
     pub fn places(&self) -> &[u32]
         ensures { result.now ≡ self.now.places.items }
     {
         self.places.as_slice()
     }
 
-    /// The number of the plan at a place of the document, once it has begun.
+    /// Returns the number of the plan at a place of the document, once it has begun.
     pub fn number_of(&self, place: usize) -> Option<u32>
         requires { IsSetUp self.now }
         ensures { result ≡ start_number self.now.places.items place }
@@ -107,7 +107,7 @@ impl Player {
         start_number(self.places.as_slice(), place)
     }
 
-    /// A stream by its plan's place in the document and its own place in the plan, if it has begun.
+    /// Returns a stream by its plan's place in the document and its own place in the plan, if it has begun.
     fn named_stream(&self, place: u32, stream: u32) -> Option<StreamId>
         requires { IsSetUp self.now }
         ensures { result ≡ named_stream (scene_of self.now) place stream }
@@ -121,7 +121,7 @@ impl Player {
         }
     }
 
-    /// The event of the protocol that an event of a document is, None where its stream has not begun, and for a start.
+    /// Returns the event of the protocol for an event of a document. None if its stream has not begun, and for a start.
     fn event_named(&self, event: EventText) -> Option<Event>
         requires { IsSetUp self.now }
         ensures { result ≡ event_named (scene_of self.now) event }

@@ -1,4 +1,4 @@
-//! The lines of what a player is answered, and of how far its plans have come.
+//! The lines of a player's answers, and of how far its plans have come.
 ghost use Rattle.std.specs.Prelude.{◌≡◌, ◌≢◌, ◌<◌, ◌++◌, All, OnOk, length, string_bytes, true};
 ghost use Rattle.sm_plan_text.specs.Events.{IsKnownEvent};
 ghost use Rattle.sm_protocol.specs.declared.event.Played.TheVariants as played;
@@ -134,7 +134,7 @@ fn push_stream(
     }
 }
 
-/// How many instructions a stream has.
+/// Returns the number of instructions of a stream.
 fn code_length(stream: &Stream) -> usize
     ensures { result ≡ length stream.now.code }
 {

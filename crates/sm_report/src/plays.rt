@@ -35,7 +35,7 @@ use sm_protocol::Played;
 use sm_verifier::Checked;
 use std::alloc::{AllocError, Global};
 
-/// The plan at a place of the document, once it has passed the check; else the report ends.
+/// Takes the plan at a place of the document, once it has passed the check; otherwise the report ends.
 fn check_at(
     alloc: Global,
     many: bool,
@@ -54,7 +54,8 @@ fn check_at(
     checked(alloc, front.as_str(), placement, plan)
 }
 
-/// The plans of a document, once each has passed the check; else the report ends with the first that does not.
+/// Takes the plans of a document, once each has passed the check; otherwise the report ends with the first that does
+/// not.
 fn all_checked(
     alloc: Global,
     many: bool,
@@ -77,7 +78,7 @@ fn all_checked(
     Ok(waiting)
 }
 
-/// Who plays the events of a document, once each of its plans has passed the check.
+/// Makes the player of a document's events, once each of its plans has passed the check.
 fn open_player(
     alloc: Global,
     many: bool,
@@ -99,7 +100,7 @@ fn open_player(
     Ok(Player::open(alloc, placement, log, waiting)?)
 }
 
-/// The report of events that a player plays, behind a front.
+/// Plays events, and returns their report, behind a front.
 fn report_played(
     alloc: Global,
     config: &Config,
@@ -121,7 +122,7 @@ fn report_played(
     Ok(Made::done(text))
 }
 
-/// The report of the events of a document whose plans are begun by events.
+/// Returns the report of the events of a document whose plans are begun by events.
 fn report_list(
     alloc: Global,
     config: &Config,
@@ -144,7 +145,7 @@ fn report_list(
     Ok(report_played(alloc, config, String::new(alloc), many, player, events)?)
 }
 
-/// The plan at the first place begins before any event; else the report ends.
+/// Begins the plan at the first place before any event; otherwise the report ends.
 fn begin_alone(alloc: Global, config: &Config, player: &mut Player) -> Result<(), Early>
     requires { IsSetUp player.old }
     ensures ok { OnOk result (begin_stage config.now (scene_of player.old) ≡ Ok (scene_of player.new)) }
@@ -159,7 +160,7 @@ fn begin_alone(alloc: Global, config: &Config, player: &mut Player) -> Result<()
     }
 }
 
-/// The report of a player's one plan and of its events, behind a front.
+/// Returns the report of a player's one plan and of its events, behind a front.
 fn report_begun(
     alloc: Global,
     config: &Config,
@@ -181,7 +182,7 @@ fn report_begun(
     }
 }
 
-/// The report of the events of a document that has one plan, which begins before them.
+/// Returns the report of the events of a document that has one plan, which begins before them.
 fn report_one(
     alloc: Global,
     config: &Config,
@@ -207,7 +208,8 @@ fn report_one(
     report_begun(alloc, config, front, player, events)
 }
 
-/// The report of a document's events at its placement, whose log has room. The plans are taken out of the document.
+/// Returns the report of a document's events at its placement, whose log has room. It takes the plans out of the
+/// document.
 fn report_logged(
     alloc: Global,
     document: &mut Document,
@@ -242,7 +244,7 @@ fn report_logged(
     }
 }
 
-/// The report of a document's events at its placement.
+/// Returns the report of a document's events at its placement.
 fn report_placed(
     alloc: Global,
     document: &mut Document,
@@ -259,7 +261,7 @@ fn report_placed(
     report_logged(alloc, document, placement, events)
 }
 
-/// The report of a document's events, which were taken out of it.
+/// Returns the report of a document's events, which were taken out of it.
 fn report_events(
     alloc: Global,
     document: &mut Document,
@@ -273,7 +275,7 @@ fn report_events(
     report_placed(alloc, document, placement, events)
 }
 
-/// The report of the events of a document that has one plan at most, or a list of plans.
+/// Returns the report of the events of a document that has one plan at most, or a list of plans.
 fn report_alone(alloc: Global, document: &mut Document) -> Result<Made, Early>
     requires { IsDocument (rows_of document.old) }
     ensures { IfMade result (IsAloneForPlay (rows_of document.old) tt) }
@@ -282,7 +284,7 @@ fn report_alone(alloc: Global, document: &mut Document) -> Result<Made, Early>
     report_events(alloc, document, events.as_slice())
 }
 
-/// The report of a document's events, which are taken out of it with its plans.
+/// Takes a document's events out of it with its plans, and returns their report.
 pub fn report_play(alloc: Global, document: &mut Document) -> Result<Made, Early>
     requires { IsDocument (rows_of document.old) }
     ensures { IfMade result (IsPlayReport (rows_of document.old)) }

@@ -29,7 +29,7 @@ use sm_verifier::{finds_fault, finds_holding, one_fault, one_holding};
 use std::alloc::Global;
 use std::io::{Read, Write};
 
-/// The document that the bytes of an input are.
+/// Reads the document that the bytes of an input are.
 fn read_bytes(alloc: Global, bytes: &[u8]) -> Result<Document, Early>
     requires { length bytes.now ≤ MOST_BYTES }
     ensures ok { IfOk result (λ document. read_stage MOST_BYTES bytes.now ≡ Ok (rows_of document)) }
@@ -43,7 +43,7 @@ fn read_bytes(alloc: Global, bytes: &[u8]) -> Result<Document, Early>
     }
 }
 
-/// The document that a reader gives.
+/// Reads the document that a reader gives.
 pub fn read_input<R: Read>(alloc: Global, reader: &mut R) -> Result<Document, Early>
     ensures ok { IfOk result (λ document. IsReadAs (R.remaining reader.old) MOST_BYTES (Ok (rows_of document))) }
     ensures known { IfOk result (λ document. IsDocument (rows_of document)) }
@@ -57,7 +57,7 @@ pub fn read_input<R: Read>(alloc: Global, reader: &mut R) -> Result<Document, Ea
     }
 }
 
-/// What a command reports of a document.
+/// Returns a command's report of a document.
 fn report_document(alloc: Global, command: Command, mut document: Document) -> Result<Made, Early>
     requires { IsDocument (rows_of document) }
     ensures { IfMade result (IsDocumentReport command (rows_of document)) }
@@ -70,7 +70,7 @@ fn report_document(alloc: Global, command: Command, mut document: Document) -> R
     }
 }
 
-/// What a command reports of all that a reader gives.
+/// Returns a command's report of all that a reader gives.
 fn report_reader<R: Read>(alloc: Global, command: Command, reader: &mut R) -> Result<Made, Early>
     ensures { IfReadMade result (IsReportOf command MOST_BYTES (R.remaining reader.old)) }
 {
@@ -78,7 +78,7 @@ fn report_reader<R: Read>(alloc: Global, command: Command, reader: &mut R) -> Re
     report_document(alloc, command, document)
 }
 
-/// Reads all input, makes the whole report, and then writes it. Where nothing is known of what a reader gives, what is
+/// Reads all input, makes the whole report, and then writes it. Without knowledge of what a reader gives, what is
 /// written is the report on some bytes.
 pub fn report<R: Read, W: Write>(
     alloc: Global,
@@ -110,15 +110,16 @@ pub fn report<R: Read, W: Write>(
     }
 }
 
-/// What `play` prints is told of the run of what happens by a document's events, and that run is safe: after each event the headline holds, and
-/// the laws on lost calls, on the effects of calls, on requests and on tickets.
+/// States that what `play` prints follows from the run of what happens by a document's events. That run is safe: after
+/// each event the headline holds, and the laws on lost calls, on the effects of calls, on requests and on tickets.
 pub fn scenes_are_safe()
     ensures { ScenesAreSafe }
 {
     runs_are_safe();
 }
 
-/// What a command reports of an input is one report, since the verdict on a plan is one and the planner answers once.
+/// States that there is one report of an input by a command, since there is one verdict on a plan and one answer of the
+/// planner.
 pub fn one_report()
     ensures { (command : Command) (most : ℕ) (bytes : List ℕ) (a b : Output) → IsReport command most bytes a → IsReport command most bytes b → a ≡ b }
 {
@@ -127,7 +128,7 @@ pub fn one_report()
     rule_answers_once();
 }
 
-/// Each input has a report, since each plan has a verdict and the planner answers.
+/// States that each input has a report, since each plan has a verdict and the planner answers.
 pub fn some_report()
     ensures { (command : Command) (most : ℕ) (bytes : List ℕ) → (output : Output) × IsReport command most bytes output }
 {

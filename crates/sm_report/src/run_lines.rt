@@ -15,7 +15,7 @@ use sm_router::Asked;
 use std::alloc::AllocError;
 use std::sync::ledger::Ledger;
 
-/// Adds the line of a stream that has made its end.
+/// Adds the line of a stream that has finished.
 fn push_stream_end(
     out: &mut String,
     stream: u32,
@@ -89,7 +89,7 @@ fn push_ask(out: &mut String, config: &Config, i: usize, asked: Asked) -> Result
     push_asked(out, config, asked)
 }
 
-/// Adds the line of what a client was answered, where it has asked.
+/// Adds the line of a client's answer, if it has asked.
 fn push_client(
     out: &mut String,
     config: &Config,

@@ -37,7 +37,7 @@ use std::io::{Read, Write};
 use std::sync::Wait;
 use std::thread::Threads;
 
-/// The report of a checked plan that is run from a settled placement, beside asks.
+/// Runs a checked plan from a settled placement, beside asks, and returns its report.
 fn report_checked<R: Threads + Wait + Sync>(
     rt: &R,
     alloc: Global,
@@ -64,7 +64,7 @@ fn report_checked<R: Threads + Wait + Sync>(
     }
 }
 
-/// The report of a document's plan at its placement, whose log has room.
+/// Runs a document's plan at its placement, whose log has room, and returns its report.
 fn report_logged<R: Threads + Wait + Sync>(
     rt: &R,
     alloc: Global,
@@ -84,7 +84,7 @@ fn report_logged<R: Threads + Wait + Sync>(
     report_checked(rt, alloc, placement, document.log, checked, asks)
 }
 
-/// The report of a document's plan at its placement.
+/// Runs a document's plan at its placement, and returns its report.
 fn report_placed<R: Threads + Wait + Sync>(
     rt: &R,
     alloc: Global,
@@ -102,7 +102,7 @@ fn report_placed<R: Threads + Wait + Sync>(
     report_logged(rt, alloc, document, placement, plan)
 }
 
-/// The report of a plan, which was taken out of the document.
+/// Runs a plan, which was taken out of the document, and returns its report.
 fn report_plan<R: Threads + Wait + Sync>(
     rt: &R,
     alloc: Global,
@@ -117,7 +117,7 @@ fn report_plan<R: Threads + Wait + Sync>(
     report_placed(rt, alloc, document, placement, plan)
 }
 
-/// The report of a document's plan, which is taken out of it and run beside the document's asks.
+/// Takes a document's plan out of it, runs it beside the document's asks, and returns its report.
 fn report_document<R: Threads + Wait + Sync>(
     rt: &R,
     alloc: Global,
@@ -130,7 +130,7 @@ fn report_document<R: Threads + Wait + Sync>(
     report_plan(rt, alloc, document, plan)
 }
 
-/// The report of the plan of the document that a reader gives, which is run.
+/// Runs the plan of the document that a reader gives, and returns its report.
 fn report_reader<R: Threads + Wait + Sync, I: Read>(
     rt: &R,
     alloc: Global,
@@ -155,8 +155,8 @@ fn write_unrun<W: Write>(writer: &mut W, unrun: Unrun) -> Status
     }
 }
 
-/// Reads all input, runs the document's plan with a thread for each of its streams and each ask, makes the whole report, and then
-/// writes it. Where nothing is known of what a reader gives, what is written is a report on some bytes.
+/// Reads all input, runs the document's plan with a thread for each of its streams and each ask, makes the whole
+/// report, and then writes it. Without knowledge of what a reader gives, what is written is a report on some bytes.
 pub fn report_run<R: Threads + Wait + Sync, I: Read, W: Write>(
     rt: &R,
     alloc: Global,
@@ -190,7 +190,8 @@ pub fn report_run<R: Threads + Wait + Sync, I: Read, W: Write>(
     }
 }
 
-/// Of a document without asks `run` reports the same in each run that comes to its end, whatever the schedule is.
+/// States that `run` reports the same of a document without asks in each run that comes to its end, whatever the
+/// schedule is.
 pub fn one_run_report()
     ensures { (d : DocumentModel) (a b : Output) → d.asks ≡ [] → IsRunReport d a → IsRunReport d b → a.status ≢ Status.NoThread → b.status ≢ Status.NoThread → a ≡ b }
 {

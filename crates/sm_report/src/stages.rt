@@ -28,7 +28,7 @@ use sm_reservation::Pool;
 use sm_verifier::{Checked, Fault, admit, check};
 use std::alloc::{AllocError, Global};
 
-/// The member that a command needs.
+/// Takes the member that a command needs.
 pub fn member<T: Drop>(alloc: Global, member: Member, value: Option<T>) -> Result<T, Early>
     ensures ok { IfOk result (λ found. member_stage member value ≡ Ok found) }
     ensures ends { IfErr result (λ early. IfEnded early (λ made. member_stage member value ≡ Err made)) }
@@ -39,7 +39,7 @@ pub fn member<T: Drop>(alloc: Global, member: Member, value: Option<T>) -> Resul
     }
 }
 
-/// The placement that the document names.
+/// Opens the placement that the document names.
 pub fn placement(alloc: Global, document: &Document) -> Result<Placement, Early>
     ensures ok { IfOk result (λ placement. placement_stage (rows_of document.now) ≡ Ok (place_of placement)) }
     ensures setup { IfOk result (λ placement. placement.setup ≡ (rows_of document.now).setup) }
@@ -53,7 +53,7 @@ pub fn placement(alloc: Global, document: &Document) -> Result<Placement, Early>
     }
 }
 
-/// The report of a plan that did not pass the check, behind a front; none where memory was short for the check.
+/// Returns the report of a plan that did not pass the check, behind a front; none if memory was short for the check.
 fn fault_report(alloc: Global, front: &str, fault: &Fault) -> Result<Made, AllocError>
     ensures { IfOk result (λ made. (fault.now ≢ Fault.NoMemory) × (made ≡ refused (front.now ++ fault_line fault.now))) }
 {
@@ -66,7 +66,7 @@ fn fault_report(alloc: Global, front: &str, fault: &Fault) -> Result<Made, Alloc
     }
 }
 
-/// Ends the report where a document has one plan and a list of plans.
+/// Ends the report if a document has one plan and a list of plans.
 pub fn require_one_source_of_plans(alloc: Global, document: &Document) -> Result<(), Early>
     ensures ok { OnOk result (alone_stage (rows_of document.now).plan (rows_of document.now).plans ≡ Ok tt) }
     ensures ends { IfErr result (λ early. IfEnded early (λ made. alone_stage (rows_of document.now).plan (rows_of document.now).plans ≡ Err made)) }
@@ -80,7 +80,7 @@ pub fn require_one_source_of_plans(alloc: Global, document: &Document) -> Result
     Ok(())
 }
 
-/// Ends the report where the log has fewer places than servers are down.
+/// Ends the report if the log has fewer places than servers are down.
 pub fn require_log_room(
     alloc: Global,
     document: &Document,
@@ -97,7 +97,7 @@ pub fn require_log_room(
     Ok(())
 }
 
-/// A machine with all its rights over a settled placement, whose log has room for the restarts under way.
+/// Makes a machine with all its rights over a settled placement, whose log has room for the restarts under way.
 pub fn director(alloc: Global, placement: Placement, log: u32) -> Result<Director, AllocError>
     requires settled { IsSettled (sizes_of placement.setup) (place_of placement) }
     requires room { down_count (sizes_of placement.setup) (place_of placement) ≤ log }
@@ -112,7 +112,7 @@ pub fn director(alloc: Global, placement: Placement, log: u32) -> Result<Directo
     }
 }
 
-/// The plan, once it has passed the check; else the report ends, behind a front.
+/// Checks the plan, and returns it if it passes; otherwise the report ends, behind a front.
 pub fn checked(
     alloc: Global,
     front: &str,

@@ -26,7 +26,7 @@ pub enum Unrun {
 }
 
 impl Unrun {
-    /// What is written then.
+    /// Returns the report that is written then.
     pub fn text(self) -> &'static str
         ensures { result.now ≡ unrun_text self }
     {

@@ -13,7 +13,7 @@ use sm_reservation::Key;
 use sm_verifier::{Fault, Holding};
 use std::alloc::AllocError;
 
-/// How many calls stand in a code.
+/// Counts the calls of a code.
 fn calls_in(code: &[Instr]) -> usize
     ensures count { result ≡ count_by is_call code.now }
     ensures most { result ≤ length code.now }
@@ -21,7 +21,7 @@ fn calls_in(code: &[Instr]) -> usize
     code.iter().filter(|instr| is_call(instr)).count()
 }
 
-/// How many calls stand in the codes of streams.
+/// Counts the calls of streams.
 fn calls_of(streams: &[Stream]) -> usize
     requires small { All IsSmallStream streams.now }
     requires few { length streams.now ≤ MOST_STREAMS }
@@ -34,7 +34,7 @@ fn calls_of(streams: &[Stream]) -> usize
     count
 }
 
-/// How many calls stand in the codes of a plan's streams.
+/// Counts the calls of a plan's streams.
 pub fn call_count(plan: &Plan) -> usize
     ensures { result ≡ call_count plan.now }
 {
@@ -50,7 +50,7 @@ pub fn push_accepted(out: &mut String, plan: &Plan) -> Result<(), AllocError>
     writeln!(out, "accepted: calls {calls} streams {streams}")
 }
 
-/// The name of a reason.
+/// Returns the name of a reason.
 fn why_name(why: Why) -> &'static str
     ensures { result.now ≡ why_name why }
 {

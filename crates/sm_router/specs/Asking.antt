@@ -1,6 +1,6 @@
--- An ask: the hops that it makes at a desk, and what it is answered. Of a desk three things are known: what a caller may see of a
--- shard, what a request may be answered, and what one that was passed on may be answered, each with the caller before and after.
--- `asked_after` is a step of the code's own way, which private functions' contracts cite: whoever reads the public ones need not read it.
+-- An ask: the hops that it makes at a desk, and what it is answered. Three things are known of a desk: what a caller
+-- may see of a shard, what a request may be answered, and what one that was passed on may be answered, each with the
+-- caller before and after. `asked_after` is internal: you need not read it for the public contracts.
 use Rattle.std.specs.Prelude.{◌≡◌, ◌≤◌, ◌<◌, ◌⊎◌, ℕ, Option, Some, None, List, [], ◌∷◌, length}
 use Rattle.sm_placement.specs.declared.entry.Entry.{Entry}
 use Rattle.sm_protocol.specs.Ticket.{Ticket}
@@ -21,7 +21,7 @@ after_answer answer.Unavailable = End asked.Unavailable
 after_answer (answer.LogFull back) = End asked.LogFull
 after_answer (answer.Unknown back) = Look
 
--- what it is answered where it makes no further hop
+-- what it is answered if it makes no further hop
 abbrev pub asked_after : Next → Asked
 asked_after Look = asked.TooManyHops
 asked_after (PassOn ticket) = asked.TooManyHops
@@ -63,7 +63,7 @@ LeadsTo looked arrived passed_on shard next old [] said new = IsEnd looked shard
 LeadsTo looked arrived passed_on shard next old (hop ∷ hops) said new =
     IsHop looked arrived passed_on shard next old hop × LeadsTo looked arrived passed_on shard (after_answer hop.said) hop.caller hops said new
 
--- An ask for a shard: it begins with a look and makes at most MOST_HOPS hops. TooManyHops comes after so many alone, and NotListed,
+-- An ask for a shard: it begins with a look and makes at most MOST_HOPS hops. TooManyHops comes only after that many, and NotListed,
 -- which a look finds, after fewer.
 pub record HasAsked {C : Type 0} (looked : C → ℕ → Entry → C → Type 0) (arrived : C → ℕ → ℕ → Answer → C → Type 0) (passed_on : C → Ticket → Answer → C → Type 0) (shard : ℕ) (old : C) (said : Asked) (new : C) : Type 0 where
   pub hops : List (Hop C)

@@ -8,7 +8,7 @@ use sm_machine::{Answer, Ticket};
 use sm_server::{ServerId, ShardId};
 use std::sync::Wait;
 
-/// What an ask is answered.
+/// The answer to an ask.
 #[derive(Clone, Copy, Debug, PartialEq, Eq)]
 pub enum Asked {
     /// The server executed it.
@@ -23,7 +23,7 @@ pub enum Asked {
     LogFull,
 }
 
-/// What an ask does next.
+/// The next act of an ask.
 enum Next {
     /// It looks at the map, and sends the request to the server that is listed.
     Look,
@@ -33,7 +33,7 @@ enum Next {
     End(Asked),
 }
 
-/// What an ask does after an answer. A ticket that comes back is spent.
+/// Returns what an ask does after an answer. A ticket that comes back is spent.
 fn after_answer(answer: Answer) -> Next
     ensures { result ≡ after_answer answer }
 {
@@ -55,7 +55,7 @@ fn after_answer(answer: Answer) -> Next
     }
 }
 
-/// What an ask is answered after all hops. A ticket that is left over is spent.
+/// Returns the answer to an ask after all hops. A ticket that is left over is spent.
 fn asked_after(next: Next) -> Asked
     ensures { result ≡ asked_after next }
 {
@@ -69,8 +69,8 @@ fn asked_after(next: Next) -> Asked
     }
 }
 
-/// Asks for a shard: looks at the map, sends the request to the server that is listed, follows it where it is passed on, and
-/// looks again where the server does not own the shard or does not know the pass. Each ticket is spent.
+/// Asks for a shard: looks at the map, sends the request to the server that is listed, and follows it if it is passed
+/// on. Looks again if the server does not own the shard or does not know the pass. Each ticket is spent.
 pub fn ask<R: Wait, D: Desk>(rt: &R, desk: &D, caller: &mut D::Caller, shard: ShardId) -> Asked
     requires { shard < D.shards desk.now }
     ensures { HasAsked (D.looked desk.now) (D.arrived desk.now) (D.passed_on desk.now) shard caller.old result caller.new }

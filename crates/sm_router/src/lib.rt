@@ -1,4 +1,5 @@
-//! How a client asks for a shard: it finds the server by the published map, and follows the request where servers pass it on.
+//! A client's way to ask for a shard: it finds the server by the published map, and follows the request if servers pass
+//! it on.
 #![tactic(auto)]
 
 mod asking;

@@ -13,7 +13,7 @@ use std::io::ErrorKind;
 use std::process::ExitCode;
 use std::{env, io};
 
-/// The words after the program's name.
+/// Returns the words after the program's name.
 fn words_of(rt: &HostRuntime) -> io::Result<Vec<String>> {
     let mut words = Vec::new(rt.alloc());
     for word in env::args(rt)?.skip(1) {
@@ -22,7 +22,7 @@ fn words_of(rt: &HostRuntime) -> io::Result<Vec<String>> {
     Ok(words)
 }
 
-/// The texts of words.
+/// Returns the texts of words.
 fn texts_of<'a>(alloc: Global, words: &'a [String]) -> Result<Vec<&'a str>, AllocError>
     ensures { IfOk result (λ texts. map (λ text. text.now) texts.items ≡ map string_bytes words.now) }
 {
@@ -33,7 +33,8 @@ fn texts_of<'a>(alloc: Global, words: &'a [String]) -> Result<Vec<&'a str>, Allo
     Ok(texts)
 }
 
-/// What the words ask for; where they ask for nothing, what is told of them, and how it ends.
+/// Returns what the words ask for. If they ask for nothing, it writes the text for them, and returns how the program
+/// ends.
 fn word_named(rt: &HostRuntime, words: &[&str]) -> Result<Word, Status> {
     match command_of(rt.alloc(), words) {
         Ok(word) => Ok(word),
@@ -49,7 +50,8 @@ fn word_named(rt: &HostRuntime, words: &[&str]) -> Result<Word, Status> {
     }
 }
 
-/// What the command line asks for; where it asks for nothing, what is told of it, and how it ends.
+/// Returns what the command line asks for. If it asks for nothing, this writes the text for it, and returns how the
+/// program ends.
 fn word_of(rt: &HostRuntime) -> Result<Word, Status> {
     let words = match words_of(rt) {
         Ok(words) => words,
@@ -67,7 +69,8 @@ fn word_of(rt: &HostRuntime) -> Result<Word, Status> {
     }
 }
 
-/// What is told on standard error of a report that was not made or not written whole. Of all others the report itself says how they ended.
+/// Returns the line for standard error if a report was not made or not written whole. Any other report says itself how
+/// the command ended.
 fn told_of(status: Status) -> Option<&'static str> {
     match status {
         Status::NoMemory => Some("error: out of memory"),

@@ -14,7 +14,7 @@ use std::test::Fail;
 use std::thread;
 use std::thread::{Threads, join};
 
-/// How many entries the storing thread stores, and how often each of the others looks.
+/// The number of entries that the storing thread stores, and of looks that each of the others makes.
 const ROUNDS: u64 = 1_000;
 
 fn entry(server: u32, version: u64) -> Entry
@@ -26,7 +26,7 @@ fn entry(server: u32, version: u64) -> Entry
     }
 }
 
-/// A map of one shard, which server 0 of two leads at version 0.
+/// Returns a map of one shard, which server 0 of two leads at version 0.
 fn open_one(alloc: Global) -> Result<(Words, Publisher), AllocError>
     ensures servers { IfOk result (λ opened. opened.0.servers ≡ 2) }
     ensures shards { IfOk result (λ opened. length opened.0.opening ≡ 1) }
@@ -54,8 +54,8 @@ fn words_stand_for_entries(rt: HostRuntime) {
     }
 }
 
-/// A map whose memory is refused is not opened. `scripts/check-memory-tests` refuses each allocation of this test in turn, and wants
-/// `reached` to be printed where none is refused.
+/// Opens a map whose memory may be refused: then it is not opened. `scripts/check-memory-tests` refuses each allocation
+/// of this test in turn, and wants `reached` to be printed if none is refused.
 #[test]
 fn a_map_is_opened_or_not(rt: HostRuntime) {
     if let Ok((words, mut publisher)) = open_one(rt.alloc()) {
@@ -94,8 +94,8 @@ fn a_map_without_shards_opens(rt: HostRuntime) -> Result<(), Fail> {
     Ok(())
 }
 
-/// Where threads wait for one another, so that they run at the same time. None waits for long, since the
-/// test is right in any order.
+/// A place where threads wait for one another, so that they run at the same time. None waits for long, since the test
+/// is right in any order.
 #[derive(Drop)]
 struct Start {
     threads: u64,
@@ -144,7 +144,7 @@ fn look_all(start: &Start, words: &Words, mut pass: Pass) -> (Pass, bool)
     (pass, fell)
 }
 
-/// Two threads look.
+/// Looks in two threads.
 fn look_both<R: Threads + Sync>(
     rt: &R,
     start: &Start,
@@ -169,7 +169,7 @@ fn look_both<R: Threads + Sync>(
     )
 }
 
-/// One thread stores while two look.
+/// Stores in one thread while two look.
 fn race<R: Threads + Sync>(
     rt: &R,
     words: &Words,

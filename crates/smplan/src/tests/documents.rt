@@ -1,6 +1,7 @@
-//! A document for each command, with what is reported of it: data, and no tests. What others are answered stands in tests/documents, and is run
-//! over the built program. These stand here as literals, since the tests give them to readers and writers of their own, which fail at each read or
-//! write in turn: a program of Rattle has no `include_str!`, and a test no files beside it.
+//! A document for each command, with its report: data, and no tests. Other documents and their reports stand in
+//! tests/documents, and are run over the built program. These stand here as literals, since the tests give them to
+//! readers and writers of their own, which fail at each read or write in turn: a program of Rattle has no
+//! `include_str!`, and a test no files beside it.
 
 /// A document and its report.
 #[derive(Clone, Copy)]
@@ -67,13 +68,13 @@ const HANDOVERS: &str =
 {"name":"t","load":6,"want":1,"cap":0,"spread":1,"listed":"b","cells":[{"server":"b","state":"primary"}]},
 {"name":"x","load":8,"want":1,"cap":0,"spread":1,"listed":"d","cells":[{"server":"d","state":"primary"}]}]}"#;
 
-/// These handovers, and what is told of them where they are checked.
+/// These handovers, and the report of their check.
 pub const TWO_STREAMS: Row = Row {
     document: HANDOVERS,
     text: "accepted: calls 8 streams 2\n",
 };
 
-/// The same handovers, and what is told of them where they are run.
+/// The same handovers, and the report of their run.
 pub const RUN_STREAMS: Row = Row {
     document: HANDOVERS,
     text: r#"accepted: calls 8 streams 2

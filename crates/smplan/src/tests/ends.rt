@@ -8,7 +8,7 @@ use std::process::Abort;
 use std::sync::Wait;
 use std::thread::Threads;
 
-/// A reader of so many bytes at a time, each of whose reads is interrupted before it is made.
+/// A reader of a number of bytes at a time, each of whose reads is interrupted before it is made.
 #[derive(Drop)]
 struct InterruptedReader<'a> {
     left: &'a [u8],
@@ -45,7 +45,7 @@ impl Read for FailingReader<'_> {
     }
 }
 
-/// How a write goes wrong.
+/// The way in which a write goes wrong.
 #[derive(Clone, Copy)]
 pub enum Fault {
     Fails,
@@ -92,7 +92,7 @@ fn failing_writer(alloc: Global, most: usize, fails_at: usize, fault: Fault) -> 
     }
 }
 
-/// A reader that is interrupted before each read gives the whole report.
+/// Checks that a reader that is interrupted before each read gives the whole report.
 pub fn reads_again(rt: &(impl AllocGlobal + Abort + Threads + Wait + Sync), word: Word, row: &Row) {
     let mut reader = InterruptedReader {
         left: row.document.as_bytes(),
@@ -110,7 +110,7 @@ fn reads_again_where_it_is_interrupted(rt: HostRuntime) {
     reads_again(&rt, Word::Report(Command::Check), &TWO_STREAMS);
 }
 
-/// Each read fails in turn, and nothing is written.
+/// Checks that nothing is written if a read fails, for each in turn.
 pub fn writes_nothing(
     rt: &(impl AllocGlobal + Abort + Threads + Wait + Sync),
     word: Word,
@@ -136,7 +136,7 @@ fn writes_nothing_after_a_failed_read(rt: HostRuntime) {
     writes_nothing(&rt, Word::Report(Command::Check), &TWO_STREAMS);
 }
 
-/// A writer of one byte at a time gets the whole report.
+/// Checks that a writer of one byte at a time gets the whole report.
 pub fn writes_all(rt: &(impl AllocGlobal + Abort + Threads + Wait + Sync), word: Word, row: &Row) {
     let mut reader = row.document.as_bytes();
     let mut writer = failing_writer(rt.alloc(), 1, 0, Fault::Fails);
@@ -151,7 +151,7 @@ fn writes_byte_by_byte(rt: HostRuntime) {
     writes_all(&rt, Word::Report(Command::Check), &TWO_STREAMS);
 }
 
-/// Each write of a report goes wrong in turn, and a front of it is written.
+/// Checks that a front of a report is written if a write goes wrong, for each in turn.
 pub fn writes_fronts(
     rt: &(impl AllocGlobal + Abort + Threads + Wait + Sync),
     word: Word,

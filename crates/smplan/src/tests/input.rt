@@ -1,9 +1,9 @@
-//! How much is read.
+//! The number of bytes that are read.
 use sm_report::{InputFault, take_input};
 use std::io::{self, ErrorKind, Read};
 use std::test::Fail;
 
-/// A reader that is interrupted so many times, and then gives its bytes. It counts its reads.
+/// A reader that is interrupted a number of times, and then gives its bytes. It counts its reads.
 #[derive(Drop)]
 struct Interrupted {
     times: u32,
