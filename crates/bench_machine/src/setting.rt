@@ -16,7 +16,7 @@ pub(crate) struct Setting {
     pub length: u32,
 }
 
-/// Many long streams: as many as a plan may have, of as many instructions as a stream may.
+/// A setting of many long streams: the greatest number of a plan, each with the greatest number of instructions.
 pub(crate) const MANY: Setting = Setting {
     servers: MOST_SERVERS as u32,
     shards: MOST_SHARDS as u32,
@@ -40,7 +40,7 @@ pub(crate) const CHECKED: Setting = Setting {
     length: 8,
 };
 
-/// As large as a driver is, with plans of as many streams as a plan may have.
+/// A setting of the size of a driver, with plans of the greatest number of streams.
 pub(crate) const DRIVEN: Setting = Setting {
     servers: 1_024,
     shards: 4_096,
@@ -63,7 +63,7 @@ pub(crate) enum Codes {
     Signals,
 }
 
-/// The servers and shards: each shard has one replica of load 1.
+/// Returns the servers and shards: each shard has one replica of load 1.
 pub(crate) fn config_of(alloc: Global, setting: &Setting) -> Result<Config, AllocError> {
     let mut servers = Vec::new(alloc);
     for number in 0..setting.servers {
@@ -86,12 +86,12 @@ pub(crate) fn config_of(alloc: Global, setting: &Setting) -> Result<Config, Allo
     Config::new(alloc, &servers, &shards).map_err(|_| AllocError)
 }
 
-/// The server of a shard's primary.
+/// Returns the server of a shard's primary.
 pub(crate) fn home_of(setting: &Setting, shard: u32) -> ServerId {
     ServerId::new(shard % setting.servers.max(1))
 }
 
-/// The placement of a configuration, by its setting.
+/// Returns the placement of a configuration, by its setting.
 pub(crate) fn placement_of(
     alloc: Global,
     config: &Config,
@@ -107,7 +107,7 @@ pub(crate) fn placement_of(
     Placement::open(alloc, config, &cells, &listed, &[], 1).map_err(|_| AllocError)
 }
 
-/// The right to an absent cell, and the room that a replica takes there.
+/// Returns the right to an absent cell, and the room that a replica takes there.
 fn holds_of(alloc: Global, shard: ShardId, server: ServerId) -> Result<Parcel, AllocError> {
     let cell = CellRight {
         shard,
@@ -123,7 +123,7 @@ fn holds_of(alloc: Global, shard: ShardId, server: ServerId) -> Result<Parcel, A
     Parcel::new(alloc, lists).map_err(|_| AllocError)
 }
 
-/// The shard and the server that a stream of this number has to itself, among all streams of all plans.
+/// Returns the shard and the server that a stream of this number has to itself, among all streams of all plans.
 fn cell_of(number: u32) -> (ShardId, ServerId) {
     let shard = (number % TOUCHED) ^ ((number / 1_000) % TOUCHED);
     (
@@ -137,7 +137,8 @@ const fn signals_between(length: u32) -> u32 {
     length.div_ceil(EVERY)
 }
 
-/// The signal that stands before this call of a stream, if one does: from each even stream to the odd one behind it.
+/// Returns the signal that stands before this call of a stream, if one does: from each even stream to the odd one
+/// behind it.
 fn signal_before(stream: u32, at: u32, length: u32) -> Option<Instr> {
     if at % EVERY != 0 {
         return None;
@@ -185,7 +186,7 @@ fn stream_of(
     })
 }
 
-/// The parcels of a plan's signals, which carry nothing.
+/// Returns the parcels of a plan's signals, which carry nothing.
 fn signals_of(alloc: Global, codes: Codes, setting: &Setting) -> Result<Vec<Parcel>, AllocError> {
     let mut signals = Vec::new(alloc);
     let count = match codes {
@@ -204,7 +205,8 @@ fn signals_of(alloc: Global, codes: Codes, setting: &Setting) -> Result<Vec<Parc
     Ok(signals)
 }
 
-/// The plan of a setting, which passes its check. Its streams have numbers from the first one on among all streams.
+/// Returns the plan of a setting, which passes its check. Its streams have numbers from the first one on among all
+/// streams.
 pub(crate) fn plan_of(
     alloc: Global,
     config: &Config,

@@ -1,8 +1,8 @@
-//! What a look at the map costs, beside a plain atomic load in the same loop.
+//! Measures a look at the map, beside a plain atomic load in the same loop.
 //!
-//! It prints the time that a loop of looks takes and that of a loop of loads, and ends with status 1 where the
-//! looks take more than twice as long, or find something else. With the argument `check` it prints no times, only
-//! whether both loops find the same.
+//! It prints the time that a loop of looks takes and that of a loop of loads, and ends with status 1 if the looks take
+//! more than twice as long, or find something else. With the argument `check` it prints no times, only whether both
+//! loops find the same.
 #![tactic(auto)]
 
 ghost use Rattle.std.specs.Prelude.{◌≡◌, ◌^◌, ◌<◌, All, IfOk, length, vec_len};
@@ -23,20 +23,20 @@ const SERVERS: u32 = 1_024;
 /// Few enough that the words stay in the nearest cache.
 const SHARDS: u32 = 256;
 
-/// How many steps a run of a loop makes.
+/// The number of steps of a loop's run.
 const STEPS: u32 = 4_000_000;
 
-/// How many runs each loop has. The fastest counts: whatever else the machine does only slows a run.
+/// The number of runs of each loop. The fastest counts: whatever else the machine does only slows a run.
 const RUNS: u32 = 200;
 
-/// What a run of a loop found, added up, and how long it took.
+/// The findings of a loop's run, added up, and the time that it took.
 #[derive(Clone, Copy)]
 struct Measured {
     sum: u64,
     time: Duration,
 }
 
-/// A map's entries, each with a server and a version of its own.
+/// Makes a map's entries, each with a server and a version of its own.
 fn entries(alloc: Global) -> Result<Vec<Entry>, AllocError>
     ensures shards { IfOk result (λ v. vec_len v ≡ SHARDS) }
     ensures in_range { IfOk result (λ v. All (IsInRange 1024) v.items) }
@@ -51,7 +51,7 @@ fn entries(alloc: Global) -> Result<Vec<Entry>, AllocError>
     Ok(entries)
 }
 
-/// The number of the server that an entry lists, 0 for none.
+/// Returns the number of the server that an entry lists, 0 for none.
 fn server_number(entry: Entry) -> u64 {
     match entry.server {
         Some(server) => u64::from(server.number()),
@@ -85,7 +85,7 @@ fn plain_words(alloc: Global, entries: &[Entry]) -> Result<PlainWords, AllocErro
     Ok(PlainWords { words })
 }
 
-/// The shard that a step asks for: each shard in turn, but scattered.
+/// Returns the shard that a step asks for: each shard in turn, but scattered.
 fn shard_of(step: u32) -> ShardId
     ensures { result < SHARDS }
 {
@@ -121,7 +121,7 @@ fn loads(rt: &impl Clock, words: &PlainWords, steps: u32) -> io::Result<Measured
     Ok(Measured { sum, time })
 }
 
-/// What the loops found, and their fastest times.
+/// The findings of the loops, and their fastest times.
 struct Compared {
     look: Measured,
     load: Measured,
@@ -158,7 +158,7 @@ fn measure(rt: &impl Clock, alloc: Global, steps: u32, runs: u32) -> io::Result<
     compare(rt, &words, &mut pass, &plain, steps, runs)
 }
 
-/// How long one step of a run takes.
+/// Returns the time of one step of a run.
 fn picoseconds(run: Duration) -> u128
     ensures { result < 2 ^ 127 }
 {

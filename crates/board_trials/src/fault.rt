@@ -40,6 +40,6 @@ impl From<AllocError> for Fault {
 pub(crate) struct Failed {
     /// The run's number.
     pub run: u32,
-    /// What is wrong with it.
+    /// The fault itself.
     pub fault: Fault,
 }

@@ -1,9 +1,9 @@
-//! What a look at a board's map costs beside a running plan, and a plain atomic load in the same place.
+//! The cost of a look at a board's map beside a running plan, and of a plain atomic load in the same place.
 //!
-//! Threads look and load in turn, a batch of each, while a plan of 64 streams runs; a batch counts only where the plan has changed
-//! the map since the batch before. It prints the time of a look and of a load, each of the fastest batch, with 1, 2 and 4 such
-//! threads, and a look may take twice as long. A check prints no times, only whether the plan of a small run comes to its end beside
-//! the looks.
+//! Threads look and load in turn, a batch of each, while a plan of 64 streams runs; a batch counts only if the plan has
+//! changed the map since the batch before. It prints the time of a look and of a load, each of the fastest batch, with
+//! 1, 2 and 4 such threads. A look may take twice as long. A check prints no times, only whether the plan of a small
+//! run comes to its end beside the looks.
 mod batches;
 mod looker;
 mod measured;
@@ -18,11 +18,11 @@ use std::rt::Clock;
 use std::sync::Wait;
 use std::thread::Threads;
 
-/// How many plans are run for each number of threads. The fastest batch of all counts: whatever else the machine does only slows
-/// a batch.
+/// The number of plans that are run for each number of threads. The fastest batch of all counts: whatever else the
+/// machine does only slows a batch.
 const PLANS: u32 = 3;
 
-/// The fastest batches beside some plans of a shape.
+/// Returns the fastest batches beside some plans of a shape.
 fn fastest<R: Threads + Wait + Sync + Clock + AllocGlobal>(
     rt: &R,
     shape: &Shape,
@@ -35,7 +35,7 @@ fn fastest<R: Threads + Wait + Sync + Clock + AllocGlobal>(
     Ok(all)
 }
 
-/// Tells what was measured with so many threads. True where a look took at most twice as long as a load.
+/// Prints what was measured with this many threads. Returns whether a look took at most twice as long as a load.
 fn tell<R: Print>(rt: &R, threads: usize, measured: &Measured) -> io::Result<bool> {
     let (look, load) = (measured.look_picoseconds(), measured.load_picoseconds());
     println!(rt;
@@ -49,7 +49,7 @@ fn tell<R: Print>(rt: &R, threads: usize, measured: &Measured) -> io::Result<boo
     Ok(good)
 }
 
-/// Measures beside large plans, with more and more threads. True where all looks were fast enough.
+/// Measures beside large plans, with more and more threads. Returns whether all looks were fast enough.
 pub(crate) fn measure_all<R: Threads + Wait + Sync + Clock + AllocGlobal + Print>(
     rt: &R,
 ) -> io::Result<bool> {
@@ -66,7 +66,7 @@ pub(crate) fn measure_all<R: Threads + Wait + Sync + Clock + AllocGlobal + Print
     Ok(good)
 }
 
-/// Runs a small plan beside looks, and tells whether it comes to its end. True where it does.
+/// Runs a small plan beside looks, and prints whether it comes to its end. Returns that too.
 pub(crate) fn check_looks<R: Threads + Wait + Sync + Clock + AllocGlobal + Print>(
     rt: &R,
 ) -> io::Result<bool> {

@@ -1,8 +1,9 @@
 //! Trials of a board on which plans run: storms, and what a look at its map costs meanwhile.
 //!
-//! `board_trials storm [RUNS]` makes so many runs of a storm, and 1,000 where no number is named. `board_trials looks` compares looks
-//! with plain atomic loads, and `board_trials looks check` only runs a small plan to its end beside looks. Other words are answered
-//! by how the program is called. It ends with status 1 where a trial is not as it has to be, or none was asked for.
+//! `board_trials storm [RUNS]` makes `RUNS` runs of a storm, and 1,000 if no number is named. `board_trials looks`
+//! compares looks with plain atomic loads, and `board_trials looks check` only runs a small plan to its end beside
+//! looks. To other words the program answers how it is called. It ends with status 1 if a trial is not as it has to be,
+//! or none was asked for.
 #![tactic(auto)]
 
 mod fault;
@@ -15,13 +16,13 @@ use std::rt::Env;
 use std::{env, io};
 use storm::make_and_tell;
 
-/// How many runs of a storm there are where the command line names no number.
+/// The number of runs of a storm if the command line names none.
 const RUNS: u32 = 1_000;
 
-/// What the command line asks for.
+/// The trial that the command line asks for.
 #[derive(Clone, Copy)]
 enum Trial {
-    /// So many runs of a storm.
+    /// This many runs of a storm.
     Storm { runs: u32 },
     /// The times of looks and loads.
     Looks,
@@ -29,7 +30,7 @@ enum Trial {
     CheckedLooks,
 }
 
-/// The trial that a command asks for with the word behind it, if they ask for one.
+/// Returns the trial that a command asks for with the word behind it, if they ask for one.
 fn trial_of(command: &str, word: Option<&str>) -> Option<Trial> {
     match (command, word) {
         ("storm", None) => Some(Trial::Storm { runs: RUNS }),
@@ -43,7 +44,7 @@ fn trial_of(command: &str, word: Option<&str>) -> Option<Trial> {
     }
 }
 
-/// The trial that the command line asks for, if it asks for one.
+/// Returns the trial that the command line asks for, if it asks for one.
 fn trial_asked(rt: &(impl Alloc + Env)) -> io::Result<Option<Trial>> {
     let mut args = env::args(rt)?;
     let _program = args.next();

@@ -1,7 +1,8 @@
-//! A storm: 64 streams of 64 instructions with signals between them, beside 16 threads that ask and one that restarts servers.
+//! A storm: 64 streams of 64 instructions with signals between them, beside 16 threads that ask and one that restarts
+//! servers.
 //!
-//! Each run has a board of its own, and gates that yield at random. All streams of it have to make their ends, the board has to be
-//! closed, and the placement has to be the plan's end.
+//! Each run has a board of its own, and gates that yield at random. All streams of it have to finish, the board has to
+//! be closed, and the placement has to be the plan's end.
 mod gusts;
 mod hand;
 mod run;
@@ -15,7 +16,7 @@ use std::sync::Wait;
 use std::thread::Threads;
 use world::World;
 
-/// Makes so many runs. Answers the first that failed, and why.
+/// Makes this many runs. Returns the first that failed, and why.
 fn make_runs<R: Threads + Wait + Clock + Sync + AllocGlobal>(
     rt: &R,
     world: &World,
@@ -29,7 +30,7 @@ fn make_runs<R: Threads + Wait + Clock + Sync + AllocGlobal>(
     Ok(())
 }
 
-/// Makes so many runs of one plan. Answers the first that failed, and why.
+/// Makes this many runs of one plan. Returns the first that failed, and why.
 fn make_all<R: Threads + Wait + Clock + Sync + AllocGlobal>(
     rt: &R,
     runs: u32,
@@ -40,7 +41,7 @@ fn make_all<R: Threads + Wait + Clock + Sync + AllocGlobal>(
     }
 }
 
-/// Tells whether so many runs were made. True where they were.
+/// Prints whether this many runs were made. Returns that too.
 fn tell<R: Print>(rt: &R, runs: u32, made: Result<(), Failed>) -> io::Result<bool> {
     match made {
         Ok(()) => {
@@ -54,7 +55,7 @@ fn tell<R: Print>(rt: &R, runs: u32, made: Result<(), Failed>) -> io::Result<boo
     }
 }
 
-/// Makes so many runs, and tells whether they were made. True where they were.
+/// Makes this many runs, and prints whether they were made. Returns that too.
 pub(crate) fn make_and_tell<R: Threads + Wait + Clock + Sync + AllocGlobal + Print>(
     rt: &R,
     runs: u32,

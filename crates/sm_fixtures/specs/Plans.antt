@@ -1,4 +1,4 @@
--- What plans of worked handovers are made of.
+-- The parts of plans of worked handovers.
 use Rattle.std.specs.Prelude.{ℕ, ◌+◌, ◌*◌, List, [], ◌∷◌, ◌++◌, Some, min}
 use Rattle.sm_server.specs.declared.call.Role.TheVariants.{Primary}
 use Rattle.sm_placement.specs.declared.lead.Lead.TheVariants.{At}
@@ -29,7 +29,7 @@ worked_hold moved = in_order (record {
   spare = [];
 })
 
--- so much of a server's room, and nothing else
+-- this amount of a server's room, and nothing else
 abbrev pub room_alone : ℕ → ℕ → Rights
 room_alone server amount = in_order (record { cells = []; crowns = []; room = record { server = server; amount = amount } ∷ []; spare = [] })
 

@@ -1,5 +1,5 @@
 -- The worked placements: their servers and shards, and the cells and the listed servers that they are opened with.
--- `setup_by_names` is a step of the code's own way, which private functions' contracts cite: whoever reads the public ones need not read it.
+-- `setup_by_names` is internal: you need not read it for the public contracts.
 use Rattle.std.specs.Prelude.{ℕ, List, [], ◌∷◌, Option, Some, codes, map}
 use Rattle.std.specs.Borrow.{Bor}
 use Rattle.sm_server.specs.declared.call.Cell.TheVariants.{Primary, Secondary}
@@ -24,7 +24,7 @@ setup_by_names servers shards = record {
 }
 
 -- the configuration: servers a, b and c with room for 10, 10 and 4, and shards s and t with loads 4 and 6; and with them, in the
--- wide one, server d with room for 8 and shard x with load 8. Of s there are to be two replicas, one of which may be away.
+-- wide one, server d with room for 8 and shard x with load 8. Shard s is to have two replicas, one of which may be away.
 abbrev pub worked_setup : World → Setup
 worked_setup Base = record {
   servers = worked_server (codes "a") 10 ∷ worked_server (codes "b") 10 ∷ worked_server (codes "c") 4 ∷ [];

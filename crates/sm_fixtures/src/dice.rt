@@ -8,12 +8,12 @@ pub struct Dice {
 }
 
 impl Dice {
-    /// The dice before their first roll.
+    /// Makes the dice before their first roll.
     pub fn new() -> Dice {
         Dice { state: 20_261_123 }
     }
 
-    /// A number below so many.
+    /// Rolls a number below `sides`.
     pub fn roll(&mut self, sides: u32) -> u32
         requires { 0 < sides }
         ensures { result < sides }

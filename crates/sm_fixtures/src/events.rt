@@ -10,14 +10,14 @@ use sm_server::{ServerId, ShardId};
 /// An event with the answer that it has to have.
 pub type Turn = (Event, Played);
 
-/// The first stream of a plan.
+/// Returns the first stream of a plan.
 pub const fn stream(plan: u32) -> StreamId
     ensures { result ≡ record { plan = plan; stream = 0 } }
 {
     StreamId { plan, stream: 0 }
 }
 
-/// The first stream of a plan makes its next step.
+/// Returns the next step of the first stream of a plan.
 pub const fn step(plan: u32) -> Event
     ensures { result ≡ event.Step (record { plan = plan; stream = 0 }) }
 {
@@ -26,7 +26,7 @@ pub const fn step(plan: u32) -> Event
     }
 }
 
-/// It loses the call of its next step: before its effect, or its answer after it.
+/// Returns the loss of the call of its next step: before its effect, or of its answer after it.
 pub const fn lose(plan: u32, after: bool) -> Event
     ensures { result ≡ event.Lose (record { plan = plan; stream = 0 }) after }
 {
@@ -36,7 +36,7 @@ pub const fn lose(plan: u32, after: bool) -> Event
     }
 }
 
-/// Its allowance is raised.
+/// Returns a refill of its allowance.
 pub const fn refill(plan: u32, more: u32) -> Event
     ensures { result ≡ event.Refill (record { plan = plan; stream = 0 }) more }
 {
@@ -46,7 +46,7 @@ pub const fn refill(plan: u32, more: u32) -> Event
     }
 }
 
-/// A request for a shard comes to a server.
+/// Returns a request for a shard at a server.
 pub const fn arrive(shard: u32, server: u32) -> Event
     ensures { result ≡ event.Arrive shard server }
 {
@@ -56,14 +56,14 @@ pub const fn arrive(shard: u32, server: u32) -> Event
     }
 }
 
-/// The request whose pass stands at a place of the log comes to the server that it was passed to.
+/// Returns the arrival, where it was passed to, of the request whose pass stands at a place of the log.
 pub const fn pass_on(place: u32) -> Event
     ensures { result ≡ event.PassOn place }
 {
     Event::PassOn { place }
 }
 
-/// The cluster manager asks for the restart of a server.
+/// Returns the cluster manager's question for the restart of a server.
 pub const fn approve(server: u32) -> Event
     ensures { result ≡ event.Approve server }
 {
@@ -72,7 +72,7 @@ pub const fn approve(server: u32) -> Event
     }
 }
 
-/// The restart of a server ends.
+/// Returns the end of a server's restart.
 pub const fn done(server: u32) -> Event
     ensures { result ≡ event.Done server }
 {
@@ -81,14 +81,14 @@ pub const fn done(server: u32) -> Event
     }
 }
 
-/// The plan at a place of the hand starts.
+/// Returns the start of the plan at a place of the hand.
 pub const fn begin(plan: u32) -> Event
     ensures { result ≡ event.Begin plan }
 {
     Event::Begin { plan }
 }
 
-/// A server executes the request.
+/// Returns the answer that a server executes the request.
 pub const fn executed(server: u32) -> Played
     ensures { result ≡ played.Executed server }
 {
@@ -97,7 +97,8 @@ pub const fn executed(server: u32) -> Played
     }
 }
 
-/// The request is passed on to a server, under the number of its handover, and the pass stands at a place of the log.
+/// Returns the answer that the request is passed on to a server, under the number of its handover, with the pass at a
+/// place of the log.
 pub const fn passed(to: u32, number: u64, place: u32) -> Played
     ensures { result ≡ played.Passed to number place }
 {
@@ -108,7 +109,7 @@ pub const fn passed(to: u32, number: u64, place: u32) -> Played
     }
 }
 
-/// The plan starts, with its number.
+/// Returns the answer that the plan starts, with its number.
 pub const fn begun(number: u32) -> Played
     ensures { result ≡ played.Begun number }
 {

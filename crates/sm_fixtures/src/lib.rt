@@ -1,5 +1,5 @@
-//! What tests of machines and of boards begin with: worked placements, plans of handovers, events by plain numbers with their answers,
-//! links that lose calls, and dice. Nothing here is part of the product.
+//! The beginnings of tests of machines and of boards: worked placements, plans of handovers, events by plain numbers
+//! with their answers, links that lose calls, and dice. Nothing here is part of the product.
 #![tactic(auto)]
 
 mod answers;

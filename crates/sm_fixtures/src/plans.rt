@@ -13,7 +13,7 @@ use sm_server::{Role, ServerId, ShardId};
 use sm_verifier::{Checked, check};
 use std::alloc::{AllocError, Global};
 
-/// A shard goes from one server to another, of whose room its stream has so much at first, with so many retries.
+/// A move of a shard from one server to another, with the room there that its stream has at first, and its retries.
 #[derive(Clone, Copy)]
 pub struct WorkedMove {
     pub shard: u32,
@@ -68,7 +68,7 @@ const X_TO_B: WorkedMove = WorkedMove {
     retries: 0,
 };
 
-/// A parcel of these, and nothing spare.
+/// Makes a parcel of these, and nothing spare.
 fn parcel_of(
     alloc: Global,
     cells: Vec<CellRight>,
@@ -86,7 +86,7 @@ fn parcel_of(
     Parcel::new(alloc, lists).map_err(|_| AllocError)
 }
 
-/// What holds so much of a server's room, and nothing else.
+/// Makes a parcel of this much of a server's room, and nothing else.
 fn room_of(alloc: Global, server: u32, amount: u64) -> Result<Parcel, AllocError>
     ensures { IfOk result (λ parcel. parcel ≡ room_alone server amount) }
 {
@@ -98,7 +98,7 @@ fn room_of(alloc: Global, server: u32, amount: u64) -> Result<Parcel, AllocError
     parcel_of(alloc, Vec::new(alloc), Vec::new(alloc), room)
 }
 
-/// What a handover holds at its start.
+/// Returns what a handover holds at its start.
 fn held(alloc: Global, moved: WorkedMove) -> Result<Parcel, AllocError>
     ensures { IfOk result (λ parcel. parcel ≡ worked_hold moved) }
 {
@@ -124,7 +124,7 @@ fn held(alloc: Global, moved: WorkedMove) -> Result<Parcel, AllocError>
     parcel_of(alloc, cells, crowns, room)
 }
 
-/// The instructions of a handover.
+/// Returns the instructions of a handover.
 pub const fn handover(moved: WorkedMove) -> [Instr; 5]
     ensures { result ≡ worked_handover moved }
 {
@@ -151,7 +151,7 @@ pub const fn handover(moved: WorkedMove) -> [Instr; 5]
     ]
 }
 
-/// A stream that holds at its start what a handover holds.
+/// Returns a stream that holds at its start what a handover holds.
 pub fn stream_of(
     alloc: Global,
     moved: WorkedMove,
@@ -168,7 +168,7 @@ pub fn stream_of(
     })
 }
 
-/// The plan of these streams and signals, with its check for a world, which it has to pass.
+/// Makes the plan of these streams and signals, with its check for a world, which it has to pass.
 pub fn checked_of(
     alloc: Global,
     world: World,
@@ -194,14 +194,14 @@ pub fn checked_of(
     check(alloc, &config, plan).map_err(|_| AllocError)
 }
 
-/// The plan was checked for the configuration.
+/// Tells whether the plan was checked for the configuration.
 pub fn is_for(config: &Config, checked: &Checked) -> bool
     ensures { IsTrue result ↔ checked.now.setup ≡ config.now }
 {
     checked.config() == config
 }
 
-/// The plan of one stream, which holds at its start what a handover holds.
+/// Returns the plan of one stream, which holds at its start what a handover holds.
 pub fn one_stream_plan(
     alloc: Global,
     world: World,
@@ -218,7 +218,7 @@ pub fn one_stream_plan(
     checked_of(alloc, world, budget, streams, Vec::new(alloc))
 }
 
-/// The plan of a handover by one stream.
+/// Makes the plan of a handover by one stream.
 pub fn handover_plan(alloc: Global, world: World, moved: WorkedMove) -> Result<Checked, AllocError>
     ensures plan { IfOk result (λ checked. checked.plan ≡ record { budget = 4 + min moved.retries 100; streams = worked_stream moved 4 (worked_handover moved) ∷ []; signals = [] }) }
     ensures setup { IfOk result (λ checked. checked.setup ≡ worked_setup world) }
@@ -227,7 +227,7 @@ pub fn handover_plan(alloc: Global, world: World, moved: WorkedMove) -> Result<C
     one_stream_plan(alloc, world, moved, 4, code)
 }
 
-/// The plan is that of one handover.
+/// Tells whether the plan is that of one handover.
 pub fn is_handover(checked: &Checked) -> bool
     ensures { IsTrue result ↔ (length checked.now.plan.streams ≡ 1) × (length checked.now.order ≡ 6) }
 {
@@ -235,8 +235,8 @@ pub fn is_handover(checked: &Checked) -> bool
     streams.len() == 1 && checked.order().len() == 6
 }
 
-/// The plan by which shard t goes to a in one stream, which then posts the room that t had at b, and x goes to b in another one, which
-/// waits for it and fills the room; with so many retries for each.
+/// Makes the plan by which shard t goes to a in one stream, which then posts the room that t had at b. The shard x goes
+/// to b in another stream, which waits for that room and fills it. Each stream has this many retries.
 pub fn signalled_plan(alloc: Global, retries: u32) -> Result<Checked, AllocError>
     ensures plan { IfOk result (λ checked. checked.plan ≡ worked_signalled retries) }
     ensures setup { IfOk result (λ checked. checked.setup ≡ worked_setup Wide) }
@@ -258,7 +258,7 @@ pub fn signalled_plan(alloc: Global, retries: u32) -> Result<Checked, AllocError
     checked_of(alloc, World::Wide, budget, streams, signals)
 }
 
-/// The plan is that of two streams with a signal between them, without retries.
+/// Tells whether the plan is that of two streams with a signal between them, without retries.
 pub fn is_signalled(checked: &Checked) -> bool
     ensures { IsTrue result ↔ (checked.now.plan.budget ≡ 8) × (length checked.now.plan.streams ≡ 2) × (length checked.now.plan.signals ≡ 1) × All (λ stream. length stream.code ≡ 6) checked.now.plan.streams × (length checked.now.order ≡ 14) }
 {
@@ -270,7 +270,7 @@ pub fn is_signalled(checked: &Checked) -> bool
         && checked.order().len() == 14
 }
 
-/// The plan of so many streams without code.
+/// Makes the plan of `count` streams without code.
 pub fn idle_plan(alloc: Global, world: World, count: u32) -> Result<Checked, AllocError>
     ensures plan { IfOk result (λ checked. checked.plan ≡ record { budget = 0; streams = replicate count idle_stream; signals = [] }) }
     ensures setup { IfOk result (λ checked. checked.setup ≡ worked_setup world) }

@@ -12,7 +12,7 @@ use sm_placement::{Config, Placement, Server, Shard};
 use sm_server::{Cell, ServerId, ShardId};
 use std::alloc::{AllocError, Global};
 
-/// Which servers and shards there are.
+/// A world, with its servers and shards.
 #[derive(Clone, Copy)]
 pub enum World {
     /// Servers a, b and c, shards s and t.
@@ -27,7 +27,7 @@ static SERVERS: [(&str, u64); 4] = [("a", 10), ("b", 10), ("c", 4), ("d", 8)];
 /// The names of the shards, with load, wanted replicas and cap.
 static SHARDS: [(&str, u64, u32, u32); 3] = [("s", 4, 2, 1), ("t", 6, 1, 0), ("x", 8, 1, 0)];
 
-/// The cells that are not absent.
+/// Returns the cells that are not absent.
 const fn cells() -> [(ShardId, ServerId, Cell); 4]
     ensures { result ≡ worked_cells Wide }
 {
@@ -39,7 +39,7 @@ const fn cells() -> [(ShardId, ServerId, Cell); 4]
     ]
 }
 
-/// The listed servers.
+/// Returns the listed servers.
 const fn listed() -> [Option<ServerId>; 3]
     ensures { result ≡ worked_listed Wide }
 {
@@ -50,7 +50,7 @@ const fn listed() -> [Option<ServerId>; 3]
     ]
 }
 
-/// The servers of these names and with this room, all in one region.
+/// Returns the servers of these names and with this room, all in one region.
 fn server_rows(alloc: Global, servers: &[(&str, u64)]) -> Result<Vec<Server>, AllocError>
     ensures { IfOk result (λ list. map server_row list.items ≡ map (λ r. worked_server r.0.now r.1) servers.now) }
 {
@@ -65,7 +65,7 @@ fn server_rows(alloc: Global, servers: &[(&str, u64)]) -> Result<Vec<Server>, Al
     Ok(list)
 }
 
-/// The shards of these names, with load, wanted replicas and cap.
+/// Returns the shards of these names, with load, wanted replicas and cap.
 fn shard_rows(alloc: Global, shards: &[(&str, u64, u32, u32)]) -> Result<Vec<Shard>, AllocError>
     ensures { IfOk result (λ list. map shard_row list.items ≡ map (λ r. worked_shard r.0.now r.1 r.2 r.3) shards.now) }
 {
@@ -82,7 +82,7 @@ fn shard_rows(alloc: Global, shards: &[(&str, u64, u32, u32)]) -> Result<Vec<Sha
     Ok(list)
 }
 
-/// The configuration of these servers and shards.
+/// Returns the configuration of these servers and shards.
 fn config_of(
     alloc: Global,
     servers: &[(&str, u64)],
@@ -95,7 +95,7 @@ fn config_of(
     Config::new(alloc, &servers, &shards).map_err(|_| AllocError)
 }
 
-/// The placement with these cells, listed servers and servers down, of which there may be one.
+/// Returns the placement with these cells, listed servers and servers down, of which there may be one.
 fn opened(
     alloc: Global,
     config: &Config,
@@ -110,7 +110,7 @@ fn opened(
 }
 
 impl World {
-    /// The configuration.
+    /// Returns the configuration.
     pub fn config(self, alloc: Global) -> Result<Config, AllocError>
         ensures { IfOk result (λ config. config ≡ worked_setup self) }
     {
@@ -120,7 +120,7 @@ impl World {
         }
     }
 
-    /// The placement at which these servers are down, of which there may be one.
+    /// Returns the placement at which these servers are down, of which there may be one.
     pub fn placement(self, alloc: Global, down: &[ServerId]) -> Result<Placement, AllocError>
         ensures place { IfOk result (λ p. place_of p ≡ opened_place (worked_opening self down.now)) }
         ensures setup { IfOk result (λ p. p.setup ≡ worked_setup self) }

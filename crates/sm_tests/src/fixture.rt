@@ -38,13 +38,13 @@ fn shards(alloc: Global, loads: &[u64]) -> Result<Vec<Shard>, AllocError> {
     Ok(shards)
 }
 
-/// The configuration of these servers, and of a shard for each load.
+/// Returns the configuration of these servers, and of a shard for each load.
 fn config_by(alloc: Global, servers: &[Server], loads: &[u64]) -> Result<Config, AllocError> {
     let shards = shards(alloc, loads)?;
     Config::new(alloc, servers, &shards).ok().ok_or(AllocError)
 }
 
-/// So many servers with room for 10, and a shard for each load, which wants two replicas and may lose one.
+/// Makes `count` servers with room for 10, and a shard for each load, which wants two replicas and may lose one.
 pub(crate) fn config_of(alloc: Global, count: u32, loads: &[u64]) -> Result<Config, AllocError> {
     config_by(alloc, &servers(alloc, count)?, loads)
 }
@@ -56,7 +56,7 @@ pub(crate) const NO_RIGHTS: Portion = Portion {
     spare: None,
 };
 
-/// The parcel of these rights, in which no key stands twice.
+/// Returns the parcel of these rights, in which no key stands twice.
 pub(crate) fn parcel(
     alloc: Global,
     cells: &[CellRight],
@@ -73,7 +73,7 @@ pub(crate) fn parcel(
     Parcel::new(alloc, lists).ok().ok_or(AllocError)
 }
 
-/// The parcel of a portion's rights.
+/// Returns the parcel of a portion's rights.
 pub(crate) fn parcel_of(alloc: Global, portion: &Portion) -> Result<Parcel, AllocError> {
     parcel(
         alloc,
@@ -84,12 +84,12 @@ pub(crate) fn parcel_of(alloc: Global, portion: &Portion) -> Result<Parcel, Allo
     )
 }
 
-/// The parcel of no rights.
+/// Returns the parcel of no rights.
 pub(crate) fn nothing(alloc: Global) -> Result<Parcel, AllocError> {
     parcel(alloc, &[], &[], &[], &[])
 }
 
-/// A stream of these numbers, rights and instructions.
+/// Returns a stream of these numbers, rights and instructions.
 pub(crate) fn stream_of(
     alloc: Global,
     budget: u32,
@@ -105,7 +105,7 @@ pub(crate) fn stream_of(
     })
 }
 
-/// A plan of these streams and signals.
+/// Returns a plan of these streams and signals.
 pub(crate) fn plan_of(
     budget: u32,
     streams: Vec<Stream>,

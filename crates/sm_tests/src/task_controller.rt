@@ -1,2 +1,2 @@
-//! Whether a server may be taken down.
+//! Decisions whether a server may be taken down.
 mod decisions;

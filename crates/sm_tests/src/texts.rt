@@ -1,4 +1,4 @@
-//! What errors tell: which server, shard, stream or right they are of.
+//! Texts of errors: which server, shard, stream or right they are of.
 use sm_reservation::{Key, ParcelFault, Short, StreamId, TakeFault};
 use sm_server::{ServerId, ShardId};
 use sm_task_controller::Denied;
@@ -7,7 +7,7 @@ use std::alloc::{AllocError, Global};
 use std::fmt::Display;
 use std::test::Fail;
 
-/// A value prints as this text.
+/// Asserts that a value prints as this text.
 fn prints<T: Display>(alloc: Global, value: &T, text: &str) -> Result<bool, AllocError> {
     Ok(value.to_string(alloc)?.as_str() == text)
 }

@@ -14,7 +14,7 @@ use std::process::Abort;
 use std::sync::Wait;
 use std::sync::ledger::Ledger;
 
-/// What a desk answers a request.
+/// An answer of the desk to a request.
 #[derive(Clone, Copy)]
 enum Said {
     Executed,
@@ -26,7 +26,7 @@ enum Said {
     Unknown,
 }
 
-/// The one server of the desk.
+/// Returns the one server of the desk.
 const fn the_server() -> ServerId
     ensures { result ≡ 0 }
 {
@@ -39,7 +39,7 @@ struct ToldDesk {
     lists: bool,
 }
 
-/// How many looks, direct requests and passed ones an ask makes.
+/// The numbers of looks, direct requests and passed ones that an ask makes.
 #[derive(Clone, Copy, PartialEq, Eq)]
 struct Counts {
     looks: u32,
@@ -47,7 +47,7 @@ struct Counts {
     passes: u32,
 }
 
-/// What was asked of a desk, with its first three answers, of which the last one stays, and the ticket that it has.
+/// The questions to a desk, with its first three answers, of which the last one stays, and the ticket that it has.
 struct Asking {
     answers: [Said; 3],
     ticket: Option<Ticket>,
@@ -55,7 +55,7 @@ struct Asking {
 }
 
 impl Asking {
-    /// What the next request is answered.
+    /// Returns the answer to the next request.
     fn next(&mut self) -> Said {
         let [first, second, last] = self.answers;
         match self.counts.arrivals.saturating_add(self.counts.passes) {
@@ -65,7 +65,7 @@ impl Asking {
         }
     }
 
-    /// An answer, into which the ticket goes where it has one. A request whose ticket is lost is not owned.
+    /// Returns an answer, into which the ticket goes if it has one. A request whose ticket is lost is not owned.
     fn answer(&mut self, said: Said) -> Answer {
         match said {
             Said::Executed => Answer::Executed {
@@ -134,7 +134,8 @@ impl Desk for ToldDesk {
     }
 }
 
-/// What a desk lists and says, what an ask is answered, what it makes, and whether the desk has the ticket afterwards.
+/// The lists and answers of a desk, the answer to an ask, what the ask makes, and whether the desk has the ticket
+/// afterwards.
 #[derive(Drop)]
 struct Case {
     lists: bool,
@@ -144,7 +145,7 @@ struct Case {
     keeps: bool,
 }
 
-/// The case of a desk that lists its server, and never gives its ticket out: an ask looks before each request.
+/// Returns the case of a desk that lists its server, and never gives its ticket out: an ask looks before each request.
 const fn without_ticket(answers: [Said; 3], asked: Asked, requests: u32) -> Case {
     Case {
         lists: true,
@@ -159,7 +160,7 @@ const fn without_ticket(answers: [Said; 3], asked: Asked, requests: u32) -> Case
     }
 }
 
-/// The case of a desk that lists its server and gives its ticket out, which an ask spends.
+/// Returns the case of a desk that lists its server and gives its ticket out, which an ask spends.
 const fn with_ticket(answers: [Said; 3], asked: Asked, looks: u32, passes: u32) -> Case {
     Case {
         lists: true,
@@ -174,14 +175,14 @@ const fn with_ticket(answers: [Said; 3], asked: Asked, looks: u32, passes: u32) 
     }
 }
 
-/// The request is executed at the desk's server.
+/// Returns a case: the request is executed at the desk's server.
 const fn at_server() -> Asked {
     Asked::Executed {
         server: the_server(),
     }
 }
 
-/// A desk that always answers NotOwner gets eight requests, each after a look.
+/// Returns a case: a desk that always answers NotOwner gets eight requests, each after a look.
 const fn cases_without_ticket() -> [Case; 4] {
     let not_listed = Case {
         lists: false,
@@ -224,7 +225,7 @@ const fn cases_with_ticket() -> [Case; 6] {
     ]
 }
 
-/// The ticket of a new request for s that is passed on from a.
+/// Returns the ticket of a new request for s that is passed on from a.
 fn ticket<A: Ledger, B: Ledger, C: Ledger, N: Naming, R: Wait + Abort>(
     rt: &R,
     board: &Board<A, B, C, N>,
@@ -263,8 +264,8 @@ fn assert_asked<R: Wait + Abort>(rt: &R, case: &Case, ticket: Ticket) {
     assert!(rt; asked == case.asked && counts == case.counts && keeps == case.keeps);
 }
 
-/// Two steps of the handover of s are made on a board, so that requests for it are passed on; with their tickets asks are made at a desk
-/// that is told what to answer.
+/// Makes two steps of the handover of s on a board, so that requests for it are passed on. With their tickets it makes
+/// asks at a desk that is told what to answer.
 pub(crate) fn asks<A: Ledger, B: Ledger, C: Ledger, N: Naming, R: Wait + Abort>(
     rt: &R,
     board: &Board<A, B, C, N>,

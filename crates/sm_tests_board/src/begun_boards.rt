@@ -1,5 +1,5 @@
-//! A board that is opened over a machine on which plans have begun already, and one with a runner for a stream that its machine has not
-//! begun.
+//! A board that is opened over a machine on which plans have begun already, and one with a runner for a stream that its
+//! machine has not begun.
 use super::boards::{Deed, End, act_over, close, end, machine, tokens_of};
 use super::courses::run_through;
 use super::given::{put, put_all};
@@ -14,7 +14,7 @@ use std::sync::Wait;
 use std::sync::ledger::Ledger;
 use std::thread::Threads;
 
-/// A machine on which the plans of these moves, by one stream each, have begun, with their tokens.
+/// Returns a machine on which the plans of these moves, by one stream each, have begun, with their tokens.
 fn begun_machine(
     rt: &impl Abort,
     alloc: Global,
@@ -39,12 +39,12 @@ fn begun_machine(
     (machine, tokens)
 }
 
-/// There is a runner for the one stream of each plan, in their order.
+/// Tells whether there is a runner for the one stream of each plan, in their order.
 fn are_of_two_plans<A: Ledger>(runners: &[Runner<A>]) -> bool {
     runners.len() == 2 && runners[0].id() == stream(0) && runners[1].id() == stream(1)
 }
 
-/// The first two streams have made six steps each, in their order.
+/// Tells whether the first two streams have made six steps each, in their order.
 fn have_six_steps<A: Ledger>(ended: &[Ended<A>]) -> bool {
     for plan in 0..2u32 {
         if plan as usize >= ended.len() {
@@ -119,7 +119,7 @@ pub(crate) fn halt_by_unknown<
     end(machine, tokens, Vec::new(alloc), Vec::new(alloc))
 }
 
-/// Shard s goes to b and t to a by plans that have begun before the board is opened.
+/// Moves shard s to b and t to a by plans that have begun before the board is opened.
 #[test]
 fn a_board_is_opened_over_plans_that_have_begun(rt: HostRuntime) {
     let alloc = rt.alloc();
@@ -129,7 +129,7 @@ fn a_board_is_opened_over_plans_that_have_begun(rt: HostRuntime) {
     assert_loads(&rt, &placement, [6, 4, 4, 8]);
 }
 
-/// The second token is of another machine, on which a second plan has begun.
+/// Takes a second token of another machine, on which a second plan has begun.
 #[test]
 fn a_stream_of_another_machine_halts_the_board(rt: HostRuntime) {
     let alloc = rt.alloc();

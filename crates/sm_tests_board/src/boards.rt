@@ -26,7 +26,7 @@ use std::thread::Threads;
 /// The placement that is left, and how many events the log has.
 pub(crate) type End = (Placement, usize);
 
-/// What is done with a board.
+/// A deed with a board.
 pub(crate) enum Deed<'a> {
     /// A scene is played in which these plans may begin, on one thread.
     Play {
@@ -43,7 +43,7 @@ pub(crate) enum Deed<'a> {
         first: Checked,
         second: Checked,
     },
-    /// A plan begins, where there is memory for it.
+    /// Begins a plan if there is memory for it.
     BeginOrNot(Attempt),
     /// The streams of two plans that had begun are run to their ends.
     RunBoth,
@@ -51,7 +51,7 @@ pub(crate) enum Deed<'a> {
     RunUnknown,
 }
 
-/// A machine over the worked placement, with so many places of the log, or none.
+/// Opens a machine over the worked placement, with a log of `log_room` places, or none.
 pub(crate) fn machine_or_not(rt: &impl Abort, alloc: Global, log_room: u32) -> Option<Machine> {
     let Ok(placement) = World::Wide.placement(alloc, &[]) else {
         return None;
@@ -67,7 +67,7 @@ pub(crate) fn machine_or_not(rt: &impl Abort, alloc: Global, log_room: u32) -> O
     }
 }
 
-/// A machine over the worked placement, for which there has to be memory.
+/// Returns a machine over the worked placement, for which there has to be memory.
 pub(crate) fn machine(rt: &impl Abort, alloc: Global, log_room: u32) -> Machine {
     machine_or_not(rt, alloc, log_room).expect(rt, "there is no memory for a machine")
 }
@@ -90,8 +90,9 @@ fn act<
     }
 }
 
-/// Opens a board over a machine and acts on it, with runners for the streams of these tokens: of two at most, of plans that have begun on the
-/// machine. Where there is no memory for a board without tokens, the machine and the deed come back.
+/// Opens a board over a machine and acts on it, with runners for the streams of these tokens: of two at most, of plans
+/// that have begun on the machine. If there is no memory for a board without tokens, the machine and the deed come
+/// back.
 fn on_ground<
     'a,
     A: Ledger + Send + Sync,
@@ -131,8 +132,8 @@ fn on_ground<
     }
 }
 
-/// Acts on a new board over a machine, with runners for the streams of these tokens. Where there is no memory for a board without tokens,
-/// the machine and the deed come back.
+/// Acts on a new board over a machine, with runners for the streams of these tokens. If there is no memory for a board
+/// without tokens, the machine and the deed come back.
 pub(crate) fn act_or_not<'a, R: Threads + Wait + Sync + Print + Abort>(
     rt: &R,
     alloc: Global,
@@ -166,7 +167,7 @@ pub(crate) fn act_over<R: Threads + Wait + Sync + Print + Abort>(
     }
 }
 
-/// Acts on a new board over the worked placement, with so many places of the log.
+/// Acts on a new board over the worked placement, with a log of `log_room` places.
 pub(crate) fn act_on_new<R: Threads + Wait + Sync + Print + Abort>(
     rt: &R,
     alloc: Global,
@@ -177,7 +178,7 @@ pub(crate) fn act_on_new<R: Threads + Wait + Sync + Print + Abort>(
     act_over(rt, alloc, machine, Vec::new(alloc), deed)
 }
 
-/// A plan that has to begin begins on a board, and the runners of its streams come behind the others.
+/// Begins a plan that has to begin on a board. The runners of its streams come behind the others.
 pub(crate) fn begin<A: Ledger, B: Ledger, C: Ledger, N: Naming, R: Wait + Abort>(
     rt: &R,
     alloc: Global,
@@ -192,7 +193,7 @@ pub(crate) fn begin<A: Ledger, B: Ledger, C: Ledger, N: Naming, R: Wait + Abort>
     }
 }
 
-/// The tokens of runners, which give their shares up, come behind others.
+/// Puts the tokens of runners, which give their shares up, behind others.
 pub(crate) fn tokens_of<A: Ledger>(
     rt: &impl Abort,
     mut tokens: Vec<StreamToken>,
@@ -219,7 +220,7 @@ pub(crate) fn end(
     (machine.give_up(tokens, permits, tickets), count)
 }
 
-/// Closes a board, whose streams have to have made their ends, with all that it has given out.
+/// Closes a board, whose streams have to have finished, with all that it has given out.
 pub(crate) fn close<A: Ledger, B: Ledger, C: Ledger, N: Naming>(
     rt: &impl Abort,
     alloc: Global,

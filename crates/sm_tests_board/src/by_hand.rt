@@ -13,7 +13,8 @@ use sm_verifier::Checked;
 use std::alloc::{AllocError, Global};
 use std::process::Abort;
 
-/// There is one place for a plan, and the plan there, if it is left, was checked for the machine's configuration.
+/// Tells whether there is one place for a plan, and the plan there, if it is left, was checked for the machine's
+/// configuration.
 fn has_one_for(machine: &Machine, plans: &[Option<ReadyPlan>]) -> bool
     ensures { IsTrue result → AreFor machine.now.placement.setup plans.now }
 {
@@ -26,7 +27,7 @@ fn has_one_for(machine: &Machine, plans: &[Option<ReadyPlan>]) -> bool
     }
 }
 
-/// A hand with a plan alone, for which there has to be memory.
+/// Returns a hand with a plan alone, for which there has to be memory.
 fn hand_of(rt: &impl Abort, alloc: Global, plan: Result<Checked, AllocError>) -> Hand {
     let checked = plan.expect(rt, "there is no memory for a plan");
     let Ok(ready) = make_ready(alloc, checked) else {
@@ -77,8 +78,8 @@ fn end(rt: &impl Abort, machine: Machine, hand: Hand) -> Placement {
     machine.give_up(tokens, permits, tickets)
 }
 
-/// Plays events on a new machine over the worked placement, with this plan in the hand and so many places of the log, and asserts their
-/// answers and the log that they leave.
+/// Plays events on a new machine over the worked placement, with this plan in the hand and a log of `log_room` places.
+/// Asserts their answers and the log that they leave.
 pub(crate) fn assert_played(
     rt: &impl Abort,
     alloc: Global,

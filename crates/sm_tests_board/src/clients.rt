@@ -17,7 +17,7 @@ use std::sync::Wait;
 use std::sync::ledger::Ledger;
 use std::thread::Threads;
 
-/// A client that asks for s, and one that asks for t.
+/// Returns a client that asks for s, and one that asks for t.
 fn clients<A: Ledger, B: Ledger, C: Ledger, N: Naming, R: Wait + Abort>(
     rt: &R,
     alloc: Global,
@@ -32,7 +32,7 @@ fn clients<A: Ledger, B: Ledger, C: Ledger, N: Naming, R: Wait + Abort>(
     clients
 }
 
-/// The request of a client was executed at the server of this number.
+/// Tells whether the request of a client was executed at the server of this number.
 fn is_at<B: Ledger, C: Ledger, N: Naming>(client: &Client<B, C, N>, number: u32) -> bool {
     let at_server = Asked::Executed {
         server: ServerId::new(number),
@@ -43,12 +43,13 @@ fn is_at<B: Ledger, C: Ledger, N: Naming>(client: &Client<B, C, N>, number: u32)
     }
 }
 
-/// There are two clients. The request of the first one was executed at a or b, and that of the second one at b.
+/// Tells whether there are two clients. The request of the first one was executed at a or b, and that of the second one
+/// at b.
 fn were_executed<B: Ledger, C: Ledger, N: Naming>(clients: &[Client<B, C, N>]) -> bool {
     clients.len() == 2 && (is_at(&clients[0], 0) || is_at(&clients[0], 1)) && is_at(&clients[1], 1)
 }
 
-/// The callers of clients.
+/// Returns the callers of clients.
 fn callers_of<B: Ledger, C: Ledger, N: Naming>(
     rt: &impl Abort,
     alloc: Global,
@@ -65,9 +66,9 @@ fn callers_of<B: Ledger, C: Ledger, N: Naming>(
     callers
 }
 
-/// Runs streams beside a client that asks for s, and one that asks for t. Answers the ends and the callers. That a thread cannot be
-/// started is printed, so that whoever refuses one sees it: then both clients have asked, neither of the two streams has stepped and
-/// both runners are back. They are run alone.
+/// Runs streams beside a client that asks for s, and one that asks for t. Returns the ends and the callers. If a thread
+/// cannot be started, that is printed for the script that refuses one. Then both clients have asked, neither of the two
+/// streams has stepped and both runners are back. They are run alone.
 pub(crate) fn run_beside_clients<
     A: Ledger + Send + Sync,
     B: Ledger + Send + Sync,
@@ -123,7 +124,7 @@ pub(crate) fn run_behind_clients<
     ran
 }
 
-/// The handover's six steps, and of the asks two to three hops.
+/// Runs a handover of six steps beside asks of two to three hops.
 #[test]
 fn a_handover_is_run_beside_clients(rt: HostRuntime) {
     let alloc = rt.alloc();
@@ -133,8 +134,9 @@ fn a_handover_is_run_beside_clients(rt: HostRuntime) {
     assert_moved(&rt, &placement);
 }
 
-/// No stream steps before both clients have been answered, so their threads stand beside those of the streams. Each makes one hop, and
-/// each stream six steps. `scripts/check-threads` refuses each of the four threads in turn.
+/// Checks that no stream steps before both clients have been answered, so their threads stand beside those of the
+/// streams. Each makes one hop, and each stream six steps. `scripts/check-threads` refuses each of the four threads in
+/// turn.
 #[test]
 fn clients_ask_before_the_first_steps(rt: HostRuntime) {
     let alloc = rt.alloc();

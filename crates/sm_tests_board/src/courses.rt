@@ -13,7 +13,7 @@ use std::sync::ledger::Ledger;
 use std::sync::{Mutex, Wait};
 use std::thread::Threads;
 
-/// How a plan is run.
+/// The way in which a plan is run.
 #[derive(Clone, Copy)]
 pub(crate) enum Course<'a> {
     /// To its end, through a gate at which the streams meet.
@@ -22,7 +22,7 @@ pub(crate) enum Course<'a> {
     HaltedBehind(u64),
     /// Its one stream has spent its allowance, is given one more try, and goes on.
     Spent,
-    /// Each stream loses every second try, its first one or its second one first, and makes so many.
+    /// Each stream loses every second try, its first one or its second one first, and makes this many.
     Loses { first: bool, tries: u64 },
     /// Beside two clients, of which each asks for a shard of its own.
     BesideClients,
@@ -30,7 +30,7 @@ pub(crate) enum Course<'a> {
     BehindClients(&'a HostRuntime),
 }
 
-/// The ends of a run that has to come to the ends of all streams.
+/// Runs streams, which have to finish, and returns their ends.
 pub(crate) fn run_through<
     A: Ledger + Send + Sync,
     B: Ledger + Send + Sync,
@@ -51,15 +51,15 @@ pub(crate) fn run_through<
     }
 }
 
-/// Asserts that a gate was called so often before steps, and as often after them.
+/// Asserts that a gate was called this often before steps, and this often after them.
 fn assert_calls(rt: &impl Abort, called: (u64, u64), calls: u64) {
     let (before, after) = called;
     assert!(rt; before == calls && after == calls);
 }
 
-/// Runs until the board is halted behind a step, and then the rest. Where all streams had ended, nothing was left to halt; behind the
-/// first step something is. The gate was called once round each recorded step, and once round the last step of each stream that was
-/// halted.
+/// Runs until the board is halted behind a step, and then the rest. If all streams had ended, nothing was left to halt;
+/// behind the first step something is. The gate was called once round each recorded step, and once round the last step
+/// of each stream that was halted.
 fn run_halted<
     A: Ledger + Send + Sync,
     B: Ledger + Send + Sync,
@@ -108,8 +108,8 @@ fn run_halted<
     }
 }
 
-/// The one stream loses its first call, and has then one try too few: the run ends by this, and goes on with one more. Its gate is
-/// called round four recorded steps, and round the one that is Spent.
+/// Runs the one stream, which loses its first call, and has then one try too few. The run ends by this, and goes on
+/// with one more. Its gate is called round four recorded steps, and round the one that is Spent.
 fn run_spent<
     A: Ledger + Send + Sync,
     B: Ledger + Send + Sync,
@@ -151,8 +151,8 @@ fn run_spent<
     }
 }
 
-/// Runs over a link for each stream that loses every second try. Each stream makes four calls, and tries so often. The gate is called
-/// once round each recorded step, also of those that are lost.
+/// Runs over a link for each stream that loses every second try. Each stream makes four calls, in `tries` tries. The
+/// gate is called once round each recorded step, also of those that are lost.
 fn run_losing<
     A: Ledger + Send + Sync,
     B: Ledger + Send + Sync,

@@ -21,7 +21,7 @@ static AFTER_A_ROUND: [(StreamId, usize); 2] = [
     (StreamId { plan: 1, stream: 0 }, 1),
 ];
 
-/// Asserts that a board is not closed, why, and which streams have not made their ends; it comes back.
+/// Asserts that a board is not closed, why, and which streams have not finished; it comes back.
 fn assert_not_closed<A: Ledger, B: Ledger, C: Ledger, N: Naming>(
     rt: &impl Abort,
     closed: Result<Machine, NotClosed<A, B, C, N>>,
@@ -39,13 +39,13 @@ fn assert_not_closed<A: Ledger, B: Ledger, C: Ledger, N: Naming>(
     }
 }
 
-/// The end of the stream of a plan of this number says what it has made.
+/// Tells whether the end of the stream of a plan of this number says what it has made.
 fn is_end<A: Ledger>(end: &Ended<A>, plan: usize) -> bool {
     let StreamId { plan: of, stream } = end.stream();
     of as usize == plan && stream == 0 && end.steps() == 6 && end.calls() == 4 && end.budget() == 4
 }
 
-/// All callers that a board gives out, of which there have to be 4,096.
+/// Returns all callers that a board gives out, of which there have to be 4,096.
 fn all_callers<A: Ledger, B: Ledger, C: Ledger, N: Naming, R: Wait + Abort>(
     rt: &R,
     alloc: Global,
@@ -61,7 +61,7 @@ fn all_callers<A: Ledger, B: Ledger, C: Ledger, N: Naming, R: Wait + Abort>(
     callers
 }
 
-/// The ends of the runners of as many plans, whose streams have to have made them.
+/// Returns the ends of the runners of this many plans, whose streams have to have finished.
 fn ends<A: Ledger, B: Ledger, C: Ledger, N: Naming, R: Wait + Abort>(
     rt: &R,
     alloc: Global,
@@ -84,7 +84,7 @@ fn ends<A: Ledger, B: Ledger, C: Ledger, N: Naming, R: Wait + Abort>(
     ended
 }
 
-/// Each stream makes a step, and stops while the board is halted.
+/// Makes a step of each stream, which stops while the board is halted.
 fn step_each<A: Ledger, B: Ledger, C: Ledger, N: Naming, R: Wait + Abort>(
     rt: &R,
     board: &Board<A, B, C, N>,
@@ -99,7 +99,8 @@ fn step_each<A: Ledger, B: Ledger, C: Ledger, N: Naming, R: Wait + Abort>(
     }
 }
 
-/// The streams of two plans make their ends, the second time without a step; all have made one step before.
+/// Makes steps of the streams of two plans until they finish, the second time without a step. All have made one step
+/// before.
 fn step_to_ends<A: Ledger, B: Ledger, C: Ledger, N: Naming, R: Wait + Abort>(
     rt: &R,
     board: &Board<A, B, C, N>,
@@ -114,8 +115,8 @@ fn step_to_ends<A: Ledger, B: Ledger, C: Ledger, N: Naming, R: Wait + Abort>(
     }
 }
 
-/// Asserts that a board whose streams have made their ends is not closed without one of its callers, nor without one of the ends. All come
-/// back.
+/// Asserts that a board whose streams have finished is not closed without one of its callers, nor without one of the
+/// ends. All come back.
 fn assert_differs<A: Ledger, B: Ledger, C: Ledger, N: Naming>(
     rt: &impl Abort,
     board: Board<A, B, C, N>,
@@ -134,8 +135,8 @@ fn assert_differs<A: Ledger, B: Ledger, C: Ledger, N: Naming>(
     (board, ended, callers)
 }
 
-/// A day: two plans run side by side to their ends, and the board is closed. It is not closed before their streams have made their
-/// ends, which it names, nor without one of its callers or ends.
+/// Runs two plans side by side to their ends, and closes the board. It is not closed before their streams have
+/// finished, which it names, nor without one of its callers or ends.
 pub(crate) fn day<A: Ledger, B: Ledger, C: Ledger, N: Naming, R: Wait + Abort>(
     rt: &R,
     alloc: Global,
@@ -158,7 +159,7 @@ pub(crate) fn day<A: Ledger, B: Ledger, C: Ledger, N: Naming, R: Wait + Abort>(
     close(rt, alloc, board, ended, callers)
 }
 
-/// Shard s goes from a to b, and t from b to a: a has load 6 then, b and c have 4, and d has 8 as before.
+/// Moves shard s from a to b, and t from b to a: a has load 6 then, b and c have 4, and d has 8 as before.
 #[test]
 fn two_plans_run_on_a_board_that_is_closed(rt: HostRuntime) {
     let alloc = rt.alloc();

@@ -7,13 +7,13 @@ use std::sync::ledger::Ledger;
 use std::thread::sleep;
 use std::time::Duration;
 
-/// How many turns a stream waits for others at most.
+/// The greatest number of turns that a stream waits for others.
 const MOST_TURNS: u32 = 10_000;
 
-/// How long a turn is in microseconds, so that the others come in time on a busy machine too.
+/// The length of a turn in microseconds, so that the others come in time on a busy machine too.
 const TURN: u64 = 100;
 
-/// Where streams wait before their first steps until so many have come.
+/// A place where streams wait before their first steps until a number of them have come.
 #[derive(Drop)]
 pub(crate) struct Meeting<'c> {
     clock: &'c HostRuntime,
@@ -32,7 +32,7 @@ impl<'c> Meeting<'c> {
         }
     }
 
-    /// How many streams have waited for all turns.
+    /// Returns the number of streams that have waited for all turns.
     pub fn gave_up(&self) -> u64 {
         self.gave_up.load(Ordering::SeqCst)
     }
@@ -56,7 +56,8 @@ impl<'c> Gate for Meeting<'c> {
     fn after<R: Wait>(&self, _rt: &R, _stream: StreamId, _at: usize) {}
 }
 
-/// Where streams wait before their first steps until the board's log has so many events, which are of others then.
+/// A place where streams wait before their first steps until the board's log has a number of events, which are of
+/// others then.
 #[derive(Drop)]
 pub(crate) struct Behind<'b, A: Ledger, B: Ledger, C: Ledger, N: Naming> {
     board: &'b Board<A, B, C, N>,
@@ -79,7 +80,7 @@ impl<'b, A: Ledger, B: Ledger, C: Ledger, N: Naming> Behind<'b, A, B, C, N> {
         }
     }
 
-    /// How many streams have waited for all turns.
+    /// Returns the number of streams that have waited for all turns.
     pub fn gave_up(&self) -> u64 {
         self.gave_up.load(Ordering::SeqCst)
     }
@@ -128,7 +129,7 @@ impl Counting {
         self.after.fetch_add(1, Ordering::SeqCst)
     }
 
-    /// How often it was called before steps, and how often after them.
+    /// Returns how often it was called before steps, and how often after them.
     pub fn calls(&self) -> (u64, u64) {
         (
             self.before.load(Ordering::SeqCst),

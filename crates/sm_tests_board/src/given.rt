@@ -1,4 +1,4 @@
-//! What a board gives out, and events that are made with it, one by one.
+//! The things that a board gives out, and events that are made with them, one by one.
 ghost use Rattle.std.specs.Prelude.{◌<◌, length};
 
 use sm_executor::{Board, Caller, Naming, Runner};
@@ -38,7 +38,7 @@ pub(crate) fn put_all<T>(rt: &impl Abort, list: &mut Vec<T>, mut values: Vec<T>)
     }
 }
 
-/// The place of a stream's runner.
+/// Returns the place of a stream's runner.
 fn runner_place<A: Ledger>(runners: &[Runner<A>], id: StreamId) -> Option<usize> {
     for at in 0..runners.len() {
         if runners[at].id() == id {
@@ -48,7 +48,7 @@ fn runner_place<A: Ledger>(runners: &[Runner<A>], id: StreamId) -> Option<usize>
     None
 }
 
-/// The id of a shard of the board's map, which has to be there.
+/// Returns the id of a shard of the board's map, which has to be there.
 pub(crate) fn shard_of<A: Ledger, B: Ledger, C: Ledger, N: Naming>(
     rt: &impl Abort,
     board: &Board<A, B, C, N>,
@@ -60,7 +60,7 @@ pub(crate) fn shard_of<A: Ledger, B: Ledger, C: Ledger, N: Naming>(
     shard
 }
 
-/// The id of a server of the board's map, which has to be there.
+/// Returns the id of a server of the board's map, which has to be there.
 pub(crate) fn server_of<A: Ledger, B: Ledger, C: Ledger, N: Naming>(
     rt: &impl Abort,
     board: &Board<A, B, C, N>,
@@ -73,7 +73,7 @@ pub(crate) fn server_of<A: Ledger, B: Ledger, C: Ledger, N: Naming>(
 }
 
 impl<A: Ledger> Given<A> {
-    /// A stream makes its next step, and loses its call where it is told so.
+    /// Makes a stream's next step, and loses its call if it is told so.
     fn step<B: Ledger, C: Ledger, N: Naming, R: Wait + Abort>(
         &mut self,
         rt: &R,
@@ -95,7 +95,7 @@ impl<A: Ledger> Given<A> {
         Played::from(step)
     }
 
-    /// A stream's allowance is raised by a guard.
+    /// Raises a stream's allowance by a guard.
     fn refill<B: Ledger, C: Ledger, N: Naming, R: Wait + Abort>(
         &mut self,
         rt: &R,
@@ -113,7 +113,7 @@ impl<A: Ledger> Given<A> {
         }
     }
 
-    /// What a request was answered; its ticket is kept.
+    /// Returns the answer to a request, whose ticket is kept.
     fn settle(&mut self, rt: &impl Abort, answer: Answer) -> Played {
         let played = answered(&answer);
         match answer {
@@ -128,7 +128,7 @@ impl<A: Ledger> Given<A> {
         played
     }
 
-    /// The request of a ticket comes to the server that it was passed to.
+    /// Brings the request of a ticket to the server that it was passed to.
     fn pass_on<B: Ledger, C: Ledger, N: Naming, R: Wait + Abort>(
         &mut self,
         rt: &R,
@@ -145,7 +145,7 @@ impl<A: Ledger> Given<A> {
         self.settle(rt, answer)
     }
 
-    /// The cluster manager asks a guard for the restart of a server.
+    /// Asks a guard for the restart of a server.
     fn approve<B: Ledger, C: Ledger, N: Naming, R: Wait + Abort>(
         &mut self,
         rt: &R,
@@ -162,7 +162,7 @@ impl<A: Ledger> Given<A> {
         }
     }
 
-    /// The restart of a server ends by a guard. Of servers one at most is down.
+    /// Ends the restart of a server by a guard. At most one server is down.
     fn done<B: Ledger, C: Ledger, N: Naming, R: Wait + Abort>(
         &mut self,
         rt: &R,
@@ -182,7 +182,7 @@ impl<A: Ledger> Given<A> {
         }
     }
 
-    /// The plan at a place begins, or goes back there.
+    /// Begins the plan at a place, or puts it back there.
     pub fn begin<B: Ledger, C: Ledger, N: Naming, R: Wait + Abort>(
         &mut self,
         rt: &R,
@@ -206,7 +206,7 @@ impl<A: Ledger> Given<A> {
         }
     }
 
-    /// The runners of a plan that has begun come to the others.
+    /// Adds the runners of a plan that has begun to the others.
     fn add(&mut self, rt: &impl Abort, runners: Vec<Runner<A>>) -> Played {
         assert!(rt; !runners.is_empty());
         let number = runners[0].id().plan;
@@ -214,7 +214,7 @@ impl<A: Ledger> Given<A> {
         Played::Begun { number }
     }
 
-    /// A plan that has not begun goes back into its place.
+    /// Puts a plan that has not begun back into its place.
     fn put_back(
         &mut self,
         rt: &impl Abort,

@@ -12,7 +12,7 @@ use std::process::Abort;
 use std::sync::Wait;
 use std::sync::ledger::Ledger;
 
-/// The runner makes so many steps, each of which is answered so.
+/// Makes this many steps of the runner, and asserts their answers.
 pub(crate) fn assert_steps<A: Ledger, B: Ledger, C: Ledger, N: Naming, R: Wait + Abort>(
     rt: &R,
     board: &Board<A, B, C, N>,
@@ -25,13 +25,14 @@ pub(crate) fn assert_steps<A: Ledger, B: Ledger, C: Ledger, N: Naming, R: Wait +
     }
 }
 
-/// Behind two steps the log has a request that is passed on, and one that is executed at b.
+/// Tells whether behind two steps the log has a request that is passed on, and one that is executed at b.
 fn ends_in_two_hops(machine: &Machine) -> bool {
     let log = machine.log();
     log.len() == 4 && matches!(log[2].answer, Played::Passed { .. }) && log[3].answer == executed(1)
 }
 
-/// An ask for s has two hops, which stand in the log behind two steps: it is passed on from a, and executed at b.
+/// Asserts that an ask for s has two hops, which stand in the log behind two steps: it is passed on from a, and
+/// executed at b.
 fn assert_two_hops<A: Ledger, B: Ledger, C: Ledger, N: Naming, R: Wait + Abort>(
     rt: &R,
     board: &Board<A, B, C, N>,
@@ -45,7 +46,7 @@ fn assert_two_hops<A: Ledger, B: Ledger, C: Ledger, N: Naming, R: Wait + Abort>(
     assert!(rt; ends_in_two_hops(board.hold(rt).machine()));
 }
 
-/// What the guard and the map say of s.
+/// Returns what the guard and the map say of s.
 fn assert_held<A: Ledger, B: Ledger, C: Ledger, N: Naming, R: Wait + Abort>(
     rt: &R,
     board: &Board<A, B, C, N>,
@@ -57,7 +58,7 @@ fn assert_held<A: Ledger, B: Ledger, C: Ledger, N: Naming, R: Wait + Abort>(
     assert_eq!(rt; board.look_held(&mut guard, caller, shard), wanted);
 }
 
-/// What the map says of s, read without the lock.
+/// Returns what the map says of s, read without the lock.
 fn assert_look<A: Ledger, B: Ledger, C: Ledger, N: Naming>(
     rt: &impl Abort,
     board: &Board<A, B, C, N>,
@@ -68,8 +69,8 @@ fn assert_look<A: Ledger, B: Ledger, C: Ledger, N: Naming>(
     assert_eq!(rt; board.look(caller, shard), wanted);
 }
 
-/// Both callers see s at a. After two steps an ask is passed on to b. After the fourth, which publishes, the guard gives b for the one
-/// caller, and a plain look gives b for the other, which has seen a alone.
+/// Looks and asks for s: both callers see it at a. After two steps an ask is passed on to b. After the fourth, which
+/// publishes, the guard gives b for the one caller. A plain look gives b for the other, which has seen a alone.
 pub(crate) fn map_and_asks<A: Ledger, B: Ledger, C: Ledger, N: Naming, R: Wait + Abort>(
     rt: &R,
     board: &Board<A, B, C, N>,

@@ -1,6 +1,7 @@
-//! Boards that are opened, and plans that begin on them and are run, or for which there is no memory. `scripts/check-memory-tests` runs
-//! each of these tests with its first allocation refused, then with its second, and so on, and wants `reached` to be printed where none is
-//! refused; `scripts/check-threads` does so with the threads of the last one.
+//! Boards that are opened, and plans that begin on them and are run, or for which there is no memory.
+//! `scripts/check-memory-tests` runs each of these tests with its first allocation refused, then with its second, and
+//! so on, and wants `reached` to be printed if none is refused; `scripts/check-threads` does so with the threads of the
+//! last one.
 use super::boards::{Deed, End, act_or_not, close, end, machine_or_not, tokens_of};
 use sm_executor::{Board, Naming, NotRun, Open, RunFault, Runner, run};
 use sm_fixtures::{
@@ -15,7 +16,7 @@ use std::sync::Wait;
 use std::sync::ledger::Ledger;
 use std::thread::Threads;
 
-/// Which plan begins on a board.
+/// The plan that begins on a board.
 #[derive(Clone, Copy)]
 pub(crate) enum Wanted {
     /// The plan of a handover.
@@ -25,7 +26,7 @@ pub(crate) enum Wanted {
 }
 
 impl Wanted {
-    /// The plan.
+    /// Returns the plan.
     fn plan(self, alloc: Global) -> Result<Checked, AllocError> {
         match self {
             Wanted::Handover => handover_plan(alloc, World::Wide, S_TO_B),
@@ -33,7 +34,7 @@ impl Wanted {
         }
     }
 
-    /// It is this one.
+    /// Tells whether it is this one.
     fn is_plan(self, checked: &Checked) -> bool {
         match self {
             Wanted::Handover => is_handover(checked),
@@ -42,7 +43,7 @@ impl Wanted {
     }
 }
 
-/// A plan that is to begin on a board, where there is memory for it, and room for the tokens of its streams.
+/// A plan that is to begin on a board if there is memory for it, and room for the tokens of its streams.
 pub(crate) struct Attempt {
     checked: Checked,
     tokens: Vec<StreamToken>,
@@ -61,8 +62,8 @@ fn end_as_it_was(
     end(machine, tokens, Vec::new(alloc), Vec::new(alloc))
 }
 
-/// Gives a board up on which so many plans have begun and no stream has stepped, with the runners of their streams. There is room for
-/// their tokens.
+/// Gives a board up on which this many plans have begun and no stream has stepped, with the runners of their streams.
+/// There is room for their tokens.
 fn give_up<A: Ledger, B: Ledger, C: Ledger, N: Naming>(
     rt: &impl Abort,
     alloc: Global,
@@ -75,13 +76,14 @@ fn give_up<A: Ledger, B: Ledger, C: Ledger, N: Naming>(
     end_as_it_was(rt, alloc, machine, tokens_of(rt, tokens, runners), plans)
 }
 
-/// The stream of the first plan has begun and not stepped.
+/// Tells whether the stream of the first plan has begun and not stepped.
 fn is_at_start(machine: &Machine, stream: u32) -> bool {
     let id = StreamId { plan: 0, stream };
     machine.is_begun(id) && machine.position(id) == 0
 }
 
-/// The runners of both streams are there, neither stream has stepped, and the log has so many other events.
+/// Tells whether the runners of both streams are there, neither stream has stepped, and the log has this many other
+/// events.
 pub(crate) fn has_none_stepped<A: Ledger>(
     machine: &Machine,
     runners: &[Runner<A>],
@@ -95,8 +97,8 @@ pub(crate) fn has_none_stepped<A: Ledger>(
         && is_at_start(machine, 1)
 }
 
-/// Two streams are run, and the board is closed. Or no stream has stepped and both runners are back: then the board is given up. That a
-/// thread cannot be started is printed, so that whoever refuses one sees it.
+/// Runs two streams, and closes the board. Otherwise no stream has stepped and both runners are back: then the board is
+/// given up. If a thread cannot be started, that is printed for the script that refuses one.
 fn run_or_not<
     A: Ledger + Send + Sync,
     B: Ledger + Send + Sync,
@@ -145,7 +147,7 @@ fn run_or_not<
     give_up(rt, alloc, board, runners, tokens, 1)
 }
 
-/// A plan begins on a board, and its streams have these runners. Or it comes back as it was.
+/// Begins a plan on a board, whose streams have these runners, or gets it back as it was.
 fn begun_or_not<A: Ledger, B: Ledger, C: Ledger, N: Naming, R: Wait + Abort>(
     rt: &R,
     alloc: Global,
@@ -163,7 +165,8 @@ fn begun_or_not<A: Ledger, B: Ledger, C: Ledger, N: Naming, R: Wait + Abort>(
     }
 }
 
-/// A plan begins on a board that has given out no runner, and its streams may be run. Where there is no memory for it, all is as it was.
+/// Begins a plan on a board that has given out no runner, whose streams may be run. If there is no memory for it, all
+/// is as it was.
 pub(crate) fn begin_or_not<
     A: Ledger + Send + Sync,
     B: Ledger + Send + Sync,
@@ -190,8 +193,8 @@ pub(crate) fn begin_or_not<
     }
 }
 
-/// A board is opened over a machine and a plan begins on it, with room for the tokens of its streams, which may be run. Where there is no
-/// memory for any of it, all is as it was.
+/// Opens a board over a machine and begins a plan on it, with room for the tokens of its streams, which may be run. If
+/// there is no memory for any of it, all is as it was.
 fn on_machine<R: Threads + Wait + Sync + Print + Abort>(
     rt: &R,
     alloc: Global,
@@ -231,7 +234,7 @@ fn on_machine<R: Threads + Wait + Sync + Print + Abort>(
     }
 }
 
-/// Where an allocation is refused, the call says so, and what was given comes back.
+/// Checks that the call says so if an allocation is refused, and what was given comes back.
 #[test]
 fn a_plan_begins_on_a_board_or_not(rt: HostRuntime) {
     let alloc = rt.alloc();
@@ -241,7 +244,7 @@ fn a_plan_begins_on_a_board_or_not(rt: HostRuntime) {
     }
 }
 
-/// Where an allocation or a thread is refused, no stream has stepped, and all runners come back.
+/// Checks that no stream has stepped, and all runners come back, if an allocation or a thread is refused.
 #[test]
 fn streams_are_run_or_not(rt: HostRuntime) {
     let alloc = rt.alloc();

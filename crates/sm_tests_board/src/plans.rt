@@ -7,7 +7,7 @@ use sm_server::{ServerId, ShardId};
 use sm_verifier::Checked;
 use std::alloc::{AllocError, Global};
 
-/// The plan by which shard s goes to b, back to a, and is prepared at b a third time, which is then called off.
+/// Returns the plan by which shard s goes to b, back to a, and is prepared at b a third time, which is then called off.
 pub(crate) fn three_handovers(alloc: Global) -> Result<Checked, AllocError> {
     let mut code = Vec::from_array(alloc, handover(S_TO_B))?;
     for instr in &handover(S_TO_A) {
@@ -24,7 +24,7 @@ pub(crate) fn three_handovers(alloc: Global) -> Result<Checked, AllocError> {
     one_stream_plan(alloc, World::Wide, S_TO_B, 10, code)
 }
 
-/// The plan by which shard s goes to b in one stream, and t to a in another.
+/// Returns the plan by which shard s goes to b in one stream, and t to a in another.
 pub(crate) fn two_handovers(alloc: Global) -> Result<Checked, AllocError> {
     let mut streams = Vec::new(alloc);
     for moved in [S_TO_B, T_TO_A] {

@@ -18,7 +18,7 @@ use std::process::Abort;
 use std::sync::Wait;
 use std::thread::Threads;
 
-/// How many places the log has.
+/// The number of places of the log.
 const PLACES: u32 = 64;
 
 /// Restarts beside a handover.
@@ -38,7 +38,7 @@ const fn restarts() -> [Turn; 8] {
     ]
 }
 
-/// What of them is recorded.
+/// Returns the recorded events among them.
 const fn recorded_restarts() -> [Turn; 5] {
     [
         (approve(2), Played::Approved),
@@ -49,7 +49,7 @@ const fn recorded_restarts() -> [Turn; 5] {
     ]
 }
 
-/// A request that is passed on in the first of three handovers, and comes to b in the third.
+/// Returns turns in which a request is passed on in the first of three handovers, and comes to b in the third.
 const fn requests_over_three() -> [Turn; 15] {
     let mut turns = [(step(0), Played::Moved); 15];
     turns[0] = (begin(0), begun(0));
@@ -59,7 +59,7 @@ const fn requests_over_three() -> [Turn; 15] {
     turns
 }
 
-/// What of them is recorded.
+/// Returns the recorded events among them.
 const fn recorded_over_three() -> [Turn; 14] {
     let mut log = [(step(0), Played::Moved); 14];
     log[2] = (arrive(0, 0), passed(1, 1, 2));
@@ -68,7 +68,7 @@ const fn recorded_over_three() -> [Turn; 14] {
     log
 }
 
-/// A request that is passed on.
+/// Returns turns in which a request is passed on.
 const fn passed_on() -> [Turn; 7] {
     [
         (begin(0), begun(0)),
@@ -81,7 +81,7 @@ const fn passed_on() -> [Turn; 7] {
     ]
 }
 
-/// What of them is recorded.
+/// Returns the recorded events among them.
 const fn recorded_passed_on() -> [Turn; 5] {
     [
         (step(0), Played::Moved),
@@ -92,7 +92,7 @@ const fn recorded_passed_on() -> [Turn; 5] {
     ]
 }
 
-/// Lost calls, a stream that has spent its tries, and refills.
+/// Returns turns with lost calls, a stream that has spent its tries, and refills.
 const fn losses() -> [Turn; 14] {
     [
         (begin(0), begun(0)),
@@ -112,7 +112,7 @@ const fn losses() -> [Turn; 14] {
     ]
 }
 
-/// What of them is recorded: where the next instruction is no call, no call is lost.
+/// Returns the recorded events among them: if the next instruction is no call, no call is lost.
 const fn recorded_losses() -> [Turn; 10] {
     [
         (lose(0, false), Played::Lost),
@@ -142,7 +142,7 @@ fn as_played<R: Threads + Wait + Sync + Print + Abort>(
     placement_after(rt, alloc, plan, PLACES, Scene::Turns { turns, log })
 }
 
-/// Two plans of the same handover.
+/// Makes two plans of the same handover.
 fn twins(
     alloc: Global,
     moved: WorkedMove,
@@ -203,7 +203,7 @@ fn lost_calls_are_as_played(rt: HostRuntime) {
     );
 }
 
-/// The map, and asks, while a handover runs.
+/// Looks at the map, and asks, while a handover runs.
 #[test]
 fn map_and_asks_on_a_board(rt: HostRuntime) {
     let alloc = rt.alloc();

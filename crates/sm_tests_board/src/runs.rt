@@ -15,7 +15,7 @@ use std::sync::Wait;
 use std::sync::ledger::Ledger;
 use std::thread::Threads;
 
-/// A plan is run on a board, which is closed then.
+/// Runs a plan on a board, which is closed then.
 pub(crate) fn run_checked<
     A: Ledger + Send + Sync,
     B: Ledger + Send + Sync,
@@ -35,7 +35,7 @@ pub(crate) fn run_checked<
     close(rt, alloc, board, ended, callers)
 }
 
-/// A plan, for which there has to be memory, is run on a new board over the worked placement.
+/// Runs a plan, for which there has to be memory, on a new board over the worked placement.
 pub(crate) fn run_plan<R: Threads + Wait + Sync + Print + Abort>(
     rt: &R,
     alloc: Global,
@@ -52,7 +52,7 @@ pub(crate) fn assert_moved(rt: &impl Abort, placement: &Placement) {
     assert_cells(rt, placement, 0, &[a, b, c, d]);
 }
 
-/// Each waits for the other before its first step, so no thread makes the steps of both.
+/// Lets each wait for the other before its first step, so no thread makes the steps of both.
 #[test]
 fn two_streams_meet(rt: HostRuntime) {
     let alloc = rt.alloc();
@@ -73,7 +73,7 @@ fn eight_streams_without_code_meet(rt: HostRuntime) {
     assert!(&rt; meeting.gave_up() == 0 && count == 8);
 }
 
-/// A stream for which nobody comes waits for all turns, and goes on.
+/// Checks that a stream for which nobody comes waits for all turns, and goes on.
 #[test]
 fn a_stream_that_meets_nobody_gives_up(rt: HostRuntime) {
     let alloc = rt.alloc();
@@ -95,7 +95,8 @@ fn assert_signalled(rt: &impl Abort, placement: &Placement) {
     assert_entries(rt, placement, &[entry(0, 0), entry(0, 1), entry(1, 1)]);
 }
 
-/// Runs the two streams with a signal between them, with so many retries for each, to their one end: by so many steps.
+/// Runs the two streams with a signal between them, each with `retries` retries, to their one end, and asserts the
+/// number of steps.
 fn run_signalled<R: Threads + Wait + Sync + Print + Abort>(
     rt: &R,
     alloc: Global,
@@ -109,7 +110,7 @@ fn run_signalled<R: Threads + Wait + Sync + Print + Abort>(
     assert_signalled(rt, &placement);
 }
 
-/// Wherever the board is halted, what is left is run to the same end. Behind the last step nothing is left.
+/// Checks that what is left is run to the same end wherever the board is halted. Behind the last step nothing is left.
 #[test]
 fn a_run_is_halted_behind_each_step(rt: HostRuntime) {
     let alloc = rt.alloc();
@@ -118,7 +119,8 @@ fn a_run_is_halted_behind_each_step(rt: HostRuntime) {
     }
 }
 
-/// The streams come to the same end over links that lose every second try. Where the first one is lost, they make as many as they may.
+/// Checks that the streams come to the same end over links that lose every second try. If the first one is lost, they
+/// make as many tries as they may.
 #[test]
 fn a_run_loses_every_second_try(rt: HostRuntime) {
     let alloc = rt.alloc();
@@ -128,7 +130,7 @@ fn a_run_loses_every_second_try(rt: HostRuntime) {
     }
 }
 
-/// A lost try, four calls, a publication, a refill and the end.
+/// Makes a lost try, four calls, a publication, a refill and the end.
 #[test]
 fn a_stream_that_has_spent_its_tries_goes_on_after_a_refill(rt: HostRuntime) {
     let alloc = rt.alloc();

@@ -15,7 +15,7 @@ use std::sync::Wait;
 use std::sync::ledger::Ledger;
 use std::thread::Threads;
 
-/// What is played on a board.
+/// A scene that is played on a board.
 #[derive(Clone, Copy)]
 pub(crate) enum Scene<'a> {
     /// The events are made, with these answers, and leave this log.
@@ -26,7 +26,7 @@ pub(crate) enum Scene<'a> {
     ToldDesk,
 }
 
-/// The machine's log is this one.
+/// Tells whether the machine's log is this one.
 pub(crate) fn has_log(machine: &Machine, log: &[Turn]) -> bool {
     let made = machine.log();
     if made.len() != log.len() {
@@ -122,8 +122,8 @@ pub(crate) fn play_scene<A: Ledger, B: Ledger, C: Ledger, N: Naming, R: Wait + A
     )
 }
 
-/// Plays a scene on a new board over the worked placement, with this plan and so many places of the log, and answers the placement
-/// that it leaves.
+/// Plays a scene on a new board over the worked placement, with this plan and a log of `log_room` places. Returns the
+/// placement that it leaves.
 pub(crate) fn placement_after<R: Threads + Wait + Sync + Print + Abort>(
     rt: &R,
     alloc: Global,

@@ -1,11 +1,11 @@
-//! What is asked of the worked placement, and asserted of it.
+//! Questions to the worked placement, and assertions about it.
 ghost use Rattle.std.specs.Prelude.{◌<◌, length};
 
 use sm_placement::{Entry, Placement};
 use sm_server::{Cell, ServerId, ShardId};
 use std::process::Abort;
 
-/// An entry of the map.
+/// Returns an entry of the map.
 pub(crate) const fn entry(server: u32, version: u64) -> Entry {
     Entry {
         server: Some(ServerId::new(server)),
@@ -13,7 +13,7 @@ pub(crate) const fn entry(server: u32, version: u64) -> Entry {
     }
 }
 
-/// The id of a server, which has to be there.
+/// Returns the id of a server, which has to be there.
 pub(crate) fn server_id(rt: &impl Abort, placement: &Placement, server: u32) -> ServerId
     ensures { result < length placement.now.setup.servers }
 {
@@ -21,7 +21,7 @@ pub(crate) fn server_id(rt: &impl Abort, placement: &Placement, server: u32) -> 
     ServerId::new(server)
 }
 
-/// The id of a shard, which has to be there.
+/// Returns the id of a shard, which has to be there.
 pub(crate) fn shard_id(rt: &impl Abort, placement: &Placement, shard: u32) -> ShardId
     ensures { result < length placement.now.setup.shards }
 {

@@ -7,8 +7,8 @@ use sm_driver::AnswerEffect;
 use sm_fixtures::World;
 use sm_server::ServerId;
 
-/// The handover of shard s from a to b: three calls, a publication and a call, each under the log's length and one more. Answers
-/// that come early, twice or late change nothing.
+/// Plays the handover of shard s from a to b: three calls, a publication and a call, each under the log's length and
+/// one more. Answers that come early, twice or late change nothing.
 #[test]
 fn a_handover_goes_on_with_each_answer(rt: HostRuntime) {
     let mut driver = must_open(&rt, rt.alloc(), World::Base, 0);
@@ -33,8 +33,8 @@ fn a_handover_goes_on_with_each_answer(rt: HostRuntime) {
     let _placement = driver.give_up();
 }
 
-/// Two streams with a signal between them: the second waits, without an order, until the first has posted; that needs nobody. In
-/// epoch 3 all numbers are above its base.
+/// Plays two streams with a signal between them. The second waits, without an order, until the first has posted, and
+/// that needs nobody. In epoch 3 all numbers are above its base.
 #[test]
 fn a_signal_needs_nobody(rt: HostRuntime) {
     let base = 3 * 2_097_152;

@@ -4,7 +4,7 @@ use sm_driver::{AnswerEffect, EpochFault, RestoreFault, StreamMessage};
 use sm_fixtures::World;
 use sm_server::{Cell, ServerId};
 
-/// An epoch follows another once no plan is unfinished, and the last one is followed by none.
+/// Checks that an epoch follows another once no plan is unfinished, and that the last one is followed by none.
 #[test]
 fn an_epoch_opens_at_rest(rt: HostRuntime) {
     let mut driver = must_open(&rt, rt.alloc(), World::Base, u32::MAX - 1);
@@ -23,7 +23,7 @@ fn an_epoch_opens_at_rest(rt: HostRuntime) {
     let _placement = driver.give_up();
 }
 
-/// The streams that wait for answers stand in the list, and no others.
+/// Checks that the streams that wait for answers stand in the list, and no others.
 #[test]
 fn streams_that_wait_are_listed(rt: HostRuntime) {
     let mut list = Vec::new(rt.alloc());
@@ -43,7 +43,7 @@ fn streams_that_wait_are_listed(rt: HostRuntime) {
     let _placement = driver.give_up();
 }
 
-/// A server that no unfinished stream names is told its cells, and again under the same nonce.
+/// Checks that a server that no unfinished stream names is told its cells, and again under the same nonce.
 #[test]
 fn a_server_is_restored(rt: HostRuntime) {
     let mut driver = must_open(&rt, rt.alloc(), World::Base, 1);

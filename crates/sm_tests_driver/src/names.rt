@@ -1,7 +1,7 @@
 //! Names of two epochs.
 use sm_names::Names;
 
-/// A name stands for its value in its own epoch and in the next one, and for nothing after that.
+/// Checks that a name stands for its value in its own epoch and in the next one, and for nothing after that.
 #[test]
 fn a_name_lasts_for_two_epochs(rt: HostRuntime) {
     let mut names = Names::new(rt.alloc());

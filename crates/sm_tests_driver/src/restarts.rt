@@ -10,7 +10,7 @@ const fn c() -> ServerId {
     ServerId::new(2)
 }
 
-/// An approval has a permit under its number in the log, and the restart ends by that permit alone.
+/// Checks that an approval has a permit under its number in the log, and that the restart ends by that permit alone.
 #[test]
 fn a_restart_ends_by_its_permit(rt: HostRuntime) {
     let mut driver = must_open(&rt, rt.alloc(), World::Base, 0);
@@ -27,7 +27,8 @@ fn a_restart_ends_by_its_permit(rt: HostRuntime) {
     let _placement = driver.give_up();
 }
 
-/// A server that is down at the opening has a permit above all that the log gives, which the next epoch keeps.
+/// Checks that a server that is down at the opening has a permit above all that the log gives, which the next epoch
+/// keeps.
 #[test]
 fn an_opening_gives_permits(rt: HostRuntime) {
     let permit = 2 * 2_097_152 + 1_048_577 + 2;
@@ -40,7 +41,7 @@ fn an_opening_gives_permits(rt: HostRuntime) {
     let _placement = driver.give_up();
 }
 
-/// A full log denies approvals, and never the end of a restart. A new epoch empties it.
+/// Checks that a full log denies approvals, and never the end of a restart. A new epoch empties it.
 #[test]
 fn a_full_log_denies_approvals(rt: HostRuntime) {
     let mut driver = must_open_with(&rt, rt.alloc(), World::Base, &[], 2, 0);
@@ -52,8 +53,9 @@ fn a_full_log_denies_approvals(rt: HostRuntime) {
     let _placement = driver.give_up();
 }
 
-/// The restart of a server that was carried over does not end with the base that it had before the reopening, in the next epoch
-/// neither, nor does it by a restore that was only told. It ends once the server has taken the restore.
+/// Checks that the restart of a server that was carried over does not end with the base that it had before the
+/// reopening, not in the next epoch either. A restore that was only told does not end it. It ends once the server has
+/// taken the restore.
 #[test]
 fn a_carried_server_stays_down(rt: HostRuntime) {
     let base = 5 * 2_097_152;
@@ -78,7 +80,7 @@ fn a_carried_server_stays_down(rt: HostRuntime) {
     let _placement = driver.give_up();
 }
 
-/// The restart of an Unknown server does not end, though no reopening has carried it over.
+/// Checks that the restart of an Unknown server does not end, though no reopening has carried it over.
 #[test]
 fn an_unknown_server_stays_down(rt: HostRuntime) {
     let mut driver = must_open(&rt, rt.alloc(), World::Base, 0);
@@ -90,8 +92,8 @@ fn an_unknown_server_stays_down(rt: HostRuntime) {
     let _placement = driver.give_up();
 }
 
-/// A server that is down at a reopening has a new permit where it had none. One that is not carried over comes up with the fence as its base,
-/// and with no lower one.
+/// Checks that a server that is down at a reopening has a new permit if it had none. One that is not carried over comes
+/// up with the fence as its base, and with no lower one.
 #[test]
 fn a_reopening_gives_permits(rt: HostRuntime) {
     let base = 5 * 2_097_152;

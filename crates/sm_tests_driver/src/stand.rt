@@ -11,7 +11,7 @@ use sm_verifier::Checked;
 use std::alloc::Global;
 use std::process::Abort;
 
-/// The stream of this number of the first plan.
+/// Returns the stream of this number of the first plan.
 pub(crate) const fn stream(number: u32) -> StreamId {
     StreamId {
         plan: 0,
@@ -24,7 +24,8 @@ pub(crate) fn must_open(rt: &impl Abort, alloc: Global, world: World, epoch: u32
     must_open_with(rt, alloc, world, &[], 100, epoch)
 }
 
-/// Opens a driver over a worked placement at which these servers are down, with room for so many events, in an epoch of journal 7.
+/// Opens a driver over a worked placement at which these servers are down, with room for `room` events, in an epoch of
+/// journal 7.
 pub(crate) fn must_open_with(
     rt: &impl Abort,
     alloc: Global,
@@ -117,7 +118,7 @@ pub(crate) fn must_signal(rt: &impl Abort, alloc: Global, driver: &mut Driver) {
     }
 }
 
-/// The number that the next order or publication of a stream has, by the log's length when the stream came there.
+/// Asserts the number of the next order or publication of a stream, by the log's length when the stream came there.
 pub(crate) fn assert_order(rt: &impl Abort, order: Option<StreamOrder>, at: u64, number: u64) {
     match order {
         Some(order) => assert!(rt; order.at == at && order.number == number),
@@ -125,7 +126,7 @@ pub(crate) fn assert_order(rt: &impl Abort, order: Option<StreamOrder>, at: u64,
     }
 }
 
-/// The map is to list a server under a version.
+/// Asserts that the map is to list a server under a version.
 pub(crate) fn assert_publication(
     rt: &impl Abort,
     publication: Option<StreamPublication>,
@@ -138,7 +139,7 @@ pub(crate) fn assert_publication(
     }
 }
 
-/// An answer to a stream comes to this.
+/// Asserts the effect of an answer to a stream.
 pub(crate) fn assert_answered(
     rt: &impl Abort,
     driver: &mut Driver,
@@ -149,7 +150,7 @@ pub(crate) fn assert_answered(
     assert!(rt; driver.answered(stream(number), answer) == want);
 }
 
-/// Returns whether a stream of the first plan has made its end.
+/// Returns whether a stream of the first plan has finished.
 pub(crate) fn has_ended(driver: &Driver, number: u32) -> bool {
     let id = stream(number);
     driver.machine().is_begun(id) && driver.machine().is_done(id)

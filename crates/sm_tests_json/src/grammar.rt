@@ -1,4 +1,4 @@
-//! Which texts are JSON.
+//! Texts that are JSON, and texts that are not.
 use json_tree::{ReadFault, Scratch, Tree};
 use std::alloc::Global;
 use std::process::Abort;
@@ -199,7 +199,7 @@ const NO_STRINGS: [&str; 26] = [
     "\u{e5}",
 ];
 
-/// What `serde_json` refuses beside: lone halves of a pair, and numbers that are too large for a float.
+/// Texts that `serde_json` refuses beside: lone halves of a pair, and numbers that are too large for a float.
 const REFUSED_BESIDE: [&str; 8] = [
     "[\"\\uD800\"]",
     "[\"\\uDC00\"]",
@@ -211,7 +211,7 @@ const REFUSED_BESIDE: [&str; 8] = [
     "{\"a\":1e999,\"a\":1}",
 ];
 
-/// A text is read, or it is no JSON.
+/// Tells whether a text is read, or it is no JSON.
 fn is_read(rt: &impl Abort, alloc: Global, text: &str) -> bool {
     let mut scratch = Scratch::new(alloc);
     match Tree::read(alloc, text, &mut scratch) {
@@ -246,7 +246,7 @@ fn refuses_what_is_no_json(rt: HostRuntime) {
     }
 }
 
-/// So many arrays, one in the other.
+/// Writes `depth` arrays, one in the other.
 fn nested(alloc: Global, depth: usize) -> Result<String, Fail> {
     let mut text = String::new(alloc);
     for _ in 0..depth {

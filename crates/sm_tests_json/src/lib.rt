@@ -1,6 +1,7 @@
 //! Tests of json_tree, in a crate of their own: nothing here is part of the product.
 //!
-//! What is JSON and what is none, after RFC 8259 and the files of JSONTestSuite, and what the members and entries of a text are.
+//! They show which texts are JSON, after RFC 8259 and the files of JSONTestSuite, and the members and entries of a
+//! text.
 #![tactic(auto)]
 
 #[cfg(test)]

@@ -1,4 +1,4 @@
-//! What a text says.
+//! Values of texts.
 use json_tree::{ReadFault, Scratch, Tree};
 use std::process::Abort;
 use std::test::Fail;
@@ -6,22 +6,22 @@ use std::test::Fail;
 /// Each kind of value.
 const KINDS: &str = r#"[null,true,false,7,"seven",["a",[]],{"b":{"c":8}}]"#;
 
-/// Whether these are null, true and false.
+/// Tells whether these are null, true and false.
 fn are_words(null: &Tree<'_>, yes: &Tree<'_>, no: &Tree<'_>) -> bool {
     null.is_null() && yes.as_bool() == Some(true) && no.as_bool() == Some(false)
 }
 
-/// Whether a value is the number 7, and of no other kind.
+/// Tells whether a value is the number 7, and of no other kind.
 fn is_seven(value: &Tree<'_>) -> bool {
     value.is_number() && !value.is_null() && value.as_u64() == Some(7) && value.as_bool().is_none()
 }
 
-/// Whether a value is the text, and of no other kind.
+/// Tells whether a value is the text, and of no other kind.
 fn is_text(value: &Tree<'_>) -> bool {
     !value.is_number() && value.as_str() == Some("seven") && value.as_u64().is_none()
 }
 
-/// How many values an array has.
+/// Returns the number of values of an array.
 fn length_of(value: &Tree<'_>) -> Option<usize> {
     match value.as_array() {
         Some(items) => Some(items.len()),
@@ -29,7 +29,7 @@ fn length_of(value: &Tree<'_>) -> Option<usize> {
     }
 }
 
-/// Whether a value is the array, and of no other kind.
+/// Tells whether a value is the array, and of no other kind.
 fn is_array(value: &Tree<'_>) -> bool {
     length_of(value) == Some(2)
         && value.as_str().is_none()
@@ -37,7 +37,7 @@ fn is_array(value: &Tree<'_>) -> bool {
         && value.get("b").is_none()
 }
 
-/// The number of a member.
+/// Returns the number of a member.
 fn number_of(value: &Tree<'_>, name: &str) -> Option<u64> {
     match value.get(name) {
         Some(member) => member.as_u64(),
@@ -45,7 +45,7 @@ fn number_of(value: &Tree<'_>, name: &str) -> Option<u64> {
     }
 }
 
-/// The number of a member of a member.
+/// Returns the number of a member of a member.
 fn inner_number(value: &Tree<'_>, outer: &str, inner: &str) -> Option<u64> {
     match value.get(outer) {
         Some(member) => number_of(member, inner),
@@ -53,7 +53,7 @@ fn inner_number(value: &Tree<'_>, outer: &str, inner: &str) -> Option<u64> {
     }
 }
 
-/// Whether a value is the object, and of no other kind.
+/// Tells whether a value is the object, and of no other kind.
 fn is_object(value: &Tree<'_>) -> bool {
     value.is_object()
         && value.as_array().is_none()
@@ -61,7 +61,7 @@ fn is_object(value: &Tree<'_>) -> bool {
         && value.get("c").is_none()
 }
 
-/// Whether these are the values of `KINDS`.
+/// Tells whether these are the values of `KINDS`.
 fn are_kinds(items: &[Tree<'_>]) -> bool {
     match items {
         [null, yes, no, number, text, array, object] => {
@@ -90,7 +90,8 @@ fn reads_each_kind(rt: HostRuntime) -> Result<(), Fail> {
     Ok(())
 }
 
-/// `scripts/check-memory-tests` refuses each allocation of this test in turn, and wants `reached` to be printed where none is refused.
+/// Reads each kind, or finds no memory. `scripts/check-memory-tests` refuses each allocation of this test in turn, and
+/// wants `reached` to be printed if none is refused.
 #[test]
 fn reads_each_kind_or_not(rt: HostRuntime) {
     let mut scratch = Scratch::new(rt.alloc());
@@ -103,7 +104,7 @@ fn reads_each_kind_or_not(rt: HostRuntime) {
     }
 }
 
-/// How many members an object has.
+/// Returns the number of members of an object.
 fn member_count(value: &Tree<'_>) -> Option<usize> {
     match value.as_object() {
         Some(members) => Some(members.len()),

@@ -19,7 +19,7 @@ pub(crate) fn open(
     Machine::open(alloc, placement, log_room)
 }
 
-/// The id of a server, which has to be there.
+/// Returns the id of a server, which has to be there.
 pub(crate) fn server_id(rt: &impl Abort, placement: &Placement, server: u32) -> ServerId
     ensures { result < length placement.now.setup.servers }
 {
@@ -27,7 +27,7 @@ pub(crate) fn server_id(rt: &impl Abort, placement: &Placement, server: u32) -> 
     ServerId::new(server)
 }
 
-/// The id of a shard, which has to be there.
+/// Returns the id of a shard, which has to be there.
 pub(crate) fn shard_id(rt: &impl Abort, placement: &Placement, shard: u32) -> ShardId
     ensures { result < length placement.now.setup.shards }
 {
@@ -35,14 +35,14 @@ pub(crate) fn shard_id(rt: &impl Abort, placement: &Placement, shard: u32) -> Sh
     ShardId::new(shard)
 }
 
-/// What a server has of a shard.
+/// Returns what a server has of a shard.
 fn cell(rt: &impl Abort, placement: &Placement, shard: u32, server: u32) -> Cell {
     let shard = shard_id(rt, placement, shard);
     let server = server_id(rt, placement, server);
     placement.cell(shard, server)
 }
 
-/// Whether the cells of a placement are those of the worked one.
+/// Tells whether the cells of a placement are those of the worked one.
 fn has_worked_cells(rt: &impl Abort, placement: &Placement) -> bool {
     cell(rt, placement, 0, 0) == Cell::Primary
         && cell(rt, placement, 0, 1) == Cell::Absent
@@ -50,19 +50,19 @@ fn has_worked_cells(rt: &impl Abort, placement: &Placement) -> bool {
         && cell(rt, placement, 1, 1) == Cell::Primary
 }
 
-/// Asserts that a placement is the worked one, with so many servers down.
+/// Asserts that a placement is the worked one, with this many servers down.
 pub(crate) fn assert_worked(rt: &impl Abort, placement: &Placement, down: u32) {
     assert!(rt; placement.settled() && placement.down_count() == down);
     assert!(rt; has_worked_cells(rt, placement));
 }
 
-/// Whether a pool is the one of the worked placement, with so many servers down.
+/// Tells whether a pool is the one of the worked placement, with this many servers down.
 fn is_worked_pool(pool: &Pool, down: u32) -> bool {
     pool.room(ServerId::new(0)) == 6
         && pool.spare(ShardId::new(0)) == u64::from(1u32.saturating_sub(down))
 }
 
-/// Asserts that nothing has happened at a machine over the worked placement, with so many servers down.
+/// Asserts that nothing has happened at a machine over the worked placement, with this many servers down.
 pub(crate) fn assert_untouched(rt: &impl Abort, machine: &Machine, down: u32) {
     assert_worked(rt, machine.placement(), down);
     assert!(rt; machine.log().is_empty() && is_worked_pool(machine.pool(), down));

@@ -1,6 +1,6 @@
-//! Calls that take memory. `scripts/check-memory-tests` runs each of these tests with its first allocation refused, then with its
-//! second, and so on: the answer has to be want of memory, or the right one. That one is printed as `reached`, which the script wants
-//! where none is refused.
+//! Calls that take memory. `scripts/check-memory-tests` runs each of these tests with its first allocation refused,
+//! then with its second, and so on: the answer has to be want of memory, or the right one. That one is printed as
+//! `reached`, which the script wants if none is refused.
 use super::fixture::*;
 use sm_fixtures::World;
 use sm_machine::OpenFault;
@@ -27,7 +27,7 @@ fn assert_opened(rt: &(impl Print + Abort), alloc: Global, placement: Placement)
     }
 }
 
-/// Where an allocation is refused, `open` says so, and what it was given comes back.
+/// Checks that `open` says so if an allocation is refused, and what it was given comes back.
 #[test]
 fn a_machine_is_opened_or_not(rt: HostRuntime) {
     let alloc = rt.alloc();

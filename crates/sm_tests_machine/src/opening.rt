@@ -8,7 +8,7 @@ use sm_server::{Call, Cell, Role, ServerId};
 use std::alloc::Global;
 use std::process::Abort;
 
-/// Gives a machine over the worked placement up, with so many servers down.
+/// Gives a machine over the worked placement up, with this many servers down.
 fn give_up(rt: &impl Abort, alloc: Global, machine: Machine, permits: Vec<Permit>, down: u32) {
     let placement = machine.give_up(Vec::new(alloc), permits, Vec::new(alloc));
     assert_worked(rt, &placement, down);
@@ -22,7 +22,7 @@ fn assert_none_begun(rt: &impl Abort, machine: &Machine) {
     }
 }
 
-/// The worked placement, for which there has to be memory.
+/// Returns the worked placement, for which there has to be memory.
 fn placement(rt: &impl Abort, alloc: Global, down: &[ServerId]) -> Placement {
     match World::Base.placement(alloc, down) {
         Ok(placement) => placement,
@@ -44,7 +44,7 @@ fn a_machine_opens_with_no_permit_where_no_server_is_down(rt: HostRuntime) {
     }
 }
 
-/// Whether there is one permit, for server 2.
+/// Tells whether there is one permit, for server 2.
 fn is_one_permit(permits: &[Permit]) -> bool {
     match permits {
         [permit] => permit.server() == ServerId::new(2),
@@ -95,7 +95,7 @@ fn a_permit_of_the_opening_brings_its_server_up(rt: HostRuntime) {
     }
 }
 
-/// Asserts that no machine has a log of so many places, and that the placement comes back.
+/// Asserts that no machine has a log of this many places, and that the placement comes back.
 fn assert_log_full(rt: &impl Abort, alloc: Global, opened: Placement, room: u32, down: u32) {
     match open(rt, alloc, opened, room) {
         Ok((machine, permits)) => {
@@ -149,7 +149,7 @@ fn assert_last(rt: &impl Abort, placement: &Placement, number: u64) {
     );
 }
 
-/// The worked placement, where a call of number 7 added a secondary of shard 0 at server 1.
+/// Returns the worked placement after a call of number 7 that added a secondary of shard 0 at server 1.
 fn numbered_placement(rt: &impl Abort, alloc: Global) -> Placement {
     let mut placement = placement(rt, alloc, &[]);
     let shard = shard_id(rt, &placement, 0);

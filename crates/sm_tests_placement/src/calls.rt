@@ -26,7 +26,7 @@ const SECONDARY: Answer = Ok(Cell::Secondary);
 
 const PRIMARY: Answer = Ok(Cell::Primary);
 
-/// What a call has to tell, by its answer.
+/// Returns the answer that a call has to get.
 fn told(answer: &Answer) -> Result<(), Refusal> {
     match answer {
         Ok(_) => Ok(()),
@@ -34,7 +34,7 @@ fn told(answer: &Answer) -> Result<(), Refusal> {
     }
 }
 
-/// What a cell has to be after a call, by its answer and what it was before.
+/// Returns what a cell has to be after a call, by its answer and what it was before.
 fn after(answer: &Answer, before: &Cell) -> Cell {
     match answer {
         Ok(next) => *next,
@@ -42,8 +42,8 @@ fn after(answer: &Answer, before: &Cell) -> Cell {
     }
 }
 
-/// Brings the cell of shard 0 at server 1, which is absent, to a state by these calls, makes another call there, and compares
-/// its answer and the cell afterwards.
+/// Brings the cell of shard 0 at server 1, which is absent, to a state by these calls, makes another call there, and
+/// compares its answer and the cell afterwards.
 fn test_at(
     rt: &impl Abort,
     alloc: Global,
@@ -207,7 +207,7 @@ fn handed_over_by_the_table(rt: HostRuntime) -> Result<(), Fail> {
     test_call(&rt, alloc, &forward, &forwarded)
 }
 
-/// Server 1 has 4 left, server 2 nothing, and server 0 has 6.
+/// Fills servers: server 1 has 4 left, server 2 nothing, and server 0 has 6.
 #[test]
 fn room_is_asked_for_what_comes(rt: HostRuntime) -> Result<(), Fail> {
     follow_small(
@@ -249,7 +249,7 @@ fn servers_that_are_down_refuse(rt: HostRuntime) -> Result<(), Fail> {
     )
 }
 
-/// A refused call leaves the last number, and plain calls, restarts and the map do too.
+/// Checks that a refused call leaves the last number, and that plain calls, restarts and the map do too.
 #[test]
 fn numbered_calls_have_one_effect(rt: HostRuntime) -> Result<(), Fail> {
     follow_small(
@@ -277,7 +277,7 @@ fn numbered_calls_have_one_effect(rt: HostRuntime) -> Result<(), Fail> {
     )
 }
 
-/// The calls that prepare server 1 for shard 0 and hand the shard to it, each under its number.
+/// Returns the calls that prepare server 1 for shard 0 and hand the shard to it, each under its number.
 fn prepare(number: u64) -> Call {
     Call::PrepareAdd {
         owner: id(0),
@@ -351,7 +351,7 @@ fn several_may_serve(rt: HostRuntime) -> Result<(), Fail> {
     )
 }
 
-/// A placement whose map lists another server, whose shard is short, or whose primary forwards is not settled.
+/// Checks that a placement is not settled if its map lists another server, its shard is short, or its primary forwards.
 #[test]
 fn settled_placements_are_told(rt: HostRuntime) -> Result<(), Fail> {
     follow_small(
@@ -375,7 +375,7 @@ fn settled_placements_are_told(rt: HostRuntime) -> Result<(), Fail> {
     )
 }
 
-/// More servers down than the limit are not settled, though no shard is short.
+/// Checks that a placement with more servers down than the limit is not settled, though no shard is short.
 #[test]
 fn settled_placements_have_few_servers_down(rt: HostRuntime) -> Result<(), Fail> {
     follow_small(
@@ -400,7 +400,7 @@ fn settled_placements_have_few_servers_down(rt: HostRuntime) -> Result<(), Fail>
     )
 }
 
-/// Whether a copy of a placement has its configuration, and a limit of 1.
+/// Tells whether a copy of a placement has its configuration, and a limit of 1.
 fn has_same_setup(alloc: Global, placement: &Placement) -> Result<bool, OpenFault> {
     let copy = copied(alloc, placement)?;
     let is_same = has_setup(&copy, placement.config());
@@ -437,8 +437,8 @@ fn follow_then_copied(
     outcome
 }
 
-/// A copy answers every reader as its source does, and remembers the numbers of calls. The source has a handover under
-/// way, a published entry and a server down.
+/// Checks that a copy answers every reader as its source does, and remembers the numbers of calls. The source has a
+/// handover under way, a published entry and a server down.
 #[test]
 fn copies_are_equal(rt: HostRuntime) -> Result<(), Fail> {
     let (from, number) = (id(0), 5);

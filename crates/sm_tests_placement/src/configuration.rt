@@ -1,4 +1,4 @@
-//! What a configuration accepts, and what it tells of its servers and shards.
+//! Configurations that are accepted or not, and what they tell of their servers and shards.
 use super::fixture::{config_by, config_of, is_server, many_shards, server};
 use sm_placement::{Config, ConfigFault, Server, Shard};
 use sm_server::{ServerId, ShardId};
@@ -24,7 +24,7 @@ struct ShardRow {
     spread: u32,
 }
 
-/// The shard of a row.
+/// Returns the shard of a row.
 fn shard(alloc: Global, row: &ShardRow) -> Result<Shard, AllocError> {
     Ok(Shard {
         name: String::from_str(alloc, row.name)?,
@@ -35,7 +35,7 @@ fn shard(alloc: Global, row: &ShardRow) -> Result<Shard, AllocError> {
     })
 }
 
-/// The servers of these rows.
+/// Returns the servers of these rows.
 fn servers(alloc: Global, rows: &[ServerRow]) -> Result<Vec<Server>, AllocError> {
     let mut servers = Vec::new(alloc);
     for row in rows {
@@ -44,7 +44,7 @@ fn servers(alloc: Global, rows: &[ServerRow]) -> Result<Vec<Server>, AllocError>
     Ok(servers)
 }
 
-/// The shards of these rows.
+/// Returns the shards of these rows.
 fn shards(alloc: Global, rows: &[ShardRow]) -> Result<Vec<Shard>, AllocError> {
     let mut shards = Vec::new(alloc);
     for row in rows {
@@ -53,7 +53,7 @@ fn shards(alloc: Global, rows: &[ShardRow]) -> Result<Vec<Shard>, AllocError> {
     Ok(shards)
 }
 
-/// The configuration of these rows.
+/// Returns the configuration of these rows.
 fn config(
     alloc: Global,
     server_rows: &[ServerRow],
@@ -68,12 +68,12 @@ fn config(
     made
 }
 
-/// Why these rows are refused, if they are.
+/// Returns why these rows are refused, if they are.
 fn fault_of(alloc: Global, servers: &[ServerRow], shards: &[ShardRow]) -> Option<ConfigFault> {
     config(alloc, servers, shards).err()
 }
 
-/// A server with this name.
+/// Returns a server with this name.
 fn named_server(name: &'static str) -> ServerRow {
     ServerRow {
         name,
@@ -82,7 +82,7 @@ fn named_server(name: &'static str) -> ServerRow {
     }
 }
 
-/// A shard with this name.
+/// Returns a shard with this name.
 fn named_shard(name: &'static str) -> ShardRow {
     ShardRow {
         name,
@@ -93,7 +93,7 @@ fn named_shard(name: &'static str) -> ShardRow {
     }
 }
 
-/// Each text as the name of a server, as its region, and as the name of a shard.
+/// Tries each text as the name of a server, as its region, and as the name of a shard.
 fn assert_names(
     rt: &impl Abort,
     alloc: Global,
@@ -162,7 +162,7 @@ fn names_are_single(rt: HostRuntime) {
     assert!(rt; fault_of(alloc, &servers, &double_shard) == double);
 }
 
-/// A shard with these numbers.
+/// Returns a shard with these numbers.
 fn sized(load: u64, want: u32, cap: u32, spread: u32) -> ShardRow {
     ShardRow {
         name: "s",
@@ -173,7 +173,7 @@ fn sized(load: u64, want: u32, cap: u32, spread: u32) -> ShardRow {
     }
 }
 
-/// Each shard alone.
+/// Tries each shard alone.
 fn assert_each_shard(
     rt: &impl Abort,
     alloc: Global,
@@ -226,7 +226,7 @@ fn rooms_are_within_their_limit(rt: HostRuntime) {
     assert!(rt; fault_of(alloc, &more, &[]) == Some(ConfigFault::BadNumber));
 }
 
-/// A configuration of as many servers and shards.
+/// Makes a configuration of this many servers and shards.
 fn counted(alloc: Global, servers: u32, shards: u32) -> Result<Config, ConfigFault> {
     config_by(alloc, servers, 10, many_shards(alloc, shards, 4, 2, 1)?)
 }
@@ -240,7 +240,7 @@ fn the_most_servers_and_shards_are_accepted(rt: HostRuntime) -> Result<(), Fail>
     Ok(())
 }
 
-/// A configuration of a server whose name is bad, and of as many shards.
+/// Makes a configuration of a server whose name is bad, and of `count` shards.
 fn badly_named(alloc: Global, count: u32) -> Result<Config, ConfigFault> {
     let shards = many_shards(alloc, count, 4, 2, 1)?;
     let made = match servers(alloc, &[named_server("a b")]) {
@@ -251,7 +251,7 @@ fn badly_named(alloc: Global, count: u32) -> Result<Config, ConfigFault> {
     made
 }
 
-/// Too many shards are told before a bad name.
+/// Checks that too many shards are told before a bad name.
 #[test]
 fn more_servers_and_shards_are_refused(rt: HostRuntime) {
     let alloc = rt.alloc();
@@ -261,7 +261,7 @@ fn more_servers_and_shards_are_refused(rt: HostRuntime) {
     assert!(rt; badly_named(alloc, 4_097).err() == too_many);
 }
 
-/// Bad names are told before double names, and these before bad numbers.
+/// Checks that bad names are told before double names, and these before bad numbers.
 #[test]
 fn the_first_fault_is_told(rt: HostRuntime) {
     let alloc = rt.alloc();
@@ -318,15 +318,15 @@ const SHARDS: [ShardRow; 2] = [
     },
 ];
 
-/// A configuration of two servers and two shards, which share the name "b".
+/// Returns a configuration of two servers and two shards, which share the name "b".
 fn small_config(alloc: Global) -> Result<Config, ConfigFault> {
     config(alloc, &SERVERS, &SHARDS)
 }
 
-/// The numbers of the server and of the shard with a name, where there are such.
+/// The numbers of the server and of the shard with a name, if there are such.
 type Numbers = (Option<ServerId>, Option<ShardId>);
 
-/// The numbers of every name of the small configuration, and of texts that are none.
+/// Returns the numbers of every name of the small configuration, and of texts that are none.
 const fn numbers() -> [(&'static str, Numbers); 6] {
     let (first_server, second_server) = (Some(ServerId::new(0)), Some(ServerId::new(1)));
     let (first_shard, second_shard) = (Some(ShardId::new(0)), Some(ShardId::new(1)));
@@ -356,7 +356,7 @@ fn names_lead_to_numbers(rt: HostRuntime) -> Result<(), Fail> {
     Ok(())
 }
 
-/// Whether a shard is that of a row.
+/// Tells whether a shard is that of a row.
 fn is_shard(shard: &Shard, row: &ShardRow) -> bool {
     shard.name.as_str() == row.name
         && shard.load == row.load
@@ -394,7 +394,7 @@ fn assert_floors(rt: &impl Abort, config: &Config) {
     assert_eq!(rt; config.floor(ShardId::new(1)), 3);
 }
 
-/// A copy of the small configuration.
+/// Copies the small configuration.
 fn small_copy(alloc: Global) -> Result<Config, ConfigFault> {
     let config = small_config(alloc)?;
     let copied = config.copy(alloc);
@@ -412,7 +412,7 @@ fn numbers_lead_to_rows(rt: HostRuntime) -> Result<(), Fail> {
     Ok(())
 }
 
-/// What `==` and `!=` say of a configuration, where it was made, and of the small one.
+/// Returns what `==` and `!=` say of a configuration, if it was made, and of the small one.
 fn compared(alloc: Global, made: Result<Config, ConfigFault>) -> Result<(bool, bool), ConfigFault> {
     let other = made?;
     let told = compared_with_small(alloc, &other);
@@ -420,7 +420,7 @@ fn compared(alloc: Global, made: Result<Config, ConfigFault>) -> Result<(bool, b
     told
 }
 
-/// What `==` and `!=` say of a configuration and the small one.
+/// Returns what `==` and `!=` say of a configuration and the small one.
 fn compared_with_small(alloc: Global, other: &Config) -> Result<(bool, bool), ConfigFault> {
     let small = small_config(alloc)?;
     let told = (small == *other, small != *other);

@@ -23,7 +23,7 @@ pub(crate) const TO_SECONDARY: Call = Call::Change {
     to: Role::Secondary,
 };
 
-/// A server of a region, by its name and room.
+/// Returns a server of a region, by its name and room.
 pub(crate) fn server(
     alloc: Global,
     name: &str,
@@ -37,7 +37,7 @@ pub(crate) fn server(
     })
 }
 
-/// A shard of spread 1.
+/// Returns a shard of spread 1.
 pub(crate) fn shard(
     alloc: Global,
     name: &str,
@@ -54,12 +54,12 @@ pub(crate) fn shard(
     })
 }
 
-/// Whether a server has these members.
+/// Tells whether a server has these members.
 pub(crate) fn is_server(server: &Server, name: &str, region: &str, room: u64) -> bool {
     server.name.as_str() == name && server.region.as_str() == region && server.room == room
 }
 
-/// As many servers with this room.
+/// Makes `count` servers with this room.
 pub(crate) fn many_servers(
     alloc: Global,
     count: u32,
@@ -73,7 +73,7 @@ pub(crate) fn many_servers(
     Ok(servers)
 }
 
-/// As many shards with this load, want and cap.
+/// Makes `count` shards with this load, want and cap.
 pub(crate) fn many_shards(
     alloc: Global,
     count: u32,
@@ -89,7 +89,7 @@ pub(crate) fn many_shards(
     Ok(shards)
 }
 
-/// The configuration of as many servers with this room, and of these shards, which are dropped.
+/// Makes the configuration of `count` servers with this room, and of these shards, which are dropped.
 pub(crate) fn config_by(
     alloc: Global,
     count: u32,
@@ -104,7 +104,7 @@ pub(crate) fn config_by(
     made
 }
 
-/// The configuration of servers, which are dropped, and of shards.
+/// Returns the configuration of servers, which are dropped, and of shards.
 pub(crate) fn config_of(
     alloc: Global,
     servers: Vec<Server>,
@@ -115,8 +115,8 @@ pub(crate) fn config_of(
     made
 }
 
-/// Three servers with room for 10, 10 and 4; shard 0 has load 4 and wants 2 with a cap of 1, shard 1 has load 6 and
-/// wants 1 with no cap.
+/// Makes three servers with room for 10, 10 and 4, and two shards: shard 0 has load 4 and wants 2 with a cap of 1,
+/// shard 1 has load 6 and wants 1 with no cap.
 pub(crate) fn small_config(alloc: Global) -> Result<Config, ConfigFault> {
     let servers = [
         server(alloc, "a", "r1", 10).map_err(|_| ConfigFault::NoMemory)?,
@@ -130,12 +130,12 @@ pub(crate) fn small_config(alloc: Global) -> Result<Config, ConfigFault> {
     Config::new(alloc, &servers, &shards)
 }
 
-/// A cell with its ids.
+/// Returns a cell with its ids.
 pub(crate) fn named(shard: u32, server: u32, cell: Cell) -> (ShardId, ServerId, Cell) {
     (ShardId::new(shard), ServerId::new(server), cell)
 }
 
-/// The small placement: shard 0 has its primary at server 0 and a secondary at server 2, shard 1 its primary at
+/// Returns the small placement: shard 0 has its primary at server 0 and a secondary at server 2, shard 1 its primary at
 /// server 1.
 pub(crate) fn small_placement(alloc: Global, config: &Config) -> Result<Placement, OpenFault> {
     let cells = [
@@ -147,7 +147,7 @@ pub(crate) fn small_placement(alloc: Global, config: &Config) -> Result<Placemen
     Placement::open(alloc, config, &cells, &listed, &[], 1)
 }
 
-/// The small placement of the small configuration.
+/// Returns the small placement of the small configuration.
 pub(crate) fn small(alloc: Global) -> Result<Placement, OpenFault> {
     match small_config(alloc) {
         Ok(config) => {
@@ -159,17 +159,17 @@ pub(crate) fn small(alloc: Global) -> Result<Placement, OpenFault> {
     }
 }
 
-/// A copy of a placement.
+/// Copies a placement.
 pub(crate) fn copied(alloc: Global, placement: &Placement) -> Result<Placement, OpenFault> {
     Ok(placement.copy(alloc)?)
 }
 
-/// Whether a placement is of this configuration, with a limit of 1 on the servers that are down.
+/// Tells whether a placement is of this configuration, with a limit of 1 on the servers that are down.
 pub(crate) fn has_setup(placement: &Placement, config: &Config) -> bool {
     placement.config() == config && placement.limit() == 1
 }
 
-/// The id of a server, which has to be there.
+/// Returns the id of a server, which has to be there.
 pub(crate) fn server_id(rt: &impl Abort, placement: &Placement, server: u32) -> ServerId
     ensures { result < length placement.now.setup.servers }
 {
@@ -177,7 +177,7 @@ pub(crate) fn server_id(rt: &impl Abort, placement: &Placement, server: u32) -> 
     ServerId::new(server)
 }
 
-/// The id of a shard, which has to be there.
+/// Returns the id of a shard, which has to be there.
 pub(crate) fn shard_id(rt: &impl Abort, placement: &Placement, shard: u32) -> ShardId
     ensures { result < length placement.now.setup.shards }
 {
@@ -185,7 +185,7 @@ pub(crate) fn shard_id(rt: &impl Abort, placement: &Placement, shard: u32) -> Sh
     ShardId::new(shard)
 }
 
-/// Whether a call names a server that is there, where it names one.
+/// Tells whether a call names a server that is there, if it names one.
 fn is_known_call(placement: &Placement, call: &Call) -> bool
     ensures { IsTrue result → IsKnownCall (length placement.now.setup.servers) call.now }
 {
@@ -197,7 +197,7 @@ fn is_known_call(placement: &Placement, call: &Call) -> bool
     }
 }
 
-/// A call, at ids that have to be there.
+/// Returns a call, at ids that have to be there.
 pub(crate) fn call(
     rt: &impl Abort,
     placement: &mut Placement,
@@ -211,7 +211,7 @@ pub(crate) fn call(
     placement.call(server, shard, call)
 }
 
-/// A numbered call, at ids that have to be there and under a number of at least 1.
+/// Returns a numbered call, at ids that have to be there and under a number of at least 1.
 pub(crate) fn call_numbered(
     rt: &impl Abort,
     placement: &mut Placement,
@@ -227,48 +227,48 @@ pub(crate) fn call_numbered(
     placement.call_numbered(server, shard, call, number)
 }
 
-/// The cell of a shard at a server.
+/// Returns the cell of a shard at a server.
 pub(crate) fn cell(rt: &impl Abort, placement: &Placement, shard: u32, server: u32) -> Cell {
     let server = server_id(rt, placement, server);
     let shard = shard_id(rt, placement, shard);
     placement.cell(shard, server)
 }
 
-/// The load of a server.
+/// Returns the load of a server.
 pub(crate) fn load(rt: &impl Abort, placement: &Placement, server: u32) -> u64 {
     placement.load(server_id(rt, placement, server))
 }
 
-/// The live replicas of a shard.
+/// Returns the live replicas of a shard.
 pub(crate) fn live(rt: &impl Abort, placement: &Placement, shard: u32) -> u32 {
     placement.live(shard_id(rt, placement, shard))
 }
 
-/// Whether a server counts as live for a shard.
+/// Tells whether a server counts as live for a shard.
 pub(crate) fn is_live(rt: &impl Abort, placement: &Placement, shard: u32, server: u32) -> bool {
     let server = server_id(rt, placement, server);
     let shard = shard_id(rt, placement, shard);
     placement.is_live(shard, server)
 }
 
-/// The lead that describes a shard's cells.
+/// Returns the lead that describes a shard's cells.
 pub(crate) fn lead(rt: &impl Abort, placement: &Placement, shard: u32) -> Option<Lead> {
     placement.lead(shard_id(rt, placement, shard))
 }
 
-/// The number of the last numbered call that had an effect on a cell.
+/// Returns the number of the last numbered call that had an effect on a cell.
 pub(crate) fn last(rt: &impl Abort, placement: &Placement, shard: u32, server: u32) -> u64 {
     let server = server_id(rt, placement, server);
     let shard = shard_id(rt, placement, shard);
     placement.last(shard, server)
 }
 
-/// Who serves a shard.
+/// Returns which servers serve a shard.
 pub(crate) fn serving(rt: &impl Abort, placement: &Placement, shard: u32) -> Serving {
     placement.serving(shard_id(rt, placement, shard))
 }
 
-/// Whether the published entry of a shard has this server and version, by each reader.
+/// Tells whether the published entry of a shard has this server and version, by each reader.
 pub(crate) fn is_listed(
     rt: &impl Abort,
     placement: &Placement,
@@ -302,7 +302,7 @@ pub(crate) fn publish(rt: &impl Abort, placement: &mut Placement, shard: u32, se
     }
 }
 
-/// Whether a server is down.
+/// Tells whether a server is down.
 pub(crate) fn is_down(rt: &impl Abort, placement: &Placement, server: u32) -> bool {
     placement.is_down(server_id(rt, placement, server))
 }

@@ -1,7 +1,8 @@
-//! Tests of the public calls of sm_server and sm_placement, in a crate of their own: nothing here is part of the product.
+//! Tests of the public calls of sm_server and sm_placement, in a crate of their own: nothing here is part of the
+//! product.
 //!
-//! Owned placements and configurations are dropped by name: where a function leaves that to its end, or to a `?` behind them, its
-//! proof takes many times as long.
+//! Owned placements and configurations are dropped by name: if a function leaves that to its end, or to a `?` behind
+//! them, its proof takes many times as long.
 #![tactic(auto)]
 
 #[cfg(test)]

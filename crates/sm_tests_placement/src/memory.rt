@@ -1,20 +1,20 @@
-//! Calls that take memory. `scripts/check-memory-tests` runs each of these tests with its first allocation refused, then with its
-//! second, and so on: the answer has to be want of memory, or the right one. That one is printed as `reached`, which the script wants
-//! where none is refused.
+//! Calls that take memory. `scripts/check-memory-tests` runs each of these tests with its first allocation refused,
+//! then with its second, and so on: the answer has to be want of memory, or the right one. That one is printed as
+//! `reached`, which the script wants if none is refused.
 use super::fixture::*;
 use sm_placement::{Config, ConfigFault, OpenFault, Placement, Server, Shard};
 use sm_server::Cell;
 use std::alloc::{AllocError, Global};
 use std::process::Abort;
 
-/// Whether the servers are those that `a_configuration_is_made_and_copied_or_not` made.
+/// Tells whether the servers are those that `a_configuration_is_made_and_copied_or_not` made.
 fn are_made_servers(servers: &[Server]) -> bool {
     servers.len() == 2
         && is_server(&servers[0], "a", "r1", 10)
         && is_server(&servers[1], "b", "r2", 4)
 }
 
-/// Whether the shards are those that `a_configuration_is_made_and_copied_or_not` made.
+/// Tells whether the shards are those that `a_configuration_is_made_and_copied_or_not` made.
 fn are_made_shards(shards: &[Shard]) -> bool {
     shards.len() == 1 && shards[0].name.as_str() == "s" && shards[0].want == 2
 }
@@ -25,7 +25,7 @@ fn assert_made_rows(rt: &impl Abort, servers: &[Server], shards: &[Shard]) {
     assert!(rt; are_made_shards(shards), "{shards:?}");
 }
 
-/// Asserts that a copy of the configuration, where it is made, and the configuration are right.
+/// Asserts that a copy of the configuration, if it is made, and the configuration are right.
 fn assert_copied(rt: &(impl Print + Abort), alloc: Global, config: &Config) {
     if let Ok(copy) = config.copy(alloc) {
         assert_made_rows(rt, copy.servers(), copy.shards());
@@ -47,7 +47,7 @@ fn assert_made(rt: &(impl Print + Abort), alloc: Global, servers: &[Server], sha
     assert_made_rows(rt, servers, shards);
 }
 
-/// The servers of `a_configuration_is_made_and_copied_or_not`.
+/// Returns the servers of `a_configuration_is_made_and_copied_or_not`.
 fn made_servers(alloc: Global) -> Result<[Server; 2], AllocError> {
     Ok([server(alloc, "a", "r1", 10)?, server(alloc, "b", "r2", 4)?])
 }
@@ -61,7 +61,7 @@ fn assert_made_of(rt: &(impl Print + Abort), alloc: Global, servers: &[Server]) 
     }
 }
 
-/// Where an allocation is refused, `new` and `copy` say so, and what they were given is as it was.
+/// Checks that `new` and `copy` say so if an allocation is refused, and what they were given is as it was.
 #[test]
 fn a_configuration_is_made_and_copied_or_not(rt: HostRuntime) {
     if let Ok(servers) = made_servers(rt.alloc()) {
@@ -98,7 +98,7 @@ fn assert_small_placement(rt: &impl Abort, placement: &Placement) {
     assert!(rt; placement.settled());
 }
 
-/// Asserts that a copy of the small placement, where it is made, and the placement are right.
+/// Asserts that a copy of the small placement, if it is made, and the placement are right.
 fn assert_copied_placement(rt: &(impl Print + Abort), alloc: Global, placement: &Placement) {
     if let Ok(copy) = copied(alloc, placement) {
         assert_small_placement(rt, &copy);

@@ -14,7 +14,7 @@ fn id(server: u32) -> ServerId {
     ServerId::new(server)
 }
 
-/// The cells of the small placement.
+/// Returns the cells of the small placement.
 fn cells() -> [Named; 3] {
     [
         named(0, 0, Cell::Primary),
@@ -49,14 +49,14 @@ fn assert_fault_of_cells(
     assert_fault(rt, alloc, cells, &[Some(id(0)), Some(id(1))], &[], fault)
 }
 
-/// The small placement with a shard that isn't listed, and with a server down that is named twice.
+/// Returns the small placement with a shard that isn't listed, and with a server down that is named twice.
 fn open_with_one_down(alloc: Global, config: &Config) -> Result<Placement, OpenFault> {
     let listed = [Some(id(0)), None];
     let down = [id(2), id(2)];
     Placement::open(alloc, config, &cells(), &listed, &down, 1)
 }
 
-/// Whether that placement has the configuration and the limit that it is opened with.
+/// Tells whether that placement has the configuration and the limit that it is opened with.
 fn keeps_setup(alloc: Global, config: &Config) -> Result<bool, OpenFault> {
     let placement = open_with_one_down(alloc, config)?;
     let is_kept = has_setup(&placement, config);
@@ -132,7 +132,7 @@ fn ids_of_lists_are_known(rt: HostRuntime) -> Result<(), Fail> {
     Ok(())
 }
 
-/// The other server of a handover isn't looked at: the cell is a bad lead.
+/// Checks that the other server of a handover isn't looked at: the cell is a bad lead.
 #[test]
 fn ids_of_handovers_may_be_unknown(rt: HostRuntime) -> Result<(), Fail> {
     let from = id(9);
@@ -176,7 +176,7 @@ fn more_cells_are_refused(rt: HostRuntime) -> Result<(), Fail> {
     Ok(())
 }
 
-/// A cell stands twice, also as absent: the lowest shard is named.
+/// Checks that of cells that stand twice, also as absent, the lowest shard is named.
 #[test]
 fn doubles_name_the_lowest_shard(rt: HostRuntime) -> Result<(), Fail> {
     let double = [
@@ -195,7 +195,7 @@ fn doubles_name_the_lowest_shard(rt: HostRuntime) -> Result<(), Fail> {
     Ok(())
 }
 
-/// Of the shard, the lowest server is named.
+/// Checks that the lowest server of the shard is named.
 #[test]
 fn doubles_name_the_lowest_server(rt: HostRuntime) -> Result<(), Fail> {
     let double = [
@@ -240,7 +240,7 @@ fn handovers_under_way_are_refused(rt: HostRuntime) -> Result<(), Fail> {
     Ok(())
 }
 
-/// A listed server is not the shard's primary: of two such shards the lowest is named.
+/// Checks that of two shards whose listed server is not their primary the lowest is named.
 #[test]
 fn bad_listings_name_the_lowest(rt: HostRuntime) -> Result<(), Fail> {
     let two = [
@@ -306,7 +306,7 @@ fn floors_are_kept(rt: HostRuntime) -> Result<(), Fail> {
     Ok(())
 }
 
-/// Two servers are down, which is too many, but a short shard is told first.
+/// Checks that a short shard is told first, though two servers are down, which is too many.
 #[test]
 fn floors_are_kept_by_servers_that_are_up(rt: HostRuntime) -> Result<(), Fail> {
     let shard = ShardId::new(1);
@@ -344,13 +344,13 @@ fn limits_are_kept(rt: HostRuntime) -> Result<(), Fail> {
     Ok(())
 }
 
-/// As many servers and shards as a configuration has, with the greatest numbers.
+/// Makes a configuration with the greatest numbers of servers and shards, and the greatest numbers of each.
 fn largest_config(alloc: Global) -> Result<Config, ConfigFault> {
     let shards = many_shards(alloc, 4096, 4294967295, 0, 0)?;
     config_by(alloc, 1024, 4294967295, shards)
 }
 
-/// Its placement with a replica of the last shard at the last server.
+/// Makes its placement with a replica of the last shard at the last server.
 fn open_largest(alloc: Global, config: &Config) -> Result<Placement, OpenFault> {
     let listed = vec![in alloc; None; 4096]?;
     let last = [named(4095, 1023, Cell::Primary)];

@@ -90,7 +90,7 @@ const fn cells() -> [Cell; 5] {
     ]
 }
 
-/// Each call, and its answers at a server that is up and has room.
+/// Returns each call, and its answers at a server that is up and has room.
 const fn with_room() -> [(Call, Answers); 9] {
     let new = Ok(prepared(5, 9));
     let old = Ok(forwarding(6, 10));
@@ -107,7 +107,7 @@ const fn with_room() -> [(Call, Answers); 9] {
     ]
 }
 
-/// The same at a server that is up and has too little room.
+/// Returns the same at a server that is up and has too little room.
 const fn without_room() -> [(Call, Answers); 9] {
     let old = Ok(forwarding(6, 10));
     [
@@ -206,12 +206,13 @@ fn numbered_calls(rt: HostRuntime) {
     }
 }
 
-/// What a server answers that is up and has room.
+/// Returns what a server answers that is up and has room.
 fn answer(cell: Cell, call: Call) -> Answer {
     serve(cell, 4, 4, true, call)
 }
 
-/// The calls of a handover of number 9 from server 1 to server 2, and of one that is cancelled: a cell, the call, the cell afterwards.
+/// Returns the calls of a handover of number 9 from server 1 to server 2, and of one that is cancelled: a cell, the
+/// call, the cell afterwards.
 const fn handover_calls() -> [(Cell, Call, Cell); 5] {
     [
         (Cell::Absent, prepare_add(1, 9), prepared(1, 9)),

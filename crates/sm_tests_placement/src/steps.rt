@@ -1,4 +1,4 @@
-//! What is done to a placement, and what it has to answer, one after the other.
+//! Steps that change a placement or ask something of it, one after the other.
 use super::fixture::*;
 use sm_placement::{Lead, OpenFault, Placement, Serving};
 use sm_server::{Call, Cell, Refusal};
@@ -25,7 +25,7 @@ pub(crate) enum Step {
     HasCell(u32, u32, Cell),
     /// A server has this load.
     HasLoad(u32, u64),
-    /// A shard has so many live replicas.
+    /// A shard has this number of live replicas.
     HasLive(u32, u32),
     /// A server counts as live for a shard, or not.
     IsLive(u32, u32, bool),
@@ -37,13 +37,13 @@ pub(crate) enum Step {
     HasLast(u32, u32, u64),
     /// A shard's entry has this server and version.
     HasListed(u32, Option<u32>, u64),
-    /// So many servers are down.
+    /// This number of servers are down.
     HasDown(u32),
     /// The placement is settled, or not.
     IsSettled(bool),
 }
 
-/// Does what changes a placement, and says whether it was answered so. Where the step only asks, nothing is done.
+/// Does what changes a placement, and says whether it was answered so. If the step only asks, nothing is done.
 fn change(rt: &impl Abort, placement: &mut Placement, step: &Step) -> Option<bool> {
     match step {
         Step::Made(server, shard, made, answer) => {
@@ -72,7 +72,7 @@ fn change(rt: &impl Abort, placement: &mut Placement, step: &Step) -> Option<boo
     }
 }
 
-/// Whether a placement is as a step that only asks says.
+/// Tells whether a placement is as a step that only asks says.
 fn is_so(rt: &impl Abort, placement: &Placement, step: &Step) -> bool {
     match step {
         Step::HasCell(server, shard, has) => cell(rt, placement, *shard, *server) == *has,
@@ -102,7 +102,7 @@ pub(crate) fn follow(rt: &impl Abort, placement: &mut Placement, steps: &[Step])
     }
 }
 
-/// Follows the steps from a placement, where it was opened, and drops it.
+/// Follows the steps from a placement, if it was opened, and drops it.
 pub(crate) fn follow_opened(
     rt: &impl Abort,
     opened: Result<Placement, OpenFault>,

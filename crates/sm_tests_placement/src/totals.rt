@@ -10,7 +10,7 @@ const SERVERS: u32 = 1024;
 
 const SHARDS: u32 = 4096;
 
-/// Whether a server that has this cell of a shard serves it, by the cell of the server that it is prepared from.
+/// Tells whether a server that has this cell of a shard serves it, by the cell of the server that it is prepared from.
 fn serves(rt: &impl Abort, placement: &Placement, shard: u32, server: u32, has: &Cell) -> bool {
     match has {
         Cell::Primary => true,
@@ -70,7 +70,8 @@ fn compare(rt: &impl Abort, alloc: Global, placement: &Placement) -> Result<(), 
     Ok(())
 }
 
-/// The calls of a round on one shard: three replicas come, a handover goes part of its way, and some calls are refused.
+/// Returns the calls of a round on one shard: three replicas come, a handover goes part of its way, and some calls are
+/// refused.
 fn made(rt: &impl Abort, placement: &mut Placement, round: u32, step: u32) -> Result<(), Refusal> {
     let shard = round.wrapping_mul(41) % SHARDS;
     let owner = round.wrapping_mul(7) % 32;
@@ -118,7 +119,7 @@ fn made(rt: &impl Abort, placement: &mut Placement, round: u32, step: u32) -> Re
     }
 }
 
-/// How many calls were made, and how many of them were accepted.
+/// The number of calls that were made, and of those that were accepted.
 #[derive(Drop)]
 struct Counts {
     calls: u32,
@@ -185,13 +186,13 @@ fn large_config(alloc: Global) -> Result<Config, ConfigFault> {
     config_by(alloc, SERVERS, 40, shards)
 }
 
-/// The placement of the large configuration that has no replica.
+/// Returns the placement of the large configuration that has no replica.
 fn open_empty(alloc: Global, config: &Config) -> Result<Placement, OpenFault> {
     let listed = vec![in alloc; None; 4096]?;
     Placement::open(alloc, config, &[], &listed, &[], 16)
 }
 
-/// Makes the calls of every round at a placement, where it was opened, and drops it.
+/// Makes the calls of every round at a placement, if it was opened, and drops it.
 fn assert_totals(
     rt: &impl Abort,
     alloc: Global,

@@ -1,4 +1,4 @@
-//! Which plans are made, and why others are not.
+//! Plans that are made, and reasons why others are not.
 use super::run::open;
 use super::wanted::{Wanted, plan_wanted};
 use super::worlds::{CITY, CLOSE, NARROW, SPARE, WIDE, WORKED, World};
@@ -8,7 +8,8 @@ use sm_verifier::Checked;
 use std::alloc::Global;
 use std::process::Abort;
 
-/// How many streams, signals and instructions a plan has; or a refusal with its shard and its server, as far as it has them.
+/// The numbers of streams, signals and instructions of a plan; or a refusal with its shard and its server, as far as it
+/// has them.
 type Told = (&'static str, [usize; 3]);
 
 static IN_CITY: [(Wanted, Told); 31] = [
@@ -95,7 +96,7 @@ static IN_CLOSE: [(Wanted, Told); 2] = [
     (Wanted::Drain(0), ("plan", [1, 0, 4])),
 ];
 
-/// How many instructions the streams of a plan have.
+/// Returns the number of instructions of a plan's streams.
 fn instr_count(plan: &Plan) -> usize {
     let mut count: usize = 0;
     for stream in plan.streams() {
@@ -104,7 +105,7 @@ fn instr_count(plan: &Plan) -> usize {
     count
 }
 
-/// What an answer tells.
+/// Returns what an answer tells.
 fn told_of(answer: &Result<Checked, NoPlan>) -> Told {
     let why = match answer {
         Ok(checked) => {
@@ -132,7 +133,7 @@ fn told_of(answer: &Result<Checked, NoPlan>) -> Told {
     }
 }
 
-/// Asserts what is answered at a world where something is wanted.
+/// Asserts the answer at a world if something is wanted.
 fn assert_told(rt: &impl Abort, alloc: Global, world: &World, wanted: &Wanted, want: &Told) {
     let run = open(rt, alloc, world);
     let answer = plan_wanted(rt, alloc, &run.machine, wanted);
@@ -147,7 +148,7 @@ fn assert_told(rt: &impl Abort, alloc: Global, world: &World, wanted: &Wanted, w
     run.close(alloc);
 }
 
-/// Asserts what is answered to each row of a table.
+/// Asserts the answer to each row of a table.
 fn assert_all(rt: &impl Abort, alloc: Global, world: &World, rows: &[(Wanted, Told)]) {
     for (wanted, want) in rows {
         assert_told(rt, alloc, world, wanted, want);

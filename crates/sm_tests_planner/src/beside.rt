@@ -12,7 +12,7 @@ static S_TO_1: Wanted = Wanted::Moves(&[(0, 0, 1)]);
 
 static T_TO_0: Wanted = Wanted::Moves(&[(1, 1, 0)]);
 
-/// There is no plan for this reason.
+/// Asserts that there is no plan for this reason.
 fn assert_refused(rt: &impl Abort, alloc: Global, run: &Run, wanted: &Wanted, want: NoPlan) {
     match plan_wanted(rt, alloc, &run.machine, wanted) {
         Ok(_) => panic!(rt; "there is a plan"),
@@ -20,8 +20,8 @@ fn assert_refused(rt: &impl Abort, alloc: Global, run: &Run, wanted: &Wanted, wa
     }
 }
 
-/// While shard 0 goes from server 0 to 1 there is no plan that moves it or empties server 0, and none that empties server 2: its
-/// replica has no place but server 1.
+/// Asserts that, while shard 0 goes from server 0 to 1, no plan moves it or empties server 0, and none empties server
+/// 2: its replica has no place but server 1.
 fn assert_held(rt: &impl Abort, alloc: Global, run: &Run) {
     let shard = ShardId::new(0);
     let server = ServerId::new(1);

@@ -1,4 +1,4 @@
-//! As many moves and signals as a plan may have, and one more.
+//! Plans with the greatest numbers of moves and signals, and with one more.
 use super::run::{Run, open_over};
 use super::wanted::{move_of, plan_moves};
 use super::worlds::Ground;
@@ -8,8 +8,8 @@ use sm_server::Cell;
 use std::alloc::{AllocError, Global};
 use std::process::Abort;
 
-/// Servers 0, 1 and 2 of this room and 3 of room 1. So many shards of load 1 have their primaries at server 0, and then as many at
-/// server 1; the first one has a secondary at server 3.
+/// Makes servers 0, 1 and 2 of this room and server 3 of room 1. The primaries of the first shards, of load 1, are at
+/// server 0, and those of the second at server 1. The first shard has a secondary at server 3.
 fn crowd(alloc: Global, room: u64, first: u32, second: u32) -> Result<Ground, AllocError> {
     let mut ground = Ground::new(alloc);
     for room in [room, room, room, 1] {
@@ -24,7 +24,7 @@ fn crowd(alloc: Global, room: u64, first: u32, second: u32) -> Result<Ground, Al
     Ok(ground)
 }
 
-/// A machine over such a placement.
+/// Returns a machine over such a placement.
 fn open_crowd(rt: &impl Abort, alloc: Global, room: u64, first: u32, second: u32) -> Run {
     let placement = match crowd(alloc, room, first, second) {
         Ok(ground) => ground.open(alloc),
@@ -40,7 +40,7 @@ fn open_crowd(rt: &impl Abort, alloc: Global, room: u64, first: u32, second: u32
     }
 }
 
-/// The shards of these numbers go from one server to another.
+/// Adds the moves of the shards of these numbers from one server to another.
 fn add_moves(rt: &impl Abort, moves: &mut Vec<Move>, shards: (u32, u32), from: u32, to: u32) {
     for number in shards.0..shards.1 {
         if moves.push(move_of(number, from, to)).is_err() {
@@ -49,7 +49,7 @@ fn add_moves(rt: &impl Abort, moves: &mut Vec<Move>, shards: (u32, u32), from: u
     }
 }
 
-/// There is a plan, with 64 streams and so many signals, which begins and comes to its end.
+/// Asserts that there is a plan, with 64 streams and `signals` signals, which begins and comes to its end.
 fn assert_planned(rt: &impl Abort, alloc: Global, run: &mut Run, moves: &[Move], signals: usize) {
     match plan_moves(rt, alloc, &run.machine, moves) {
         Ok(checked) => {
@@ -62,7 +62,7 @@ fn assert_planned(rt: &impl Abort, alloc: Global, run: &mut Run, moves: &[Move],
     run.run_to_end(rt);
 }
 
-/// There are too many moves or signals.
+/// Asserts that there are too many moves or signals.
 fn assert_too_many(rt: &impl Abort, alloc: Global, run: &Run, moves: &[Move]) {
     match plan_moves(rt, alloc, &run.machine, moves) {
         Ok(_) => panic!(rt; "there is a plan"),
@@ -70,7 +70,7 @@ fn assert_too_many(rt: &impl Abort, alloc: Global, run: &Run, moves: &[Move]) {
     }
 }
 
-/// All shards go from server 0 to 1, and with the first one's secondary there is one move more.
+/// Moves all shards from server 0 to 1. The first one's secondary is one move more.
 #[test]
 fn a_plan_has_at_most_4096_moves(rt: HostRuntime) {
     let alloc = rt.alloc();
@@ -86,7 +86,7 @@ fn a_plan_has_at_most_4096_moves(rt: HostRuntime) {
     run.close(alloc);
 }
 
-/// The shards at server 1 go to 2, and then those at server 0 to 1, each into the room that one before it has left.
+/// Moves the shards at server 1 to 2, and then those at server 0 to 1, each into the room that one before it has left.
 #[test]
 fn a_plan_has_at_most_256_signals(rt: HostRuntime) {
     let alloc = rt.alloc();

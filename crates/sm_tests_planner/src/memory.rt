@@ -1,5 +1,5 @@
-//! Plans that are made, or for which there is no memory. `scripts/check-memory-tests` runs each of these tests with its first
-//! allocation refused, then with its second, and so on, and wants `reached` to be printed where none is refused.
+//! Plans that are made, or for which there is no memory. `scripts/check-memory-tests` runs each of these tests with its
+//! first allocation refused, then with its second, and so on, and wants `reached` to be printed if none is refused.
 use super::run::{Run, open_or_not};
 use super::wanted::{Wanted, plan_wanted};
 use super::worlds::WIDE;
@@ -16,7 +16,7 @@ const CELLS: [(u32, u32, Cell); 4] = [
     (2, 3, Cell::Primary),
 ];
 
-/// The readers of a machine answer as if no plan had been asked for.
+/// Asserts that the readers of a machine answer as if no plan had been asked for.
 fn assert_untouched(rt: &impl Abort, run: &Run) {
     let machine = &run.machine;
     assert!(rt; machine.log().is_empty() && machine.entries().is_empty());
@@ -31,7 +31,8 @@ fn assert_untouched(rt: &impl Abort, run: &Run) {
     }
 }
 
-/// Where an allocation is refused, there is no plan for want of memory; else there is one with so many streams.
+/// Asserts that there is no plan for want of memory if an allocation is refused, and otherwise one with this many
+/// streams.
 fn assert_planned_or_not(
     rt: &(impl Print + Abort),
     alloc: Global,
@@ -52,7 +53,7 @@ fn assert_planned_or_not(
     run.close(alloc);
 }
 
-/// Two moves, of which one pays with the other one's room.
+/// Plans two moves, of which one pays with the other one's room.
 #[test]
 fn moves_are_planned_or_not(rt: HostRuntime) {
     let wanted = Wanted::Moves(&[(2, 3, 1), (1, 1, 0)]);

@@ -10,13 +10,13 @@ use sm_server::Cell;
 use std::alloc::{AllocError, Global};
 use std::process::Abort;
 
-/// How many servers are emptied.
+/// The number of servers that are emptied.
 const EMPTIED: u32 = 200;
 
-/// How many placements are made at most: some do not open, and of some no server takes a shard.
+/// The greatest number of placements that are made: some do not open, and of some no server takes a shard.
 const MADE: u32 = 2_000;
 
-/// One of three regions.
+/// Returns one of three regions.
 fn random_region(dice: &mut Dice) -> &'static str {
     match dice.roll(3) {
         0 => "r1",
@@ -25,7 +25,7 @@ fn random_region(dice: &mut Dice) -> &'static str {
     }
 }
 
-/// So many servers, of which one may be down.
+/// Adds this many servers, of which one may be down.
 fn add_servers(
     alloc: Global,
     dice: &mut Dice,
@@ -43,7 +43,7 @@ fn add_servers(
     Ok(())
 }
 
-/// A shard with up to three replicas, each at the next server, of which the first may be the primary.
+/// Adds a shard with up to three replicas, each at the next server, of which the first may be the primary.
 fn add_shard(
     alloc: Global,
     dice: &mut Dice,
@@ -73,7 +73,7 @@ fn add_shard(
     Ok(())
 }
 
-/// So many servers, and up to 16 shards.
+/// Makes this many servers, and up to 16 shards.
 fn random_ground(alloc: Global, dice: &mut Dice, servers: u32) -> Result<Ground, AllocError>
     requires { 0 < servers }
 {
@@ -85,7 +85,7 @@ fn random_ground(alloc: Global, dice: &mut Dice, servers: u32) -> Result<Ground,
     Ok(ground)
 }
 
-/// A machine over a random placement of so many servers, if it opens.
+/// Opens a machine over a random placement of this many servers, if it opens.
 fn open_random(rt: &impl Abort, alloc: Global, dice: &mut Dice, servers: u32) -> Option<Run>
     requires { 0 < servers }
 {
@@ -95,7 +95,7 @@ fn open_random(rt: &impl Abort, alloc: Global, dice: &mut Dice, servers: u32) ->
     }
 }
 
-/// The server has nothing, and the placement is at rest.
+/// Asserts that the server has nothing, and the placement is at rest.
 fn assert_empty(rt: &impl Abort, run: &Run, server: u32) {
     let placement = run.machine.placement();
     for shard in 0..placement.config().shard_count() {
@@ -104,7 +104,7 @@ fn assert_empty(rt: &impl Abort, run: &Run, server: u32) {
     assert!(rt; placement.settled());
 }
 
-/// Empties a server, where there is a plan. Returns how many streams it has.
+/// Empties a server, if there is a plan. Returns the number of its streams.
 fn empty(rt: &impl Abort, alloc: Global, run: &mut Run, server: u32) -> Option<usize> {
     match run.begin_wanted(rt, alloc, &Wanted::Drain(server)) {
         Ok(()) => {

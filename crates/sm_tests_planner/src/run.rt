@@ -18,7 +18,7 @@ pub(crate) struct Run {
     pub permits: Vec<Permit>,
 }
 
-/// Opens a machine over a placement, where there is memory for it.
+/// Opens a machine over a placement if there is memory for it.
 pub(crate) fn open_over(rt: &impl Abort, alloc: Global, placement: Placement) -> Option<Run> {
     assert!(rt; placement.settled());
     match Machine::open(alloc, placement, 65_536) {
@@ -31,7 +31,7 @@ pub(crate) fn open_over(rt: &impl Abort, alloc: Global, placement: Placement) ->
     }
 }
 
-/// Opens a machine over the placement of a world, where there is memory for it.
+/// Opens a machine over the placement of a world if there is memory for it.
 pub(crate) fn open_or_not(rt: &impl Abort, alloc: Global, world: &World) -> Option<Run> {
     let Ok(ground) = Ground::of(alloc, world) else {
         return None;
@@ -86,13 +86,13 @@ impl Run {
         }
     }
 
-    /// A stream makes a step, by the place of its token.
+    /// Makes a step of a stream, by the place of its token.
     pub fn step(&mut self, rt: &impl Abort, token: usize) -> Step {
         assert!(rt; token < self.tokens.len());
         self.machine.step(&mut self.tokens[token])
     }
 
-    /// Each stream makes a step. Returns how many of them have made their end.
+    /// Makes a step of each stream. Returns how many of them have finished.
     fn step_each(&mut self, rt: &impl Abort) -> usize {
         let mut ended: usize = 0;
         for token in 0..self.tokens.len() {
@@ -106,7 +106,7 @@ impl Run {
         ended
     }
 
-    /// The streams make steps in turn until all have made their end.
+    /// Makes steps of the streams in turn until all have finished.
     pub fn run_to_end(&mut self, rt: &impl Abort) {
         for _ in 0..10_000 {
             if self.step_each(rt) == self.tokens.len() {
@@ -116,7 +116,7 @@ impl Run {
         panic!(rt; "the streams have no end");
     }
 
-    /// What a server has of a shard.
+    /// Returns what a server has of a shard.
     pub fn cell(&self, rt: &impl Abort, shard: u32, server: u32) -> Cell {
         let placement = self.machine.placement();
         assert!(rt; shard < placement.config().shard_count());

@@ -11,7 +11,7 @@ use sm_verifier::Checked;
 use std::alloc::{AllocError, Global};
 use std::process::Abort;
 
-/// What a plan is wanted for.
+/// The task that a plan is wanted for.
 #[derive(Clone, Copy)]
 pub(crate) enum Wanted {
     /// To make moves, each a shard, the server that it leaves, and the one to which it goes.
@@ -20,7 +20,7 @@ pub(crate) enum Wanted {
     Drain(u32),
 }
 
-/// A shard goes from one server to another.
+/// Returns the move of a shard from one server to another.
 pub(crate) const fn move_of(shard: u32, from: u32, to: u32) -> Move {
     Move {
         shard: ShardId::new(shard),
@@ -29,7 +29,7 @@ pub(crate) const fn move_of(shard: u32, from: u32, to: u32) -> Move {
     }
 }
 
-/// The moves of a table.
+/// Returns the moves of a table.
 fn moves_of(alloc: Global, table: &[(u32, u32, u32)]) -> Result<Vec<Move>, AllocError> {
     let mut moves = Vec::new(alloc);
     for (shard, from, to) in table {
@@ -38,7 +38,7 @@ fn moves_of(alloc: Global, table: &[(u32, u32, u32)]) -> Result<Vec<Move>, Alloc
     Ok(moves)
 }
 
-/// The shard and both servers are of the configuration.
+/// Tells whether the shard and both servers are of the configuration.
 fn is_known(config: &Config, wanted: &Move) -> bool
     ensures { IsTrue result ↔ IsMoveOf config.now wanted.now }
 {
@@ -47,14 +47,14 @@ fn is_known(config: &Config, wanted: &Move) -> bool
         && wanted.to.number() < config.server_count()
 }
 
-/// Each move is one of the configuration.
+/// Tells whether each move is one of the configuration.
 fn are_known(config: &Config, moves: &[Move]) -> bool
     ensures { IsTrue result ↔ All (IsMoveOf config.now) moves.now }
 {
     moves.iter().all(|wanted| is_known(config, wanted))
 }
 
-/// A plan that makes moves, which have to be known.
+/// Plans moves, which have to be known.
 pub(crate) fn plan_moves(
     rt: &impl Abort,
     alloc: Global,
@@ -67,7 +67,7 @@ pub(crate) fn plan_moves(
     moves(alloc, machine, list)
 }
 
-/// A plan that empties a server, which has to be known.
+/// Plans to empty a server, which has to be known.
 pub(crate) fn plan_drain(
     rt: &impl Abort,
     alloc: Global,
@@ -80,7 +80,7 @@ pub(crate) fn plan_drain(
     drain(alloc, machine, ServerId::new(server))
 }
 
-/// The plan that is wanted.
+/// Makes the plan that is wanted.
 pub(crate) fn plan_wanted(
     rt: &impl Abort,
     alloc: Global,

@@ -83,7 +83,7 @@ pub(crate) static WORKED: World = World {
     shards: &[S, T],
 };
 
-/// The worked placement where server 1 has room for 9, and not for 10.
+/// The worked placement if server 1 has room for 9, and not for 10.
 pub(crate) static NARROW: World = World {
     servers: &[("r1", 10), ("r2", 9), ("r1", 4)],
     down: &[],
@@ -104,7 +104,8 @@ pub(crate) static WIDE: World = World {
     shards: &[S, T, X],
 };
 
-/// Server 4 is down, and server 5 has nothing and room for nothing. Shards 3, 4 and 5 have no load and are to stand in two regions.
+/// A world in which server 4 is down, and server 5 has nothing and room for nothing. Shards 3, 4 and 5 have no load and
+/// are to be in two regions.
 pub(crate) static CITY: World = World {
     servers: &[
         ("r1", 10),
@@ -118,7 +119,7 @@ pub(crate) static CITY: World = World {
     shards: &[S, T, X, Y, Z, Z],
 };
 
-/// Servers 0 and 2 stand in one region, and the shard has to stand in two.
+/// A world in which servers 0 and 2 are in one region, and the shard has to be in two.
 pub(crate) static CLOSE: World = World {
     servers: &[("r1", 1), ("r2", 1), ("r1", 1)],
     down: &[],
@@ -133,7 +134,7 @@ pub(crate) static CLOSE: World = World {
     }],
 };
 
-/// What a placement is opened from.
+/// The parts that a placement is opened from.
 #[derive(Drop)]
 pub(crate) struct Ground {
     servers: Vec<Server>,
@@ -144,7 +145,7 @@ pub(crate) struct Ground {
 }
 
 impl Ground {
-    /// No servers and no shards.
+    /// Makes a ground of no servers and no shards.
     pub fn new(alloc: Global) -> Ground {
         Ground {
             servers: Vec::new(alloc),
@@ -162,7 +163,7 @@ impl Ground {
         Ok(self.servers.push(Server { name, region, room })?)
     }
 
-    /// A server is down.
+    /// Adds a server that is down.
     pub fn take_down(&mut self, server: u32) -> Result<(), AllocError> {
         Ok(self.down.push(ServerId::new(server))?)
     }
@@ -191,7 +192,7 @@ impl Ground {
         )
     }
 
-    /// A server has something of a shard.
+    /// Adds something that a server has of a shard.
     pub fn put(&mut self, shard: u32, server: u32, cell: Cell) -> Result<(), AllocError> {
         let (shard, server) = (ShardId::new(shard), ServerId::new(server));
         Ok(self.cells.push((shard, server, cell))?)
@@ -208,7 +209,7 @@ impl Ground {
         Ok(())
     }
 
-    /// The ground of a world.
+    /// Returns the ground of a world.
     pub fn of(alloc: Global, world: &World) -> Result<Ground, AllocError> {
         let mut ground = Ground::new(alloc);
         for (region, room) in world.servers {
@@ -225,7 +226,7 @@ impl Ground {
         Ok(ground)
     }
 
-    /// The placement, of which one server may be down, where it can be opened.
+    /// Returns the placement, of which one server may be down, if it can be opened.
     pub fn open(&self, alloc: Global) -> Option<Placement> {
         let Ok(config) = Config::new(alloc, &self.servers, &self.shards) else {
             return None;

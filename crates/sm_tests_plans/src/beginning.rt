@@ -11,7 +11,7 @@ use sm_verifier::{Checked, Holding};
 use std::alloc::{AllocError, Global};
 use std::process::Abort;
 
-/// A plan does not begin for this reason, and comes back.
+/// Asserts that a plan does not begin for this reason, and comes back.
 pub(super) fn assert_not_begun(
     rt: &impl Abort,
     alloc: Global,
@@ -34,7 +34,7 @@ pub(super) fn assert_not_begun(
     }
 }
 
-/// What holds up a second plan of the handover from a to b.
+/// Returns what holds up a second plan of the handover from a to b.
 const fn cell_key() -> Key {
     Key::CellRight {
         shard: ShardId::new(0),
@@ -56,7 +56,7 @@ fn a_second_plan_is_held(rt: HostRuntime) {
     let _placement = run.close();
 }
 
-/// The handover from a to b is held up by this.
+/// Asserts that this holds up the handover from a to b.
 fn assert_held(rt: &impl Abort, alloc: Global, run: &mut Run, holding: Holding) {
     let checked = handover_plan(alloc, World::Base, S_TO_B);
     assert_not_begun(rt, alloc, run, checked, BeginFault::Holding(holding));
@@ -75,7 +75,7 @@ fn two_plans_run_side_by_side(rt: HostRuntime) {
     assert_loads(&rt, &run.close(), &[6, 4, 4]);
 }
 
-/// Shard s has gone to b, and is about to come back by a second plan.
+/// Opens a run in which shard s has gone to b, and is about to come back by a second plan.
 fn gone_to_b(rt: &impl Abort, alloc: Global) -> Run {
     let mut run = open_in(rt, alloc, World::Base, 12);
     run.must_begin(rt, alloc, handover_plan(alloc, World::Base, S_TO_B));
@@ -84,7 +84,8 @@ fn gone_to_b(rt: &impl Abort, alloc: Global) -> Run {
     run
 }
 
-/// The token of an ended stream answers Done while another plan runs, and the machine stays as one at which it was not used.
+/// Checks that the token of an ended stream answers Done while another plan runs, and the machine stays as one at which
+/// it was not used.
 #[test]
 fn an_ended_token_changes_nothing(rt: HostRuntime) {
     let alloc = rt.alloc();

@@ -7,7 +7,7 @@ use sm_machine::Step;
 use std::alloc::Global;
 use std::process::Abort;
 
-/// The steps of the plan, each a stream and a position, in an order in which each of them can be made.
+/// Returns the steps of the plan, each a stream and a position, in an order in which each of them can be made.
 fn order_of(rt: &impl Abort, alloc: Global) -> Vec<(u32, u32)> {
     match signalled_plan(alloc, 0) {
         Ok(checked) => match Vec::from_slice(alloc, checked.order()) {
@@ -18,14 +18,14 @@ fn order_of(rt: &impl Abort, alloc: Global) -> Vec<(u32, u32)> {
     }
 }
 
-/// A machine that has begun the plan.
+/// Returns a machine that has begun the plan.
 fn begun(rt: &impl Abort, alloc: Global) -> Run {
     let mut run = open_in(rt, alloc, World::Wide, 14);
     run.must_begin(rt, alloc, signalled_plan(alloc, 0));
     run
 }
 
-/// The steps at some places of the order are made.
+/// Makes the steps at some places of the order.
 fn make(rt: &impl Abort, run: &mut Run, steps: &[(u32, u32)]) {
     for (stream, _) in steps {
         let answer = run.step(rt, *stream as usize);
@@ -33,7 +33,7 @@ fn make(rt: &impl Abort, run: &mut Run, steps: &[(u32, u32)]) {
     }
 }
 
-/// The machine is halted, and steps change nothing until it is resumed: it answers as one that was not halted.
+/// Halts the machine, and resumes it. Steps change nothing meanwhile, and it answers as one that was not halted.
 fn halt_and_resume(rt: &impl Abort, run: &mut Run, whole: &Run) {
     run.machine.halt();
     assert!(rt; is_same(&run.machine, &whole.machine));
@@ -44,7 +44,8 @@ fn halt_and_resume(rt: &impl Abort, run: &mut Run, whole: &Run) {
     assert!(rt; is_same(&run.machine, &whole.machine));
 }
 
-/// The plan that is halted before a step of the order, resumed and finished leaves all as a run that was not.
+/// Asserts that the plan that is halted before a step of the order, resumed and finished leaves all as a run that was
+/// not.
 fn assert_goes_on(rt: &impl Abort, alloc: Global, order: &[(u32, u32)], at: usize) {
     let mut run = begun(rt, alloc);
     let mut whole = begun(rt, alloc);

@@ -9,7 +9,7 @@ use sm_server::{Call, Cell, Role};
 use std::alloc::{AllocError, Global};
 use std::process::Abort;
 
-/// What the steps of a handover are answered, one after another.
+/// The answers to the steps of a handover, one after another.
 pub(super) const TO_THE_END: [Step; 6] = [
     Step::Moved,
     Step::Moved,
@@ -38,7 +38,7 @@ fn six_steps_make_the_handover(rt: HostRuntime) {
     assert_moved(&rt, &run.close());
 }
 
-/// The first end of a stream is recorded, and no later one.
+/// Checks that the first end of a stream is recorded, and no later one.
 #[test]
 fn an_empty_stream_is_done_twice(rt: HostRuntime) {
     let alloc = rt.alloc();
@@ -67,7 +67,8 @@ fn a_stream_is_blocked_until_its_signal_is_posted(rt: HostRuntime) {
     let _placement = run.close();
 }
 
-/// The placement, where the calls of numbers 2 and 1 added a replica of shard s at server b, and dropped it.
+/// Returns the placement after the calls of numbers 2 and 1, which added a replica of shard s at server b, and dropped
+/// it.
 fn numbered_placement(rt: &impl Abort, alloc: Global) -> Result<Placement, AllocError> {
     let mut placement = World::Base.placement(alloc, &[])?;
     let shard = shard_id(rt, &placement, 0);
@@ -80,7 +81,8 @@ fn numbered_placement(rt: &impl Abort, alloc: Global) -> Result<Placement, Alloc
     Ok(placement)
 }
 
-/// The first call of a machine has number 1, and it has its effect where a call of that number was the last one before.
+/// Checks that the first call of a machine has number 1, and has its effect if a call with that number was the last one
+/// before.
 #[test]
 fn numbers_from_before_the_opening_are_forgotten(rt: HostRuntime) {
     let alloc = rt.alloc();

@@ -11,14 +11,14 @@ use sm_task_controller::Denied;
 use std::alloc::Global;
 use std::process::Abort;
 
-/// A machine that has begun the worked handover, with so many places of the log.
+/// Opens a machine that has begun the worked handover, with a log of `log_room` places.
 fn begun(rt: &impl Abort, alloc: Global, log_room: u32) -> Run {
     let mut run = open_in(rt, alloc, World::Base, log_room);
     run.must_begin(rt, alloc, handover_plan(alloc, World::Base, S_TO_B));
     run
 }
 
-/// A plan does not begin without a place for each of its steps.
+/// Checks that a plan does not begin without a place for each of its steps.
 #[test]
 fn five_places_are_too_few(rt: HostRuntime) {
     let alloc = rt.alloc();
@@ -28,7 +28,7 @@ fn five_places_are_too_few(rt: HostRuntime) {
     let _placement = run.close();
 }
 
-/// Why the restart of server c is not approved; where it is, its permit goes to the machine's.
+/// Asks for the restart of server c. Returns why it is not approved; if it is, its permit goes to the machine's.
 fn approval_at_c(rt: &impl Abort, run: &mut Run) -> Result<(), Denied> {
     let server = server_id(rt, run.machine.placement(), 2);
     let permit = run.machine.approve(server)?;
@@ -38,7 +38,8 @@ fn approval_at_c(rt: &impl Abort, run: &mut Run) -> Result<(), Denied> {
     }
 }
 
-/// With so many places, a request and then the restart of server c are answered so, beside the handover, which ends.
+/// Asserts the answers to a request and then to the restart of server c, with a log of `log_room` places, beside the
+/// handover, which ends.
 fn assert_places(
     rt: &impl Abort,
     alloc: Global,
@@ -62,7 +63,7 @@ fn the_last_places_go_to_who_may_have_them(rt: HostRuntime) {
     assert_places(&rt, alloc, 9, Outcome::Executed(0), Ok(()));
 }
 
-/// A refill of the first stream is answered so.
+/// Asserts the answer to a refill of the first stream.
 pub(super) fn assert_refill(
     rt: &impl Abort,
     run: &mut Run,
@@ -73,7 +74,7 @@ pub(super) fn assert_refill(
     assert_eq!(rt; run.machine.refill(&mut run.tokens[0], more), answer);
 }
 
-/// A stream may be allowed 524,288 tries, of which its plan has 4.
+/// Checks that a stream may be allowed 524,288 tries, of which its plan has 4.
 #[test]
 fn refills_go_up_to_the_most_tries(rt: HostRuntime) {
     let alloc = rt.alloc();
@@ -89,7 +90,7 @@ fn refills_go_up_to_the_most_tries(rt: HostRuntime) {
     let _placement = run.close();
 }
 
-/// A refill takes a place for itself and one for each try, which come back where they were not needed.
+/// Checks that a refill takes a place for itself and one for each try, which come back if they were not needed.
 #[test]
 fn refills_take_places(rt: HostRuntime) {
     let alloc = rt.alloc();
@@ -105,7 +106,7 @@ fn refills_take_places(rt: HostRuntime) {
     let _placement = run.close();
 }
 
-/// A stream that was refilled at its end step is done.
+/// Checks that a stream that was refilled at its end step is done.
 #[test]
 fn a_refilled_stream_is_done(rt: HostRuntime) {
     let alloc = rt.alloc();

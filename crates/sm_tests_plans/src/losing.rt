@@ -8,13 +8,13 @@ use sm_machine::{Link, Step};
 use std::process::Abort;
 
 impl Run {
-    /// A stream makes a step over a link, by the place of its token.
+    /// Makes a step of a stream over a link, by the place of its token.
     fn step_over(&mut self, rt: &impl Abort, token: usize, link: &mut LosesEverySecond) -> Step {
         assert!(rt; token < self.tokens.len());
         self.machine.step_over(&mut self.tokens[token], link)
     }
 
-    /// A stream makes steps over a link until its end; how many were lost.
+    /// Makes steps of a stream over a link until its end. Returns how many were lost.
     fn go_to_end(&mut self, rt: &impl Abort, token: usize, link: &mut LosesEverySecond) -> u64 {
         let mut lost: u64 = 0;
         for _ in 0..32 {
@@ -29,7 +29,7 @@ impl Run {
     }
 }
 
-/// Eight calls go through, and one of two tries is lost: with the second try of each that is lost, there are fifteen.
+/// Makes eight calls, of which one of two tries is lost: with the second try of each that is lost, there are fifteen.
 #[test]
 fn what_is_lost_after_its_effect_is_made_once(rt: HostRuntime) {
     let alloc = rt.alloc();
@@ -52,7 +52,7 @@ fn what_is_lost_after_its_effect_is_made_once(rt: HostRuntime) {
     assert_primary(&rt, &placement, 2, 1, 1);
 }
 
-/// A link whose count cannot rise loses nothing.
+/// Checks that a link whose count cannot rise loses nothing.
 #[test]
 fn a_link_that_cannot_count_loses_nothing(rt: HostRuntime) {
     let alloc = rt.alloc();
@@ -69,7 +69,7 @@ fn a_link_that_cannot_count_loses_nothing(rt: HostRuntime) {
     assert_moved(&rt, &run.close());
 }
 
-/// Without retries the stream has spent its allowance before its last call, and a refill lets it go on.
+/// Checks that without retries the stream has spent its allowance before its last call, and a refill lets it go on.
 #[test]
 fn a_stream_that_has_spent_its_tries_goes_on_with_more(rt: HostRuntime) {
     let alloc = rt.alloc();

@@ -1,5 +1,5 @@
-//! Plans that begin, or for which there is no memory. `scripts/check-memory-tests` runs each of these tests with its first
-//! allocation refused, then with its second, and so on, and wants `reached` to be printed where none is refused.
+//! Plans that begin, or for which there is no memory. `scripts/check-memory-tests` runs each of these tests with its
+//! first allocation refused, then with its second, and so on, and wants `reached` to be printed if none is refused.
 use sm_fixtures::{World, is_for, is_signalled, signalled_plan};
 use sm_machine::{BeginFault, Machine, Step, StreamToken};
 use sm_placement::Placement;
@@ -8,7 +8,7 @@ use sm_verifier::Checked;
 use std::alloc::Global;
 use std::process::Abort;
 
-/// Nothing was begun, and nothing has happened.
+/// Asserts that nothing was begun, and nothing has happened.
 fn assert_untouched(rt: &impl Abort, machine: &Machine) {
     assert!(rt; machine.log().is_empty());
     assert_eq!(rt; machine.plan_count(), 0);
@@ -21,7 +21,7 @@ fn assert_untouched(rt: &impl Abort, machine: &Machine) {
     }
 }
 
-/// The first stream of a plan makes a step.
+/// Makes a step of the first stream of a plan.
 fn assert_goes_on(rt: &impl Abort, machine: &mut Machine, tokens: &mut Vec<StreamToken>) {
     assert_eq!(rt; tokens.len(), 2);
     assert_eq!(rt; machine.step(&mut tokens[0]), Step::Moved);
@@ -52,7 +52,7 @@ fn begun_or_not(
     }
 }
 
-/// Begins a plan at a machine over the placement, where there is memory for it.
+/// Begins a plan at a machine over the placement if there is memory for it.
 fn begin_at(rt: &(impl Print + Abort), alloc: Global, placement: Placement, checked: Checked) {
     assert!(rt; placement.settled());
     if let Ok((mut machine, permits)) = Machine::open(alloc, placement, 14) {
@@ -61,7 +61,7 @@ fn begin_at(rt: &(impl Print + Abort), alloc: Global, placement: Placement, chec
     }
 }
 
-/// Where an allocation is refused, `begin` says so, and the checked plan comes back.
+/// Checks that `begin` says so if an allocation is refused, and the checked plan comes back.
 #[test]
 fn a_plan_is_begun_or_not(rt: HostRuntime) {
     let alloc = rt.alloc();

@@ -17,7 +17,7 @@ pub(crate) struct Run {
     pub tickets: Vec<Ticket>,
 }
 
-/// Opens a machine over a placement, with so many places of the log.
+/// Opens a machine over a placement, with a log of `log_room` places.
 fn open(rt: &impl Abort, alloc: Global, placement: Placement, log_room: u32) -> Run {
     assert!(rt; placement.settled());
     match Machine::open(alloc, placement, log_room) {
@@ -31,7 +31,7 @@ fn open(rt: &impl Abort, alloc: Global, placement: Placement, log_room: u32) -> 
     }
 }
 
-/// Opens a machine over a placement for which there is memory, with so many places of the log.
+/// Opens a machine over a placement for which there is memory, with a log of `log_room` places.
 pub(crate) fn open_over(
     rt: &impl Abort,
     alloc: Global,
@@ -44,12 +44,12 @@ pub(crate) fn open_over(
     }
 }
 
-/// Opens a machine over the placement of a world, with so many places of the log.
+/// Opens a machine over the placement of a world, with a log of `log_room` places.
 pub(crate) fn open_in(rt: &impl Abort, alloc: Global, world: World, log_room: u32) -> Run {
     open_over(rt, alloc, world.placement(alloc, &[]), log_room)
 }
 
-/// What a request was answered, without its ticket.
+/// The answer to a request, without its ticket.
 #[derive(Clone, Copy, Debug, PartialEq, Eq)]
 pub(crate) enum Outcome {
     Executed(u32),
@@ -60,7 +60,7 @@ pub(crate) enum Outcome {
     Unknown,
 }
 
-/// Who executed a request.
+/// Returns which server executed a request.
 fn executed_by(answer: &Answer) -> u32 {
     match answer {
         Answer::Executed { server } => server.number(),
@@ -68,7 +68,7 @@ fn executed_by(answer: &Answer) -> u32 {
     }
 }
 
-/// What a request was answered; its ticket is abandoned.
+/// Returns the answer to a request, whose ticket is abandoned.
 pub(crate) fn outcome_of(answer: Answer) -> Outcome {
     let server = executed_by(&answer);
     match answer {
@@ -91,7 +91,7 @@ pub(crate) fn outcome_of(answer: Answer) -> Outcome {
     }
 }
 
-/// The ticket of a request that was passed on.
+/// Returns the ticket of a request that was passed on.
 pub(crate) fn ticket_of(rt: &impl Abort, answer: Answer) -> Ticket {
     match answer {
         Answer::Passed(ticket) => ticket,
@@ -136,27 +136,27 @@ impl Run {
         }
     }
 
-    /// A stream makes a step, by the place of its token.
+    /// Makes a step of a stream, by the place of its token.
     pub fn step(&mut self, rt: &impl Abort, token: usize) -> Step {
         assert!(rt; token < self.tokens.len());
         self.machine.step(&mut self.tokens[token])
     }
 
-    /// Asserts that the steps of a stream are answered so.
+    /// Asserts the answers to the steps of a stream.
     pub fn assert_steps(&mut self, rt: &impl Abort, token: usize, answers: &[Step]) {
         for answer in answers {
             assert_eq!(rt; self.step(rt, token), *answer);
         }
     }
 
-    /// A request for a shard comes to a server.
+    /// Asks a server for a shard.
     pub fn arrive(&mut self, rt: &impl Abort, shard: u32, server: u32) -> Answer {
         let shard = shard_id(rt, self.machine.placement(), shard);
         let server = server_id(rt, self.machine.placement(), server);
         self.machine.arrive(shard, server)
     }
 
-    /// How many instructions a stream of the first plan has made, and how many tries.
+    /// Returns the number of instructions that a stream of the first plan has made, and that of its tries.
     pub fn course(&self, rt: &impl Abort, stream: u32) -> (usize, u64, bool) {
         let id = StreamId { plan: 0, stream };
         assert!(rt; self.machine.is_begun(id));

@@ -1,4 +1,5 @@
-//! Whether two machines answer the same: their logs, entries, placements and pools, and how far their streams have come.
+//! Comparisons of two machines, which answer the same or not: their logs, entries, placements and pools, and how far
+//! their streams have come.
 ghost use Rattle.std.specs.Prelude.{◌≡◌, ◌<◌, length};
 
 use sm_machine::Machine;
@@ -6,7 +7,7 @@ use sm_placement::Placement;
 use sm_reservation::{Pool, StreamId};
 use sm_server::{ServerId, ShardId};
 
-/// The cells of a shard, and their last numbers.
+/// Tells whether the cells of a shard, and their last numbers, are the same.
 fn has_same_cells(one: &Placement, other: &Placement, shard: ShardId) -> bool
     requires one { shard < length one.now.setup.shards }
     requires other { shard < length other.now.setup.shards }
@@ -23,7 +24,7 @@ fn has_same_cells(one: &Placement, other: &Placement, shard: ShardId) -> bool
     true
 }
 
-/// The loads of the servers, and which of them are down.
+/// Tells whether the loads of the servers are the same, and those that are down.
 fn has_same_servers(one: &Placement, other: &Placement) -> bool
     requires { length one.now.setup.servers ≡ length other.now.setup.servers }
 {
@@ -36,7 +37,7 @@ fn has_same_servers(one: &Placement, other: &Placement) -> bool
     true
 }
 
-/// The placements are the same.
+/// Tells whether the placements are the same.
 fn is_same_placement(one: &Placement, other: &Placement) -> bool {
     if one.config().server_count() != other.config().server_count()
         || one.config().shard_count() != other.config().shard_count()
@@ -54,7 +55,7 @@ fn is_same_placement(one: &Placement, other: &Placement) -> bool {
         && one.limit() == other.limit()
 }
 
-/// The rights of a shard that pools of so many servers have.
+/// Tells whether pools for `servers` servers have the same rights of a shard.
 fn has_same_rights(one: &Pool, other: &Pool, shard: ShardId, servers: u32) -> bool {
     for number in 0..servers {
         let server = ServerId::new(number);
@@ -65,7 +66,7 @@ fn has_same_rights(one: &Pool, other: &Pool, shard: ShardId, servers: u32) -> bo
     one.crown(shard) == other.crown(shard) && one.spare(shard) == other.spare(shard)
 }
 
-/// The pools of so many shards and servers are the same.
+/// Tells whether the pools of this many shards and servers are the same.
 fn is_same_pool(one: &Pool, other: &Pool, shards: u32, servers: u32) -> bool {
     for number in 0..shards {
         if !has_same_rights(one, other, ShardId::new(number), servers) {
@@ -81,7 +82,7 @@ fn is_same_pool(one: &Pool, other: &Pool, shards: u32, servers: u32) -> bool {
     true
 }
 
-/// How far a stream has come, if it was begun.
+/// Tells whether a stream has come as far at both, if it was begun.
 fn has_same_course(one: &Machine, other: &Machine, id: StreamId) -> bool {
     if !one.is_begun(id) || !other.is_begun(id) {
         return one.is_begun(id) == other.is_begun(id);
@@ -92,13 +93,13 @@ fn has_same_course(one: &Machine, other: &Machine, id: StreamId) -> bool {
         && one.is_done(id) == other.is_done(id)
 }
 
-/// How far the first two streams of a plan have come.
+/// Tells whether the first two streams of a plan have come as far at both.
 fn has_same_courses(one: &Machine, other: &Machine, plan: u32) -> bool {
     has_same_course(one, other, StreamId { plan, stream: 0 })
         && has_same_course(one, other, StreamId { plan, stream: 1 })
 }
 
-/// Which streams engage the servers.
+/// Returns which streams engage the servers.
 fn has_same_engaged(one: &Machine, other: &Machine, servers: u32) -> bool {
     for number in 0..servers {
         let server = ServerId::new(number);
@@ -109,7 +110,7 @@ fn has_same_engaged(one: &Machine, other: &Machine, servers: u32) -> bool {
     true
 }
 
-/// Two machines that have begun at most two plans, of at most two streams each, answer the same.
+/// Tells whether two machines that have begun at most two plans, of at most two streams each, answer the same.
 pub(crate) fn is_same(one: &Machine, other: &Machine) -> bool {
     let servers = one.config().server_count();
     let shards = one.config().shard_count();

@@ -1,4 +1,4 @@
-//! What one machine gave out, at another one.
+//! Things that one machine gave out, at another one.
 use super::run::{Outcome, Run, open_in, outcome_of, ticket_of};
 use super::same::is_same;
 use super::worlds::server_id;
@@ -7,7 +7,7 @@ use sm_machine::{Answer, Permit, Step, Ticket};
 use std::alloc::Global;
 use std::process::Abort;
 
-/// A token of a machine whose plan the other one has not begun.
+/// Takes a token of a machine whose plan the other one has not begun.
 #[test]
 fn a_token_of_another_machine_is_unknown(rt: HostRuntime) {
     let alloc = rt.alloc();
@@ -23,13 +23,13 @@ fn a_token_of_another_machine_is_unknown(rt: HostRuntime) {
     let _placement = untouched.close();
 }
 
-/// The first token of a machine is unknown to another one.
+/// Asserts that the first token of a machine is unknown to another one.
 fn assert_unknown(rt: &impl Abort, run: &mut Run, other: &mut Run) {
     assert!(rt; !run.tokens.is_empty());
     assert_eq!(rt; other.machine.step(&mut run.tokens[0]), Step::Unknown);
 }
 
-/// A machine that has made two steps of the handover, and passed a request on; with its ticket.
+/// Returns a machine that has made two steps of the handover, and passed a request on; with its ticket.
 fn passing(rt: &impl Abort, alloc: Global, run: &mut Run) -> Ticket {
     run.must_begin(rt, alloc, handover_plan(alloc, World::Base, S_TO_B));
     run.assert_steps(rt, 0, &[Step::Moved, Step::Moved]);
@@ -40,7 +40,8 @@ fn passing(rt: &impl Abort, alloc: Global, run: &mut Run) -> Ticket {
     ticket
 }
 
-/// The first machine's ticket is executed at the second one, whose own ticket of that place is unknown then.
+/// Takes the first machine's ticket to the second one, which executes it, and whose own ticket of that place is unknown
+/// then.
 fn pass_between(rt: &impl Abort, alloc: Global, run: &mut Run, other: &mut Run) {
     let ticket = passing(rt, alloc, run);
     let executed = outcome_of(passed_on(rt, alloc, other, ticket));
@@ -48,7 +49,7 @@ fn pass_between(rt: &impl Abort, alloc: Global, run: &mut Run, other: &mut Run) 
     other.assert_recorded(rt, 4);
 }
 
-/// A machine passes a request on, then comes a ticket of another machine, and then its own one.
+/// Takes a ticket of another machine to one that has passed a request on, and then its own one.
 fn passed_on(rt: &impl Abort, alloc: Global, run: &mut Run, ticket: Ticket) -> Answer {
     let own = passing(rt, alloc, run);
     let answer = run.machine.pass_on(ticket);
@@ -68,7 +69,7 @@ fn a_ticket_of_another_machine_that_agrees_is_executed(rt: HostRuntime) {
     let _placement = other.close();
 }
 
-/// The permit for the restart of a server, which is approved.
+/// Returns the permit for the restart of a server, which is approved.
 fn approved(rt: &impl Abort, run: &mut Run, server: u32) -> Permit {
     let server = server_id(rt, run.machine.placement(), server);
     match run.machine.approve(server) {
@@ -77,7 +78,7 @@ fn approved(rt: &impl Abort, run: &mut Run, server: u32) -> Permit {
     }
 }
 
-/// A permit comes back from a machine whose server is up, and ends the restart at its own machine.
+/// Takes a permit to a machine whose server is up, from which it comes back, and ends the restart at its own machine.
 fn end_at_its_own(rt: &impl Abort, run: &mut Run, other: &mut Run, permit: Permit) {
     match other.machine.done(permit) {
         Err(permit) => {

@@ -1,11 +1,11 @@
-//! What is asked of the worked placements, and asserted of them.
+//! Questions to the worked placements, and assertions about them.
 ghost use Rattle.std.specs.Prelude.{◌<◌, length};
 
 use sm_placement::Placement;
 use sm_server::{Cell, ServerId, ShardId};
 use std::process::Abort;
 
-/// The id of a server, which has to be there.
+/// Returns the id of a server, which has to be there.
 pub(crate) fn server_id(rt: &impl Abort, placement: &Placement, server: u32) -> ServerId
     ensures { result < length placement.now.setup.servers }
 {
@@ -13,7 +13,7 @@ pub(crate) fn server_id(rt: &impl Abort, placement: &Placement, server: u32) -> 
     ServerId::new(server)
 }
 
-/// The id of a shard, which has to be there.
+/// Returns the id of a shard, which has to be there.
 pub(crate) fn shard_id(rt: &impl Abort, placement: &Placement, shard: u32) -> ShardId
     ensures { result < length placement.now.setup.shards }
 {
@@ -21,7 +21,7 @@ pub(crate) fn shard_id(rt: &impl Abort, placement: &Placement, shard: u32) -> Sh
     ShardId::new(shard)
 }
 
-/// What a server has of a shard.
+/// Returns what a server has of a shard.
 pub(crate) fn cell_at(rt: &impl Abort, placement: &Placement, shard: u32, server: u32) -> Cell {
     let shard = shard_id(rt, placement, shard);
     let server = server_id(rt, placement, server);

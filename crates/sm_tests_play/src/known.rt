@@ -1,4 +1,4 @@
-//! What a caller tests before it plays a list of events.
+//! The tests that a caller makes before it plays a list of events.
 ghost use Rattle.std.specs.Prelude.{◌≡◌, IsTrue, IfSome};
 ghost use Rattle.std.specs.List.{AllByRecursion};
 ghost use Rattle.sm_protocol.specs.Laws.{NamesKnown};
@@ -9,7 +9,7 @@ use sm_fixtures::is_for;
 use sm_machine::{Machine, ReadyPlan};
 use sm_protocol::Event;
 
-/// Each event names what is known to the machine.
+/// Tells whether each event names what is known to the machine.
 pub(crate) fn are_known(machine: &Machine, events: &[Event]) -> bool
     ensures { IsTrue result → AllByRecursion (NamesKnown (state_of machine.now).sizes) events.now }
 {
@@ -21,7 +21,7 @@ pub(crate) fn are_known(machine: &Machine, events: &[Event]) -> bool
     true
 }
 
-/// The plan, if there is one, was checked for the machine's configuration.
+/// Tells whether the plan, if there is one, was checked for the machine's configuration.
 fn fits(machine: &Machine, plan: &Option<ReadyPlan>) -> bool
     ensures { IsTrue result → IfSome plan.now (λ p. p.setup ≡ machine.now.placement.setup) }
 {
@@ -31,7 +31,7 @@ fn fits(machine: &Machine, plan: &Option<ReadyPlan>) -> bool
     }
 }
 
-/// Each plan of a hand was checked for the machine's configuration.
+/// Tells whether each plan of a hand was checked for the machine's configuration.
 pub(crate) fn are_for(machine: &Machine, plans: &[Option<ReadyPlan>]) -> bool
     ensures { IsTrue result → AreFor machine.now.placement.setup plans.now }
 {

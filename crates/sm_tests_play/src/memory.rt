@@ -1,5 +1,6 @@
-//! Plans that are made ready and events that are played, or for which there is no memory. `scripts/check-memory-tests` runs each of
-//! these tests with its first allocation refused, then with its second, and so on, and wants `reached` to be printed where none is refused.
+//! Plans that are made ready and events that are played, or for which there is no memory. `scripts/check-memory-tests`
+//! runs each of these tests with its first allocation refused, then with its second, and so on, and wants `reached` to
+//! be printed if none is refused.
 use super::table::{Table, open};
 use sm_fixtures::{
     S_TO_B, World, approve, arrive, begin, executed, handover_plan, is_handover, pass_on, step,
@@ -23,7 +24,7 @@ fn assert_made_ready(rt: &(impl Print + Abort), alloc: Global, checked: Checked)
     }
 }
 
-/// Where an allocation is refused, `make_ready` says so, and the checked plan comes back.
+/// Checks that `make_ready` says so if an allocation is refused, and the checked plan comes back.
 #[test]
 fn a_plan_is_made_ready_or_not(rt: HostRuntime) {
     let alloc = rt.alloc();
@@ -32,7 +33,7 @@ fn a_plan_is_made_ready_or_not(rt: HostRuntime) {
     }
 }
 
-/// Events that put a token, a permit and a ticket into the hand, and take one of them out.
+/// Returns events that put a token, a permit and a ticket into the hand, and take one of them out.
 const fn events() -> [Event; 6] {
     [
         approve(2),
@@ -67,7 +68,7 @@ fn assert_played(rt: &impl Abort, table: &Table, answers: &[Played]) {
     assert!(rt; hand.tokens.len() == 1 && hand.permits.len() == 1 && hand.tickets.is_empty());
 }
 
-/// Where an allocation is refused, `play` says so, and machine and hand are as before.
+/// Checks that `play` says so if an allocation is refused, and machine and hand are as before.
 #[test]
 fn events_are_played_or_not(rt: HostRuntime) {
     let alloc = rt.alloc();

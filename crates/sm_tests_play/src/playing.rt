@@ -14,7 +14,7 @@ use sm_verifier::Holding;
 use std::alloc::Global;
 use std::process::Abort;
 
-/// A machine with the handover of shard s from a to b in its hand, with so many retries.
+/// Opens a machine with the handover of shard s from a to b in its hand, with `retries` retries.
 fn with_handover(rt: &impl Abort, alloc: Global, log_room: u32, retries: u32) -> Table {
     let mut table = must_open(rt, alloc, log_room);
     add_plan(rt, alloc, &mut table, WorkedMove { retries, ..S_TO_B });
@@ -27,13 +27,13 @@ fn add_plan(rt: &impl Abort, alloc: Global, table: &mut Table, moved: WorkedMove
     assert!(rt; added.is_ok());
 }
 
-/// Plays events that are answered so, for which there is memory.
+/// Plays events for which there is memory, and asserts their answers.
 fn play(rt: &impl Abort, alloc: Global, table: &mut Table, turns: &[Turn]) {
     let played = table.assert_play(rt, alloc, turns);
     assert!(rt; played.is_ok());
 }
 
-/// The machine is given up when shard s has gone to b.
+/// Gives the machine up when shard s has gone to b.
 fn close_moved(rt: &impl Abort, table: Table) {
     let placement = table.close();
     assert_cells(
@@ -50,7 +50,7 @@ fn close_moved(rt: &impl Abort, table: Table) {
     );
 }
 
-/// The handover, each of whose steps is answered so; what the hand has nothing for is Unknown.
+/// Returns the handover, with the answer to each of its steps. Events for which the hand has nothing are Unknown.
 const fn handover() -> [Turn; 11] {
     [
         (step(0), Played::Unknown),
@@ -149,7 +149,7 @@ fn restarts_are_played(rt: HostRuntime) {
     let _placement = table.close();
 }
 
-/// The handover with lost calls, whose stream has spent its six tries before its last call goes through.
+/// Returns the handover with lost calls, whose stream has spent its six tries before its last call goes through.
 const fn losses() -> [Turn; 17] {
     [
         (lose(0, false), Played::Unknown),
@@ -172,7 +172,7 @@ const fn losses() -> [Turn; 17] {
     ]
 }
 
-/// The stream's recorded steps are seven tries, a publication and its end.
+/// Checks that the stream's recorded steps are seven tries, a publication and its end.
 #[test]
 fn losses_and_refills_are_played(rt: HostRuntime) {
     let alloc = rt.alloc();
@@ -183,7 +183,7 @@ fn losses_and_refills_are_played(rt: HostRuntime) {
     close_moved(&rt, table);
 }
 
-/// The token that came last into the hand is retired, with so many recorded steps.
+/// Asserts that the token that came last into the hand is retired, with this many recorded steps.
 fn assert_retired(rt: &impl Abort, table: &mut Table, steps: u64) {
     match table.hand.tokens.pop() {
         Some(token) => match table.machine.retire(token) {
@@ -194,7 +194,7 @@ fn assert_retired(rt: &impl Abort, table: &mut Table, steps: u64) {
     }
 }
 
-/// What holds up a handover of shard s.
+/// Returns what holds up a handover of shard s.
 const fn held_up(holding: Holding) -> Played {
     Played::NotBegun(BeginFault::Holding(holding))
 }
@@ -206,7 +206,7 @@ const fn cell(server: u32) -> Key {
     }
 }
 
-/// The handover from a to b at places 0 and 1, and that from b to a at place 2.
+/// Returns the handover from a to b at places 0 and 1, and that from b to a at place 2.
 const fn starts() -> [Turn; 14] {
     [
         (begin(2), held_up(Holding::Untrue { key: cell(0) })),
@@ -246,7 +246,7 @@ fn a_plan_that_does_not_start_stays_in_its_place(rt: HostRuntime) {
     let _placement = table.close();
 }
 
-/// Steps of a halted machine change nothing; all else goes on.
+/// Checks that steps of a halted machine change nothing, and all other events go on.
 #[test]
 fn a_halted_machine_plays(rt: HostRuntime) {
     let alloc = rt.alloc();

@@ -10,10 +10,10 @@ use sm_protocol::{Event, Played};
 use std::alloc::Global;
 use std::process::Abort;
 
-/// How many events are made.
+/// The number of events that are made.
 const EVENTS: u32 = 1_000;
 
-/// How many places the log has: fewer than the events would take.
+/// The number of places of the log: fewer than the events would take.
 const PLACES: u32 = 220;
 
 /// The plans in the hand: each shard goes between a and b, again and again.
@@ -33,7 +33,7 @@ static MOVES: [WorkedMove; 4] = [
     },
 ];
 
-/// Opens a machine with so many rounds of the plans in its hand.
+/// Opens a machine with this many rounds of the plans in its hand.
 fn open_with(rt: &impl Abort, alloc: Global, rounds: u32) -> Table {
     let mut table = must_open(rt, alloc, PLACES);
     for _ in 0..rounds {
@@ -45,7 +45,7 @@ fn open_with(rt: &impl Abort, alloc: Global, rounds: u32) -> Table {
     table
 }
 
-/// The number of a plan: mostly one of the last that were begun.
+/// Returns the number of a plan: mostly one of the last that were begun.
 fn random_plan(dice: &mut Dice, table: &Table) -> u32 {
     let begun = table.machine.plan_count().min(1_000) as u32;
     if dice.roll(4) == 0 {
@@ -55,7 +55,7 @@ fn random_plan(dice: &mut Dice, table: &Table) -> u32 {
     begun.saturating_sub(back)
 }
 
-/// A place of the log: that of a request under way, if there is one.
+/// Returns a place of the log: that of a request under way, if there is one.
 fn random_place(dice: &mut Dice, table: &Table) -> u32 {
     let tickets = table.hand.tickets.as_slice();
     if tickets.is_empty() || dice.roll(4) == 0 {
@@ -64,7 +64,7 @@ fn random_place(dice: &mut Dice, table: &Table) -> u32 {
     tickets[0].place()
 }
 
-/// An event.
+/// Rolls an event.
 fn random_event(dice: &mut Dice, table: &Table) -> Event {
     match dice.roll(32) {
         0..=12 => step(random_plan(dice, table)),
@@ -102,7 +102,8 @@ fn add<T>(rt: &impl Abort, list: &mut Vec<T>, value: Option<T>) {
     }
 }
 
-/// Which kind of answer it is, by its place in the type; why a start, a refill or a restart is not made aside.
+/// Returns the kind of an answer, by its place in the type; the reasons why a start, a refill or a restart is not made
+/// aside.
 const fn kind_of(answer: &Played) -> usize {
     match answer {
         Played::Moved => 0,
@@ -183,7 +184,8 @@ fn a_list_and_single_calls_leave_the_same(rt: HostRuntime) {
     let _placement = listed.close();
 }
 
-/// Makes events at one machine by single calls, and at the other one by one list; they are answered alike.
+/// Makes events at one machine by single calls, and at the other one by one list, and asserts that the answers are
+/// alike.
 fn compare(rt: &impl Abort, alloc: Global, singly: &mut Table, listed: &mut Table) {
     let mut events = Vec::new(alloc);
     let mut answers = Vec::new(alloc);

@@ -9,7 +9,7 @@ use sm_reservation::StreamId;
 use sm_server::{ServerId, ShardId};
 use std::process::Abort;
 
-/// The place of a stream's token.
+/// Returns the place of a stream's token.
 fn token_place(tokens: &[StreamToken], id: StreamId) -> Option<usize> {
     for at in 0..tokens.len() {
         if tokens[at].id() == id {
@@ -20,7 +20,7 @@ fn token_place(tokens: &[StreamToken], id: StreamId) -> Option<usize> {
 }
 
 impl Table {
-    /// A stream makes its next step, and loses its call where a link is given.
+    /// Makes a stream's next step, and loses its call if a link is given.
     fn single_step(&mut self, rt: &impl Abort, id: StreamId, loses: Option<bool>) -> Played {
         let Some(at) = token_place(self.hand.tokens.as_slice(), id) else {
             return Played::Unknown;
@@ -36,7 +36,7 @@ impl Table {
         Played::from(step)
     }
 
-    /// A stream's allowance is raised.
+    /// Raises a stream's allowance.
     fn single_refill(&mut self, rt: &impl Abort, id: StreamId, more: u32) -> Played {
         let Some(at) = token_place(self.hand.tokens.as_slice(), id) else {
             return Played::Unknown;
@@ -48,7 +48,7 @@ impl Table {
         }
     }
 
-    /// What a request was answered; its ticket is kept.
+    /// Returns the answer to a request, whose ticket is kept.
     fn settle(&mut self, rt: &impl Abort, answer: Answer) -> Played {
         let played = answered(&answer);
         match answer {
@@ -63,7 +63,7 @@ impl Table {
         played
     }
 
-    /// A request for a shard comes to a server.
+    /// Asks a server for a shard.
     fn single_arrive(&mut self, rt: &impl Abort, shard: ShardId, server: ServerId) -> Played {
         let shard = shard_id(rt, self.machine.placement(), shard.number());
         let server = server_id(rt, self.machine.placement(), server.number());
@@ -71,7 +71,7 @@ impl Table {
         self.settle(rt, answer)
     }
 
-    /// The request of a ticket comes to the server that it was passed to.
+    /// Brings the request of a ticket to the server that it was passed to.
     fn single_pass_on(&mut self, rt: &impl Abort, place: u32) -> Played {
         let Some(at) = ticket_place(self.hand.tickets.as_slice(), place) else {
             return Played::Unknown;
@@ -82,7 +82,7 @@ impl Table {
         self.settle(rt, answer)
     }
 
-    /// The cluster manager asks for the restart of a server.
+    /// Asks for the restart of a server.
     fn single_approve(&mut self, rt: &impl Abort, server: ServerId) -> Played {
         let server = server_id(rt, self.machine.placement(), server.number());
         match self.machine.approve(server) {
@@ -94,7 +94,7 @@ impl Table {
         }
     }
 
-    /// The restart of a server ends. Of servers one at most is down.
+    /// Ends the restart of a server. At most one server is down.
     fn single_done(&mut self, rt: &impl Abort, server: ServerId) -> Played {
         let Some(permit) = self.hand.permits.pop() else {
             return Played::Unknown;
@@ -109,7 +109,7 @@ impl Table {
         }
     }
 
-    /// The plan at a place starts.
+    /// Starts the plan at a place.
     fn single_begin(&mut self, rt: &impl Abort, place: u32) -> Played {
         let at = place as usize;
         if at >= self.hand.plans.len() {
@@ -121,7 +121,7 @@ impl Table {
         }
     }
 
-    /// A plan starts that stood at a place, or goes back there.
+    /// Starts a plan that stood at a place, or puts it back there.
     fn start(&mut self, rt: &impl Abort, at: usize, ready: ReadyPlan) -> Played {
         assert!(rt; is_for(self.machine.config(), ready.checked()));
         let number = self.machine.plan_count();

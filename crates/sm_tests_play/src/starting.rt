@@ -8,7 +8,7 @@ use sm_verifier::Holding;
 use std::alloc::Global;
 use std::process::Abort;
 
-/// The handover of shard s from a to b, ready to start.
+/// Returns the handover of shard s from a to b, ready to start.
 fn ready(rt: &impl Abort, alloc: Global) -> ReadyPlan {
     match handover_plan(alloc, World::Base, S_TO_B) {
         Ok(checked) => match make_ready(alloc, checked) {
@@ -19,7 +19,7 @@ fn ready(rt: &impl Abort, alloc: Global) -> ReadyPlan {
     }
 }
 
-/// The first plan starts, whose one token goes into the hand.
+/// Starts the first plan, whose one token goes into the hand.
 fn start(rt: &impl Abort, table: &mut Table, ready: ReadyPlan) {
     assert!(rt; is_for(table.machine.config(), ready.checked()));
     match table.machine.start(ready) {
@@ -33,7 +33,7 @@ fn start(rt: &impl Abort, table: &mut Table, ready: ReadyPlan) {
     }
 }
 
-/// A plan does not start for this reason, and comes back ready.
+/// Asserts that a plan does not start for this reason, and comes back ready.
 fn not_started(
     rt: &impl Abort,
     table: &mut Table,
@@ -51,7 +51,7 @@ fn not_started(
     }
 }
 
-/// The stream of the first token makes steps, which are answered so.
+/// Makes steps of the first token's stream, and asserts their answers.
 fn assert_steps(rt: &impl Abort, table: &mut Table, answers: &[Step]) {
     for answer in answers {
         assert!(rt; !table.hand.tokens.is_empty());
@@ -59,7 +59,7 @@ fn assert_steps(rt: &impl Abort, table: &mut Table, answers: &[Step]) {
     }
 }
 
-/// What the steps of a handover are answered.
+/// The answers to the steps of a handover.
 const TO_THE_END: [Step; 6] = [
     Step::Moved,
     Step::Moved,
@@ -69,7 +69,7 @@ const TO_THE_END: [Step; 6] = [
     Step::Done,
 ];
 
-/// Shard s's place at b, which the handover takes.
+/// Returns the key of shard s's place at b, which the handover takes.
 const fn place_at_b() -> Key {
     Key::CellRight {
         shard: ShardId::new(0),
@@ -110,7 +110,7 @@ fn a_plan_starts_where_the_log_has_its_places(rt: HostRuntime) {
     let _placement = table.close();
 }
 
-/// The last token of the hand is retired, with so many recorded steps, or comes back.
+/// Asserts that the last token of the hand is retired, with this many recorded steps, or comes back.
 fn assert_retired(rt: &impl Abort, table: &mut Table, want: Option<u64>) {
     match table.hand.tokens.pop() {
         Some(token) => match table.machine.retire(token) {
@@ -124,7 +124,7 @@ fn assert_retired(rt: &impl Abort, table: &mut Table, want: Option<u64>) {
     }
 }
 
-/// A stream's recorded steps are those of its five instructions and its end.
+/// Checks that a stream's recorded steps are those of its five instructions and its end.
 #[test]
 fn a_token_is_retired_at_the_end_of_its_stream(rt: HostRuntime) {
     let alloc = rt.alloc();

@@ -13,7 +13,7 @@ pub(crate) struct Table {
     pub hand: Hand,
 }
 
-/// Opens a machine over the worked placement, with so many places of the log and an empty hand.
+/// Opens a machine over the worked placement, with a log of `log_room` places and an empty hand.
 pub(crate) fn open(rt: &impl Abort, alloc: Global, log_room: u32) -> Result<Table, AllocError> {
     let placement = World::Base.placement(alloc, &[])?;
     assert!(rt; placement.settled());
@@ -98,7 +98,7 @@ impl Table {
         self.machine.play(alloc, &mut self.hand, events)
     }
 
-    /// Plays events, and asserts how they are answered.
+    /// Plays events, and asserts their answers.
     pub fn assert_play(
         &mut self,
         rt: &impl Abort,
@@ -132,7 +132,7 @@ impl Table {
     }
 }
 
-/// The events of turns.
+/// Returns the events of turns.
 fn events_of(alloc: Global, turns: &[Turn]) -> Result<Vec<Event>, AllocError> {
     let mut events = Vec::new(alloc);
     for (event, _) in turns {
@@ -141,7 +141,7 @@ fn events_of(alloc: Global, turns: &[Turn]) -> Result<Vec<Event>, AllocError> {
     Ok(events)
 }
 
-/// Asserts that the events of turns are answered so.
+/// Asserts the answers to the events of turns.
 pub(crate) fn assert_answers(rt: &impl Abort, answers: &[Played], turns: &[Turn]) {
     assert_eq!(rt; answers.len(), turns.len());
     for at in 0..turns.len() {

@@ -47,7 +47,7 @@ pub(crate) fn at(server: u32) -> Lead {
     Lead::At(ServerId::new(server))
 }
 
-/// The crown of a shard whose primary and listed server is this one.
+/// Returns the crown of a shard whose primary and listed server is this one.
 pub(crate) fn steady_crown(shard: u32, server: u32) -> Crown {
     crown(shard, at(server), Some(ServerId::new(server)))
 }
@@ -87,7 +87,7 @@ pub(crate) const fn only_spare(shard: u32, amount: u64) -> Portion {
     }
 }
 
-/// What a handover of shard 0 from server 0 to server 1 asks for: the crown, the cell and room.
+/// Returns what a handover of shard 0 from server 0 to server 1 asks for: the crown, the cell and room.
 pub(crate) fn handover() -> Portion {
     Portion {
         cell: Some(cell(0, 1, PlainCell::Absent)),
@@ -97,7 +97,7 @@ pub(crate) fn handover() -> Portion {
     }
 }
 
-/// So much of a key was there, and so much was asked for.
+/// Returns the fault that `asked` were asked for of a key of which there were `had`.
 pub(crate) const fn short(key: Key, had: u64, asked: u64) -> Short {
     Short { key, had, asked }
 }
@@ -117,7 +117,7 @@ pub(crate) fn lists(
     })
 }
 
-/// The parcel of these rights, in which no key stands twice.
+/// Returns the parcel of these rights, in which no key stands twice.
 pub(crate) fn parcel(
     alloc: Global,
     cells: &[CellRight],
@@ -129,7 +129,7 @@ pub(crate) fn parcel(
     Parcel::new(alloc, lists).ok().ok_or(AllocError)
 }
 
-/// The parcel of a portion's rights.
+/// Returns the parcel of a portion's rights.
 pub(crate) fn parcel_of(alloc: Global, portion: &Portion) -> Result<Parcel, AllocError> {
     parcel(
         alloc,
@@ -140,7 +140,7 @@ pub(crate) fn parcel_of(alloc: Global, portion: &Portion) -> Result<Parcel, Allo
     )
 }
 
-/// Whether a parcel has these rights, and no others.
+/// Tells whether a parcel has these rights, and no others.
 pub(crate) fn has(
     parcel: &Parcel,
     cells: &[CellRight],
@@ -154,7 +154,7 @@ pub(crate) fn has(
         && parcel.spare() == spare
 }
 
-/// Whether a hold has these rights, and no others.
+/// Tells whether a hold has these rights, and no others.
 fn holds(hold: &Hold, want: &Portion) -> bool {
     hold.cells() == want.cell.as_slice()
         && hold.crowns() == want.crown.as_slice()
@@ -185,7 +185,7 @@ fn shard(alloc: Global, name: &str, load: u64, want: u32, cap: u32) -> Result<Sh
     })
 }
 
-/// Servers of these names and rooms.
+/// Makes servers of these names and rooms.
 fn servers(alloc: Global, rows: &[(&str, u64)]) -> Result<Vec<Server>, AllocError> {
     let mut servers = Vec::new(alloc);
     for (name, room) in rows {
@@ -194,7 +194,7 @@ fn servers(alloc: Global, rows: &[(&str, u64)]) -> Result<Vec<Server>, AllocErro
     Ok(servers)
 }
 
-/// Shards of these names, loads, wants and caps.
+/// Makes shards of these names, loads, wants and caps.
 fn shards(alloc: Global, rows: &[(&str, u64, u32, u32)]) -> Result<Vec<Shard>, AllocError> {
     let mut shards = Vec::new(alloc);
     for (name, load, want, cap) in rows {
@@ -203,7 +203,7 @@ fn shards(alloc: Global, rows: &[(&str, u64, u32, u32)]) -> Result<Vec<Shard>, A
     Ok(shards)
 }
 
-/// The configuration of these servers, and of the shards of these rows.
+/// Returns the configuration of these servers, and of the shards of these rows.
 fn config(
     alloc: Global,
     servers: &[Server],
@@ -218,13 +218,13 @@ fn worked_config(alloc: Global) -> Result<Config, AllocError> {
     config(alloc, &servers, &[("s", 4, 2, 1), ("t", 6, 1, 0)])
 }
 
-/// The pool of a placement, which has to be settled.
+/// Returns the pool of a placement, which has to be settled.
 fn pool_of(rt: &impl Abort, alloc: Global, placement: &Placement) -> Result<Pool, AllocError> {
     assert!(rt; placement.settled());
     Pool::open(alloc, placement)
 }
 
-/// The pool of a placement of these cells and listed servers.
+/// Returns the pool of a placement of these cells and listed servers.
 fn opened(
     rt: &impl Abort,
     alloc: Global,
@@ -237,7 +237,7 @@ fn opened(
     pool_of(rt, alloc, &placement)
 }
 
-/// The pool of the worked placement, where there is memory.
+/// Returns the pool of the worked placement if there is memory.
 pub(crate) fn worked_pool(rt: &impl Abort, alloc: Global) -> Result<Pool, AllocError> {
     let config = worked_config(alloc)?;
     let cells = [
@@ -254,7 +254,7 @@ fn narrow_config(alloc: Global) -> Result<Config, AllocError> {
     config(alloc, &servers, &[("s", 4, 1, 0)])
 }
 
-/// The pool of one server with room for 10, which is the primary of one shard of load 4.
+/// Returns the pool of one server with room for 10, which is the primary of one shard of load 4.
 pub(crate) fn narrow_pool(rt: &impl Abort, alloc: Global) -> Result<Pool, AllocError> {
     let config = narrow_config(alloc)?;
     let (shard, server) = (ShardId::new(0), ServerId::new(0));
@@ -278,13 +278,13 @@ pub(crate) fn taken(alloc: Global, pool: &mut Pool, rights: &Parcel) -> Result<G
     }
 }
 
-/// Gives a grant back, where its condition is met.
+/// Gives a grant back if its condition is met.
 pub(crate) fn give_back(rt: &impl Abort, pool: &mut Pool, grant: Grant) {
     assert!(rt; pool.can_join(&grant));
     pool.give_back(grant);
 }
 
-/// Whether a pool has all rights to cells that are true of the worked placement.
+/// Tells whether a pool has all rights to cells that are true of the worked placement.
 fn has_worked_cells(pool: &Pool) -> bool {
     let absent = Some(PlainCell::Absent);
     let cells = [
@@ -303,7 +303,7 @@ fn has_worked_cells(pool: &Pool) -> bool {
     true
 }
 
-/// Whether a pool has all crowns that are true of the worked placement.
+/// Tells whether a pool has all crowns that are true of the worked placement.
 fn has_worked_crowns(pool: &Pool) -> bool {
     pool.crown(ShardId::new(0)) == Some((at(0), Some(ServerId::new(0))))
         && pool.crown(ShardId::new(1)) == Some((at(1), Some(ServerId::new(1))))
@@ -316,7 +316,7 @@ pub(crate) fn assert_worked(rt: &impl Abort, pool: &Pool) {
     assert_amounts(rt, pool, [6, 4, 0, 0], [1, 0, 0]);
 }
 
-/// Whether a pool has so much room and so many spare replicas, by the first servers and shards.
+/// Tells whether a pool has these amounts of room and of spare replicas, at the first servers and shards.
 fn has_amounts(pool: &Pool, rooms: [u64; 4], spares: [u64; 3]) -> bool {
     let room = [
         pool.room(ServerId::new(0)),

@@ -8,7 +8,7 @@ use std::alloc::{AllocError, Global};
 use std::process::Abort;
 use std::test::Fail;
 
-/// Splits a parcel off, where the conditions are met.
+/// Splits a parcel off if the conditions are met.
 fn split(
     rt: &impl Abort,
     from: &mut Grant,
@@ -49,7 +49,7 @@ fn assert_takes(
     Ok(())
 }
 
-/// The right to a cell of shard 0, and room of server 1.
+/// Returns the right to a cell of shard 0, and room of server 1.
 const fn cell_and_room(server: u32, state: PlainCell, amount: u64) -> Portion {
     Portion {
         cell: Some(cell(0, server, state)),
@@ -93,7 +93,7 @@ fn split_off(
     outcome
 }
 
-/// Whether a hold has these cells and room of server 1, and nothing else.
+/// Tells whether a hold has these cells and room of server 1, and nothing else.
 fn is_filled(hold: &Hold, cells: &[CellRight]) -> bool {
     hold.cells() == cells
         && hold.crowns().is_empty()
@@ -116,7 +116,7 @@ fn fill_by_splits(rt: &impl Abort, alloc: Global, pool: &mut Pool) -> Result<(),
     outcome
 }
 
-/// A grant is filled to its room, and a key that is there asks for none.
+/// Checks that a grant is filled to its room, and a key that is there asks for none.
 #[test]
 fn a_grant_is_filled_to_its_room(rt: HostRuntime) -> Result<(), Fail> {
     let mut pool = worked_pool(&rt, rt.alloc())?;
@@ -125,7 +125,7 @@ fn a_grant_is_filled_to_its_room(rt: HostRuntime) -> Result<(), Fail> {
     Ok(())
 }
 
-/// Joins a grant of these rights to another, where the conditions are met.
+/// Joins a grant of these rights to another if the conditions are met.
 fn join(rt: &impl Abort, into: &mut Grant, grant: Grant, rights: &Parcel)
     requires { grant.rights ≡ rights.now }
 {
@@ -162,7 +162,7 @@ fn join_once(
     outcome
 }
 
-/// A grant takes all rights of another in.
+/// Checks that a grant takes all rights of another in.
 #[test]
 fn grants_are_joined(rt: HostRuntime) -> Result<(), Fail> {
     let rights = Portion {
@@ -204,7 +204,7 @@ fn keep_each(
     Ok(())
 }
 
-/// One right of a kind is enough.
+/// Checks that one right of a kind is enough.
 #[test]
 fn a_grant_that_holds_something_comes_back(rt: HostRuntime) -> Result<(), Fail> {
     let all = [
@@ -265,7 +265,7 @@ fn end_empty(rt: &impl Abort, alloc: Global, pool: &mut Pool) -> Result<(), Allo
     Ok(())
 }
 
-/// A grant that holds nothing is ended, whether it never held anything or all went elsewhere.
+/// Checks that a grant that holds nothing is ended, whether it never held anything or all went elsewhere.
 #[test]
 fn a_grant_that_holds_nothing_is_discarded(rt: HostRuntime) -> Result<(), Fail> {
     let mut pool = worked_pool(&rt, rt.alloc())?;

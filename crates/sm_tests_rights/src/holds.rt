@@ -8,7 +8,7 @@ use std::alloc::{AllocError, Global};
 use std::process::Abort;
 use std::test::Fail;
 
-/// A hold that has the rights of a handover names the first key that is short.
+/// Checks that a hold that has the rights of a handover names the first key that is short.
 fn assert_short(
     rt: &impl Abort,
     alloc: Global,
@@ -22,7 +22,7 @@ fn assert_short(
     Ok(())
 }
 
-/// The cell in another state, which comes before a crown under another lead.
+/// Returns the cell in another state, which comes before a crown under another lead.
 fn other_state() -> Portion {
     Portion {
         cell: Some(cell(0, 1, PlainCell::Secondary)),
@@ -31,7 +31,7 @@ fn other_state() -> Portion {
     }
 }
 
-/// Room and spare replicas.
+/// Returns room and spare replicas.
 fn amounts(amount: u64, replicas: u64) -> Portion {
     Portion {
         room: Some(room(1, amount)),
@@ -57,7 +57,7 @@ fn a_hold_names_the_first_key_that_is_short(rt: HostRuntime) -> Result<(), Fail>
     Ok(())
 }
 
-/// Puts room in, where there is a place for it.
+/// Puts room in if there is a place for it.
 fn put_room(rt: &impl Abort, hold: &mut Hold, room: Room) {
     assert!(rt; hold.room(room.server) <= u64::MAX - room.amount);
     if hold.room(room.server) == 0 {
@@ -66,13 +66,13 @@ fn put_room(rt: &impl Abort, hold: &mut Hold, room: Room) {
     hold.put_room(room);
 }
 
-/// Takes room out, where there is as much.
+/// Takes room out, if there is as much.
 fn take_room(rt: &impl Abort, hold: &mut Hold, room: Room) {
     assert!(rt; room.amount <= hold.room(room.server));
     hold.take_room(room);
 }
 
-/// Puts spare replicas in, where there is a place for them.
+/// Puts spare replicas in if there is a place for them.
 fn put_spare(rt: &impl Abort, hold: &mut Hold, spare: Spare) {
     assert!(rt; hold.spare(spare.shard) <= u64::MAX - spare.amount);
     if hold.spare(spare.shard) == 0 {
@@ -81,13 +81,13 @@ fn put_spare(rt: &impl Abort, hold: &mut Hold, spare: Spare) {
     hold.put_spare(spare);
 }
 
-/// Takes spare replicas out, where there are as many.
+/// Takes spare replicas out, if there are that many.
 fn take_spare(rt: &impl Abort, hold: &mut Hold, spare: Spare) {
     assert!(rt; spare.amount <= hold.spare(spare.shard));
     hold.take_spare(spare);
 }
 
-/// Puts a cell right in, where there is a place for it.
+/// Puts a cell right in if there is a place for it.
 fn put_cell(rt: &impl Abort, hold: &mut Hold, right: CellRight) {
     if hold.cell(right.shard, right.server).is_none() {
         assert!(rt; hold.cells().len() < hold.capacity());
@@ -95,7 +95,7 @@ fn put_cell(rt: &impl Abort, hold: &mut Hold, right: CellRight) {
     hold.put_cell(right);
 }
 
-/// Puts a crown in, where there is a place for it.
+/// Puts a crown in if there is a place for it.
 fn put_crown(rt: &impl Abort, hold: &mut Hold, crown: Crown) {
     if hold.crown(crown.shard).is_none() {
         assert!(rt; hold.crowns().len() < hold.capacity());

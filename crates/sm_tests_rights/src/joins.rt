@@ -1,4 +1,4 @@
-//! Whether a pool can take a grant back that came from another one.
+//! Joins: whether a pool can take a grant back that came from another one.
 use super::fixture::*;
 use super::pools::more;
 use super::trades::trade;
@@ -25,7 +25,7 @@ fn assert_joins(
     Ok(())
 }
 
-/// The other pool is of server 0 and shard 0, whose crown it has.
+/// Checks a grant of another pool, which is of server 0 and shard 0, whose crown it has.
 #[test]
 fn rights_of_unknown_shards_and_servers_are_not_taken_back(rt: HostRuntime) -> Result<(), Fail> {
     let cases = [
@@ -46,7 +46,7 @@ fn rights_of_unknown_shards_and_servers_are_not_taken_back(rt: HostRuntime) -> R
     Ok(())
 }
 
-/// The other pool has all rights that this one has.
+/// Checks a grant of another pool, which has all rights that this one has.
 #[test]
 fn cells_and_crowns_that_are_there_are_not_taken_back(rt: HostRuntime) -> Result<(), Fail> {
     let cases = [
@@ -64,7 +64,7 @@ fn cells_and_crowns_that_are_there_are_not_taken_back(rt: HostRuntime) -> Result
     Ok(())
 }
 
-/// Room of server 0 and spare replicas of shard 0.
+/// Returns room of server 0 and spare replicas of shard 0.
 fn amounts(amount: u64, replicas: u64) -> Portion {
     Portion {
         room: Some(room(0, amount)),
@@ -73,7 +73,8 @@ fn amounts(amount: u64, replicas: u64) -> Portion {
     }
 }
 
-/// Trades all room of server 0 and all spare replicas of shard 0 for as many as a u64 can say, which go into the pool.
+/// Trades all room of server 0 and all spare replicas of shard 0 for the greatest amounts of a u64, which go into the
+/// pool.
 fn fill_up(rt: &impl Abort, alloc: Global, pool: &mut Pool) -> Result<(), AllocError> {
     let out = parcel_of(alloc, &amounts(6, 1))?;
     let got = parcel_of(alloc, &amounts(u64::MAX, u64::MAX))?;
@@ -84,7 +85,7 @@ fn fill_up(rt: &impl Abort, alloc: Global, pool: &mut Pool) -> Result<(), AllocE
     Ok(())
 }
 
-/// Asserts that there is as much room of server 0 and that there are as many spare replicas of shard 0 as a u64 can say.
+/// Asserts that the room of server 0 and the spare replicas of shard 0 are the greatest amounts of a u64.
 fn assert_full(rt: &impl Abort, pool: &Pool) {
     let (room, spare) = (pool.room(ServerId::new(0)), pool.spare(ShardId::new(0)));
     assert!(rt; room == u64::MAX && spare == u64::MAX);

@@ -1,6 +1,6 @@
-//! Calls that take memory. `scripts/check-memory-tests` runs each of these tests with its first allocation refused, then with its
-//! second, and so on: the answer has to be want of memory, or the right one. That one is printed as `reached`, which the script wants
-//! where none is refused.
+//! Calls that take memory. `scripts/check-memory-tests` runs each of these tests with its first allocation refused,
+//! then with its second, and so on: the answer has to be want of memory, or the right one. That one is printed as
+//! `reached`, which the script wants if none is refused.
 use super::fixture::*;
 use super::pools::assert_refused;
 use sm_reservation::{
@@ -10,7 +10,7 @@ use sm_server::{ServerId, ShardId};
 use std::alloc::Global;
 use std::process::Abort;
 
-/// The cells of `a_parcel_is_made_or_not`.
+/// Returns the cells of `a_parcel_is_made_or_not`.
 fn two_cells() -> [CellRight; 2] {
     [
         cell(0, 1, PlainCell::Absent),
@@ -18,7 +18,7 @@ fn two_cells() -> [CellRight; 2] {
     ]
 }
 
-/// Whether the lists of `a_parcel_is_made_or_not` came back.
+/// Tells whether the lists of `a_parcel_is_made_or_not` came back.
 fn came_back(lists: &Lists) -> bool {
     lists.cells.as_slice() == two_cells().as_slice()
         && lists.crowns.as_slice() == [crown(0, Lead::Gone, None)].as_slice()
@@ -39,7 +39,7 @@ fn assert_made(rt: &(impl Print + Abort), alloc: Global, given: Lists) {
     }
 }
 
-/// Where an allocation is refused, `new` says so and gives the lists back.
+/// Checks that `new` says so and gives the lists back if an allocation is refused.
 #[test]
 fn a_parcel_is_made_or_not(rt: HostRuntime) {
     let alloc = rt.alloc();
@@ -73,7 +73,7 @@ fn assert_reserved(rt: &(impl Print + Abort), alloc: Global, pool: &mut Pool, as
     assert_worked(rt, pool);
 }
 
-/// Where an allocation is refused, a grant keeps its rights and its room.
+/// Checks that a grant keeps its rights and its room if an allocation is refused.
 #[test]
 fn a_grant_gets_room_or_not(rt: HostRuntime) {
     let alloc = rt.alloc();
@@ -105,7 +105,7 @@ fn assert_taken(rt: &(impl Print + Abort), alloc: Global, pool: &mut Pool, asked
     assert_worked(rt, pool);
 }
 
-/// Where an allocation is refused, a pool is not opened, and a refused `take` leaves it as it was.
+/// Checks that, if an allocation is refused, a pool is not opened, and a refused `take` leaves it as it was.
 #[test]
 fn a_pool_is_opened_and_taken_from_or_not(rt: HostRuntime) {
     let alloc = rt.alloc();
@@ -116,7 +116,7 @@ fn a_pool_is_opened_and_taken_from_or_not(rt: HostRuntime) {
     }
 }
 
-/// Where an allocation is refused, a key that is short is told all the same.
+/// Checks that a key that is short is told even if an allocation is refused.
 #[test]
 fn a_key_that_is_short_is_told_or_not(rt: HostRuntime) {
     let alloc = rt.alloc();

@@ -31,7 +31,7 @@ const fn stream(plan: u32, stream: u32) -> StreamId {
     StreamId { plan, stream }
 }
 
-/// Whether each element is below all that stand behind it, above all before it, and equal to itself.
+/// Tells whether each element is below all that stand behind it, above all before it, and equal to itself.
 fn rises<T: Ord>(list: &[T]) -> bool {
     for i in 0..list.len() {
         for j in 0..list.len() {

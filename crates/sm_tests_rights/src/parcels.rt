@@ -33,7 +33,7 @@ fn a_parcel_is_in_order_without_zeros(rt: HostRuntime) -> Result<(), Fail> {
     Ok(())
 }
 
-/// Whether a parcel tells a cell and a crown that it has, and none of others.
+/// Tells whether a parcel names a cell and a crown that it has, and none of others.
 fn tells_places(given: &Parcel) -> bool {
     let (low, third) = (ShardId::new(0), ServerId::new(2));
     given.cell(low, third) == Some(PlainCell::Secondary)
@@ -42,7 +42,7 @@ fn tells_places(given: &Parcel) -> bool {
         && given.crown(low).is_none()
 }
 
-/// Whether a parcel tells amounts that it has, and 0 of others.
+/// Tells whether a parcel names amounts that it has, and 0 of others.
 fn tells_amounts(given: &Parcel) -> bool {
     given.room_of(ServerId::new(0)) == 7
         && given.room_of(ServerId::new(2)) == 0
@@ -95,7 +95,7 @@ fn doubled_lists(alloc: Global, from: u32) -> Result<Lists, AllocError> {
     Ok(lists)
 }
 
-/// Whether two lists are the same.
+/// Tells whether two lists are the same.
 fn are_same(lists: &Lists, want: &Lists) -> bool {
     lists.cells == want.cells
         && lists.crowns == want.crowns

@@ -18,7 +18,7 @@ fn a_pool_opens_with_all_that_is_free(rt: HostRuntime) -> Result<(), Fail> {
     Ok(())
 }
 
-/// Whether a handover's cell and crown are out of the worked pool, and others in it.
+/// Tells whether a handover's cell and crown are out of the worked pool, and others in it.
 fn is_handed_out(pool: &Pool) -> bool {
     pool.cell_right(ShardId::new(0), ServerId::new(1)).is_none()
         && pool.cell_right(ShardId::new(0), ServerId::new(2)).is_some()
@@ -33,7 +33,7 @@ fn assert_handed_out(rt: &impl Abort, pool: &Pool) {
     assert_amounts(rt, pool, [6, 0, 0, 0], [1, 0, 0]);
 }
 
-/// Whether a grant has a handover's rights.
+/// Tells whether a grant has a handover's rights.
 fn has_handover(grant: &Grant) -> bool {
     grant.cell(ShardId::new(0), ServerId::new(1)) == Some(PlainCell::Absent)
         && grant.crown(ShardId::new(0)) == Some((at(0), Some(ServerId::new(0))))
@@ -84,7 +84,7 @@ pub(crate) fn assert_refused(
     assert_worked(rt, pool);
 }
 
-/// The parcel of a portion's rights, and of a cell and room that the worked pool has.
+/// Returns the parcel of a portion's rights, and of a cell and room that the worked pool has.
 fn beside_others(alloc: Global, portion: &Portion) -> Result<Parcel, AllocError> {
     let mut lists = lists(
         alloc,
@@ -116,7 +116,7 @@ fn assert_short(
     Ok(())
 }
 
-/// A right to a secondary's cell, which comes before what else is short.
+/// Returns a right to a secondary's cell, which comes before whatever else is short.
 fn secondary(shard: u32, server: u32) -> (Portion, Short) {
     let key = Key::CellRight {
         shard: ShardId::new(shard),
@@ -143,7 +143,7 @@ fn cells_that_are_not_so_are_short(rt: HostRuntime) -> Result<(), Fail> {
     Ok(())
 }
 
-/// A crown, which comes before what else is short.
+/// Returns a crown, which comes before whatever else is short.
 fn other_crown(shard: u32, lead: Lead, listed: Option<ServerId>) -> (Portion, Short) {
     let key = Key::Crown {
         shard: ShardId::new(shard),
@@ -167,7 +167,7 @@ fn crowns_that_are_not_so_are_short(rt: HostRuntime) -> Result<(), Fail> {
     Ok(())
 }
 
-/// Room of which there is so much, which comes before spare replicas that are short.
+/// Returns room of which there is this much, which comes before spare replicas that are short.
 fn more_room(server: u32, had: u64, asked: u64) -> (Portion, Short) {
     let key = Key::Room {
         server: ServerId::new(server),
@@ -180,7 +180,7 @@ fn more_room(server: u32, had: u64, asked: u64) -> (Portion, Short) {
     (portion, short(key, had, asked))
 }
 
-/// Spare replicas of which there are so many.
+/// Returns spare replicas of which there are this many.
 fn more_spare(shard: u32, had: u64, asked: u64) -> (Portion, Short) {
     let key = Key::Spare {
         shard: ShardId::new(shard),
@@ -202,7 +202,7 @@ fn amounts_that_are_not_there_are_short(rt: HostRuntime) -> Result<(), Fail> {
     Ok(())
 }
 
-/// Fills a grant, where the conditions are met.
+/// Fills a grant if the conditions are met.
 fn fill(rt: &impl Abort, pool: &mut Pool, grant: &mut Grant, asked: &Parcel) -> Result<(), Short> {
     assert!(rt; grant.hold().can_join(asked));
     assert!(rt; grant.hold().has_capacity(asked));
@@ -256,7 +256,7 @@ fn a_grant_is_filled_from_a_pool(rt: HostRuntime) -> Result<(), Fail> {
     Ok(())
 }
 
-/// Takes out and puts in one spare replica, where the conditions are met.
+/// Takes out and puts in one spare replica if the conditions are met.
 fn less(rt: &impl Abort, pool: &mut Pool, shard: u32) {
     let shard = ShardId::new(shard);
     assert!(rt; pool.spare(shard) >= 1);

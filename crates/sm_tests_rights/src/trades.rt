@@ -8,7 +8,7 @@ use std::alloc::{AllocError, Global};
 use std::process::Abort;
 use std::test::Fail;
 
-/// Trades a parcel for another, where the conditions are met: `rest` has what the grant has.
+/// Trades a parcel for another, if the conditions are met: `rest` has what the grant has.
 pub(crate) fn trade(rt: &impl Abort, grant: &mut Grant, rest: &mut Hold, out: &Parcel, got: &Parcel)
     requires { rest.old ≡ grant.old }
 {
@@ -37,7 +37,7 @@ fn trade_once(
     Ok(())
 }
 
-/// A right to the cell of shard 0 at server 1, with room of that server and spare replicas of that shard.
+/// Returns a right to the cell of shard 0 at server 1, with room of that server and spare replicas of that shard.
 const fn at_cell(state: PlainCell, room: Option<Room>, spare: Option<Spare>) -> Portion {
     Portion {
         cell: Some(cell(0, 1, state)),
@@ -47,7 +47,7 @@ const fn at_cell(state: PlainCell, room: Option<Room>, spare: Option<Spare>) -> 
     }
 }
 
-/// A grant of one key in each list gives them up for others, within its room.
+/// Checks that a grant of one key in each list gives them up for others, within its room.
 #[test]
 fn rights_are_traded(rt: HostRuntime) -> Result<(), Fail> {
     let given = at_cell(PlainCell::Absent, Some(room(1, 4)), None);
@@ -57,7 +57,7 @@ fn rights_are_traded(rt: HostRuntime) -> Result<(), Fail> {
     Ok(())
 }
 
-/// Whether no amount of a portion is 0.
+/// Tells whether no amount of a portion is 0.
 fn is_positive(portion: &Portion) -> bool
     ensures room { IsTrue result → IfSome portion.now.room (λ x. 0 < x.amount) }
     ensures spare { IsTrue result → IfSome portion.now.spare (λ x. 0 < x.amount) }
@@ -73,7 +73,7 @@ fn is_positive(portion: &Portion) -> bool
     }
 }
 
-/// A parcel of the rights of a portion.
+/// Returns a parcel of the rights of a portion.
 fn portion_parcel(alloc: Global, portion: &Portion) -> Result<Parcel, AllocError>
     requires room { IfSome portion.now.room (λ x. 0 < x.amount) }
     requires spare { IfSome portion.now.spare (λ x. 0 < x.amount) }
@@ -91,8 +91,8 @@ fn portion_parcel(alloc: Global, portion: &Portion) -> Result<Parcel, AllocError
     }
 }
 
-/// Makes a change of a grant and of a hold, where the conditions are met: `hold` and `rest` have what the grant has, and the
-/// two parcels have what the change has.
+/// Makes a change of a grant and of a hold, if the conditions are met: `hold` and `rest` have what the grant has, and
+/// the two parcels have what the change has.
 fn exchange_parcels(
     rt: &impl Abort,
     grant: &mut Grant,
@@ -115,7 +115,7 @@ fn exchange_parcels(
     grant.exchange(change);
 }
 
-/// Makes a change of a grant and of a hold, where the conditions are met: `hold` and `rest` have what the grant has.
+/// Makes a change of a grant and of a hold, if the conditions are met: `hold` and `rest` have what the grant has.
 fn exchange(
     rt: &impl Abort,
     alloc: Global,
@@ -155,7 +155,7 @@ fn exchange_once(
     outcome
 }
 
-/// The rights for a replica are given up for those that its server has once it is added.
+/// Checks that the rights for a replica are given up for those that its server has once it is added.
 #[test]
 fn rights_are_exchanged(rt: HostRuntime) -> Result<(), Fail> {
     let held = at_cell(PlainCell::Absent, Some(room(1, 4)), None);

@@ -55,7 +55,7 @@ fn refuses_documents(rt: HostRuntime) {
     }
 }
 
-/// A plan of 257 signals.
+/// Returns a plan of 257 signals.
 fn many_signals(alloc: Global) -> Result<String, AllocError> {
     let mut text = String::from_str(alloc, r#"{"budget":0,"streams":[],"signals":[{}"#)?;
     for _ in 0..256 {
@@ -65,7 +65,7 @@ fn many_signals(alloc: Global) -> Result<String, AllocError> {
     Ok(text)
 }
 
-/// What is wrong with the text itself is a fault of `document`.
+/// Checks that a fault of the text itself is one of `document`.
 #[test]
 fn refuses_plans(rt: HostRuntime) -> Result<(), Fail> {
     let document = read_document(rt.alloc(), PLACEMENT.as_bytes())?;

@@ -31,7 +31,7 @@ pub const EVERYTHING: &str =
 "moves":[{"shard":"Z","from":"x-1","to":"y_2"},{"shard":"x-1","from":"y_2","to":"y_2"}],
 "drain":"y_2","asks":["x-1","x-1"]}"#;
 
-/// Servers of these names.
+/// Makes servers of these names.
 fn servers(alloc: Global, names: &[&str]) -> Result<Vec<Server>, AllocError> {
     let mut servers = Vec::new(alloc);
     for name in names {
@@ -44,7 +44,7 @@ fn servers(alloc: Global, names: &[&str]) -> Result<Vec<Server>, AllocError> {
     Ok(servers)
 }
 
-/// Shards of these names.
+/// Makes shards of these names.
 fn shards(alloc: Global, names: &[&str]) -> Result<Vec<Shard>, AllocError> {
     let mut shards = Vec::new(alloc);
     for name in names {
@@ -59,7 +59,7 @@ fn shards(alloc: Global, names: &[&str]) -> Result<Vec<Shard>, AllocError> {
     Ok(shards)
 }
 
-/// The configuration of servers and shards of these names.
+/// Returns the configuration of servers and shards of these names.
 pub fn config_of(
     alloc: Global,
     servers_of: &[&str],

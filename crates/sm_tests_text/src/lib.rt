@@ -1,7 +1,7 @@
 //! Tests of the reader and the writer of sm_plan_text, in a crate of their own: nothing here is part of the product.
 //!
-//! What good documents and plans say, a fault of each kind, and the texts of plans. Each fault in each of the places where it can come is
-//! shown by scripts/check-faults.
+//! They show what good documents and plans say, a fault of each kind, and the texts of plans. Each fault in each of the
+//! places where it can come is shown by scripts/check-faults.
 #![tactic(auto)]
 
 #[cfg(test)]

@@ -1,4 +1,4 @@
-//! What a parcel says.
+//! Parcels in texts.
 use super::fixtures::config_of;
 use sm_placement::Lead;
 use sm_plan_code::Plan;
@@ -18,13 +18,13 @@ const PARCEL: &str = r#"{"cells":[{"shard":"t","server":"b","state":"absent"},
 "room":[{"server":"b","amount":4294967295},{"server":"a","amount":0}],
 "spare":[{"shard":"t","amount":1},{"shard":"u","amount":0},{"shard":"s","amount":2}]}"#;
 
-/// The text of a plan of one stream that holds the parcel of a text.
+/// Returns the text of a plan of one stream that holds the parcel of a text.
 fn holding(alloc: Global, parcel: &str) -> Result<String, AllocError> {
     let front = r#"{"budget":0,"streams":[{"budget":0,"code":[],"holds":"#;
     format!(in alloc; "{front}{parcel}}}]}}")
 }
 
-/// The plan of one stream that holds the parcel of a text.
+/// Returns the plan of one stream that holds the parcel of a text.
 fn read_holding(alloc: Global, parcel: &str) -> Result<Plan, TextFault> {
     let config = config_of(alloc, &["a", "b"], &["s", "t", "u", "v", "w"])
         .ok()
@@ -49,7 +49,7 @@ const fn crown(shard: u32, lead: Lead, listed: Option<ServerId>) -> Crown {
     }
 }
 
-/// Whether a parcel has the cells of `PARCEL`.
+/// Tells whether a parcel has the cells of `PARCEL`.
 fn has_cells(parcel: &Parcel) -> bool {
     let cells = [
         right(0, 0, PlainCell::Absent),
@@ -59,7 +59,7 @@ fn has_cells(parcel: &Parcel) -> bool {
     parcel.cells() == cells.as_slice()
 }
 
-/// Whether a parcel has the crowns of `PARCEL`.
+/// Tells whether a parcel has the crowns of `PARCEL`.
 fn has_crowns(parcel: &Parcel) -> bool {
     let a = ServerId::new(0);
     let b = ServerId::new(1);
@@ -73,7 +73,7 @@ fn has_crowns(parcel: &Parcel) -> bool {
     parcel.crowns() == crowns.as_slice()
 }
 
-/// So many spare replicas of a shard.
+/// Returns this many spare replicas of a shard.
 const fn spare(shard: u32, amount: u64) -> Spare {
     Spare {
         shard: ShardId::new(shard),
@@ -81,7 +81,7 @@ const fn spare(shard: u32, amount: u64) -> Spare {
     }
 }
 
-/// Whether a parcel has the amounts of `PARCEL`.
+/// Tells whether a parcel has the amounts of `PARCEL`.
 fn has_amounts(parcel: &Parcel) -> bool {
     let room = Room {
         server: ServerId::new(1),
@@ -90,7 +90,7 @@ fn has_amounts(parcel: &Parcel) -> bool {
     parcel.room() == [room].as_slice() && parcel.spare() == [spare(0, 2), spare(1, 1)].as_slice()
 }
 
-/// Whether a plan is of one stream, which holds the rights of `PARCEL`.
+/// Tells whether a plan is of one stream, which holds the rights of `PARCEL`.
 fn holds_each_right(plan: &Plan) -> bool {
     match plan.streams() {
         [stream] => {
@@ -100,7 +100,7 @@ fn holds_each_right(plan: &Plan) -> bool {
     }
 }
 
-/// Rights go by their keys, and amounts of 0 are left out.
+/// Checks that rights go by their keys, and that amounts of 0 are left out.
 #[test]
 fn reads_each_right(rt: HostRuntime) -> Result<(), Fail> {
     let plan = read_holding(rt.alloc(), PARCEL)?;
@@ -108,7 +108,7 @@ fn reads_each_right(rt: HostRuntime) -> Result<(), Fail> {
     Ok(())
 }
 
-/// Whether a plan is of one stream, which holds nothing.
+/// Tells whether a plan is of one stream, which holds nothing.
 fn holds_nothing(plan: &Plan) -> bool {
     match plan.streams() {
         [stream] => {

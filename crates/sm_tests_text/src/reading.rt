@@ -1,4 +1,4 @@
-//! What good documents say.
+//! The contents of good documents.
 use super::fixtures::{EVERYTHING, PLACEMENT};
 use sm_placement::{Server, Shard};
 use sm_plan_code::Move;
@@ -7,12 +7,12 @@ use sm_server::{Call, Cell, Role, ServerId, ShardId};
 use std::process::Abort;
 use std::test::Fail;
 
-/// Whether a server has these members.
+/// Tells whether a server has these members.
 fn is_server(server: &Server, name: &str, region: &str, room: u64) -> bool {
     server.name.as_str() == name && server.region.as_str() == region && server.room == room
 }
 
-/// Whether a shard has this name, and this load, want, cap and spread.
+/// Tells whether a shard has this name, and this load, want, cap and spread.
 fn is_shard(shard: &Shard, name: &str, numbers: (u64, u32, u32, u32)) -> bool {
     let (load, want, cap, spread) = numbers;
     shard.name.as_str() == name
@@ -38,7 +38,7 @@ const fn move_of(shard: u32, from: u32, to: u32) -> Move {
     }
 }
 
-/// Whether these are the servers of the placement.
+/// Tells whether these are the servers of the placement.
 fn are_placed_servers(servers: &[Server]) -> bool {
     match servers {
         [a, b, c] => {
@@ -48,7 +48,7 @@ fn are_placed_servers(servers: &[Server]) -> bool {
     }
 }
 
-/// Whether these are the shards of the placement.
+/// Tells whether these are the shards of the placement.
 fn are_placed_shards(shards: &[Shard]) -> bool {
     match shards {
         [s, t] => is_shard(s, "s", (4, 2, 1, 1)) && is_shard(t, "t", (6, 1, 0, 1)),
@@ -56,7 +56,7 @@ fn are_placed_shards(shards: &[Shard]) -> bool {
     }
 }
 
-/// Whether a document has the cells and entries of the placement, and its numbers.
+/// Tells whether a document has the cells and entries of the placement, and its numbers.
 fn is_placed(document: &Document) -> bool {
     let cells = [
         cell(0, 0, Cell::Primary),
@@ -71,7 +71,7 @@ fn is_placed(document: &Document) -> bool {
         && document.log == 65_536
 }
 
-/// Whether nothing is to be done in a document.
+/// Tells whether nothing is to be done in a document.
 fn asks_nothing(document: &Document) -> bool {
     document.calls.is_none()
         && document.events.is_none()
@@ -94,7 +94,7 @@ fn reads_a_placement(rt: HostRuntime) -> Result<(), Fail> {
     Ok(())
 }
 
-/// Whether these are the servers of `EVERYTHING`.
+/// Tells whether these are the servers of `EVERYTHING`.
 fn are_all_servers(servers: &[Server]) -> bool {
     match servers {
         [x, y] => is_server(x, "x-1", "r.1", 4_294_967_295) && is_server(y, "y_2", "R2", 0),
@@ -102,7 +102,7 @@ fn are_all_servers(servers: &[Server]) -> bool {
     }
 }
 
-/// Whether these are the shards of `EVERYTHING`.
+/// Tells whether these are the shards of `EVERYTHING`.
 fn are_all_shards(shards: &[Shard]) -> bool {
     match shards {
         [x, z] => {
@@ -112,7 +112,7 @@ fn are_all_shards(shards: &[Shard]) -> bool {
     }
 }
 
-/// Whether a document has the cells, the entries and the numbers of `EVERYTHING`.
+/// Tells whether a document has the cells, the entries and the numbers of `EVERYTHING`.
 fn has_all_cells(document: &Document) -> bool {
     document.cells.as_slice() == [cell(0, 1, Cell::Secondary)].as_slice()
         && document.listed.as_slice() == [None, None].as_slice()
@@ -135,7 +135,7 @@ fn reads_everything(rt: HostRuntime) -> Result<(), Fail> {
     Ok(())
 }
 
-/// Whether a list was read, and is this one.
+/// Tells whether a list was read, and is this one.
 fn are_read<T: PartialEq>(read: &Option<Vec<T>>, want: &[T]) -> bool {
     match read {
         Some(list) => list.as_slice() == want,
@@ -185,7 +185,7 @@ const fn refill(plan: u32, stream: u32, more: u32) -> EventText {
     EventText::Refill { plan, stream, more }
 }
 
-/// Where the plan is missing, the first one is meant.
+/// Checks that the plan is the first one if it is missing.
 #[test]
 fn reads_each_event(rt: HostRuntime) -> Result<(), Fail> {
     let request = EventText::Request {
@@ -219,7 +219,7 @@ fn reads_each_event(rt: HostRuntime) -> Result<(), Fail> {
     Ok(())
 }
 
-/// Whether a document has the drained server and the asks of `EVERYTHING`.
+/// Tells whether a document has the drained server and the asks of `EVERYTHING`.
 fn has_all_names(document: &Document) -> bool {
     document.drain == Some(ServerId::new(1))
         && document.asks.as_slice() == [ShardId::new(0), ShardId::new(0)].as_slice()
@@ -234,7 +234,7 @@ fn reads_moves_and_names(rt: HostRuntime) -> Result<(), Fail> {
     Ok(())
 }
 
-/// Whether a document has no servers and no shards, and an empty list of calls.
+/// Tells whether a document has no servers and no shards, and an empty list of calls.
 fn is_empty(document: &Document) -> bool {
     document.config.servers().is_empty()
         && document.config.shards().is_empty()
@@ -251,7 +251,7 @@ fn reads_what_is_empty(rt: HostRuntime) -> Result<(), Fail> {
     Ok(())
 }
 
-/// Whether a document has the counts of `EVERYTHING`.
+/// Tells whether a document has the counts of `EVERYTHING`.
 fn has_all_counts(document: &Document) -> bool {
     document.limit == 1024
         && document.config.servers().len() == 2
@@ -259,7 +259,8 @@ fn has_all_counts(document: &Document) -> bool {
         && document.cells.len() == 1
 }
 
-/// `scripts/check-memory-tests` refuses each allocation of this test in turn, and wants `reached` to be printed where none is refused.
+/// Reads every member, or finds no memory. `scripts/check-memory-tests` refuses each allocation of this test in turn,
+/// and wants `reached` to be printed if none is refused.
 #[test]
 fn every_member_is_read_or_not(rt: HostRuntime) {
     match read_document(rt.alloc(), EVERYTHING.as_bytes()) {

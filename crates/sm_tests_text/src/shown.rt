@@ -1,4 +1,4 @@
-//! How faults are shown.
+//! The texts of faults.
 use sm_plan_text::{Member, TextFault};
 use std::test::Fail;
 

@@ -1,4 +1,4 @@
-//! What good plans say.
+//! The contents of good plans.
 use super::fixtures::PLACEMENT;
 use sm_placement::Config;
 use sm_plan_code::{Instr, Plan};
@@ -41,7 +41,7 @@ const fn right(server: ServerId, state: PlainCell) -> CellRight {
     }
 }
 
-/// The steps of the handover.
+/// Returns the steps of the handover.
 const fn handover_code() -> [Instr; 5] {
     [
         Instr::PrepareAdd {
@@ -67,7 +67,7 @@ const fn handover_code() -> [Instr; 5] {
     ]
 }
 
-/// Room of server b.
+/// Returns room of server b.
 const fn four_at_b() -> Room {
     Room {
         server: b(),
@@ -75,7 +75,7 @@ const fn four_at_b() -> Room {
     }
 }
 
-/// Whether a parcel has the rights of the handover.
+/// Tells whether a parcel has the rights of the handover.
 fn has_handover(parcel: &Parcel) -> bool {
     let crown = Crown {
         shard: shard(),
@@ -88,7 +88,7 @@ fn has_handover(parcel: &Parcel) -> bool {
         && parcel.spare().is_empty()
 }
 
-/// Whether a plan is the handover.
+/// Tells whether a plan is the handover.
 fn is_handover(plan: &Plan) -> bool {
     match plan.streams() {
         [stream] => {
@@ -103,7 +103,7 @@ fn is_handover(plan: &Plan) -> bool {
     }
 }
 
-/// The steps that empty server c.
+/// Returns the steps that empty server c.
 const fn drain_code() -> [Instr; 2] {
     [
         Instr::Add {
@@ -118,7 +118,7 @@ const fn drain_code() -> [Instr; 2] {
     ]
 }
 
-/// Whether a parcel has the cells and the room that emptying server c takes, and no crowns.
+/// Tells whether a parcel has the cells and the room that emptying server c takes, and no crowns.
 fn has_drain(parcel: &Parcel) -> bool {
     let cells = [
         right(b(), PlainCell::Absent),
@@ -129,7 +129,7 @@ fn has_drain(parcel: &Parcel) -> bool {
         && parcel.room() == [four_at_b()].as_slice()
 }
 
-/// Whether a plan is the one that empties server c.
+/// Tells whether a plan is the one that empties server c.
 fn is_drain(plan: &Plan) -> bool {
     match plan.streams() {
         [stream] => {
@@ -159,13 +159,13 @@ fn reads_plans(rt: HostRuntime) -> Result<(), Fail> {
     Ok(())
 }
 
-/// The text of the placement with the two plans.
+/// Returns the text of the placement with the two plans.
 fn with_plans(alloc: Global) -> Result<String, AllocError> {
     let (_, placement) = PLACEMENT.split_once("{").ok_or(AllocError)?;
     format!(in alloc; "{{\"plan\":{HANDOVER},\"plans\":[{DRAIN},{HANDOVER}],{placement}")
 }
 
-/// Whether a document has the handover as its plan.
+/// Tells whether a document has the handover as its plan.
 fn has_plan(document: &Document) -> bool {
     match &document.plan {
         Some(plan) => is_handover(plan),
@@ -173,7 +173,7 @@ fn has_plan(document: &Document) -> bool {
     }
 }
 
-/// Whether these are the plan that empties server c and the handover.
+/// Tells whether these are the plan that empties server c and the handover.
 fn are_both(plans: &[Plan]) -> bool {
     match plans {
         [first, second] => is_drain(first) && is_handover(second),
@@ -181,7 +181,7 @@ fn are_both(plans: &[Plan]) -> bool {
     }
 }
 
-/// Whether a document has the two plans, beside each other.
+/// Tells whether a document has the two plans, beside each other.
 fn has_plans(document: &Document) -> bool {
     match &document.plans {
         Some(plans) => are_both(plans),
@@ -189,7 +189,7 @@ fn has_plans(document: &Document) -> bool {
     }
 }
 
-/// The plans stand in a document, beside each other.
+/// Checks that plans stand in a document beside each other.
 #[test]
 fn reads_plans_of_documents(rt: HostRuntime) -> Result<(), Fail> {
     let text = with_plans(rt.alloc())?;
@@ -198,7 +198,7 @@ fn reads_plans_of_documents(rt: HostRuntime) -> Result<(), Fail> {
     Ok(())
 }
 
-/// With each allocation refused in turn: the plan is read, and `reached` is printed, or there is want of memory.
+/// Reads a plan with each allocation refused in turn: it is read, and `reached` is printed, or there is want of memory.
 #[test]
 fn reads_plans_or_not(rt: HostRuntime) {
     let Ok(document) = read_document(rt.alloc(), PLACEMENT.as_bytes()) else {

@@ -153,7 +153,7 @@ fn drain(alloc: Global) -> Result<Parts, AllocError> {
     })
 }
 
-/// What the one signal carries.
+/// Returns the parcel of the one signal.
 fn carried(alloc: Global) -> Result<Parcel, AllocError> {
     parcel(
         alloc,
@@ -180,7 +180,7 @@ fn carried(alloc: Global) -> Result<Parcel, AllocError> {
     )
 }
 
-/// The stream that has retries, and waits for the signal.
+/// Returns the stream that has retries, and waits for the signal.
 fn first_retried(alloc: Global) -> Result<Stream, AllocError> {
     let crowns = [
         crown(shard_s(), Lead::Gone, None),
@@ -198,7 +198,7 @@ fn first_retried(alloc: Global) -> Result<Stream, AllocError> {
     stream(alloc, 3, 5, parcel(alloc, &[], &crowns, &[], &[])?, &code)
 }
 
-/// The stream that posts the signal.
+/// Returns the stream that posts the signal.
 fn second_retried(alloc: Global) -> Result<Stream, AllocError> {
     let lead = Lead::Handed(server_c(), server_b());
     let crowns = [crown(shard_s(), lead, Some(server_a()))];
@@ -215,7 +215,7 @@ fn retried(alloc: Global) -> Result<Parts, AllocError> {
     })
 }
 
-/// What is written for the parts of a plan, if they are one of the configuration.
+/// Returns what is written for the parts of a plan, if they are one of the configuration.
 fn written(alloc: Global, parts: Parts) -> Result<Option<Vec<u8>>, AllocError> {
     let config = config_of(alloc, &["a", "b", "c"], &["s", "t"])?;
     let Ok(plan) = Plan::new(parts) else {
@@ -227,7 +227,7 @@ fn written(alloc: Global, parts: Parts) -> Result<Option<Vec<u8>>, AllocError> {
     Ok(Some(write_plan(alloc, &config, &plan)?))
 }
 
-/// These bytes were written.
+/// Tells whether these bytes were written.
 fn is_text(written: &Option<Vec<u8>>, text: &str) -> bool {
     match written {
         Some(bytes) => bytes.as_slice() == text.as_bytes(),
@@ -256,7 +256,7 @@ fn writes_retries(rt: HostRuntime) -> Result<(), Fail> {
     Ok(())
 }
 
-/// With each allocation refused in turn: the plan's text, and `reached` is printed, or nothing.
+/// Writes a plan with each allocation refused in turn: there is the plan's text, and `reached` is printed, or nothing.
 #[test]
 fn a_plan_is_written_or_not(rt: HostRuntime) {
     let Ok(parts) = handover(rt.alloc()) else {

@@ -1,4 +1,4 @@
-//! What is compared: batches of looks, and batches of loads in the same loop.
+//! The batches that are compared: of looks, and of loads in the same loop.
 ghost use Rattle.std.specs.Prelude.{◌≡◌, ◌<◌, ◌≤◌, IfOk, length, vec_len};
 ghost use Rattle.board_trials.specs.declared.looks.batches.TheConstants.{SHARDS};
 
@@ -12,10 +12,10 @@ use std::sync::atomic::{AtomicU64, Ordering};
 use std::sync::ledger::Ledger;
 use std::time::{Duration, Instant};
 
-/// How many shards are looked at: those that the plan moves, and no other.
+/// The number of shards that are looked at: those that the plan moves, and no other.
 pub(crate) const SHARDS: u32 = 64;
 
-/// How many looks or loads a batch has.
+/// The number of looks or loads of a batch.
 pub(crate) const BATCH: u32 = 20_000;
 
 /// Plain words, one for each shard.
@@ -36,7 +36,7 @@ fn words_of(alloc: Global) -> Result<Vec<AtomicU64>, AllocError>
 }
 
 impl PlainWords {
-    /// A word for each shard, which holds its number.
+    /// Returns a word for each shard, which holds its number.
     pub fn new(alloc: Global) -> Result<PlainWords, AllocError> {
         let words = words_of(alloc)?;
         Ok(PlainWords { words })
@@ -56,14 +56,14 @@ pub(crate) struct Batch {
     pub found: u64,
 }
 
-/// The shard that a step asks for: each shard in turn, but scattered.
+/// Returns the shard that a step asks for: each shard in turn, but scattered.
 fn shard_of(step: u32) -> ShardId
     ensures { result < SHARDS }
 {
     ShardId::new(step.wrapping_mul(2_654_435_761) % SHARDS)
 }
 
-/// The number of the server that an entry lists, 0 for none.
+/// Returns the number of the server that an entry lists, 0 for none.
 fn server_number(entry: Entry) -> u64 {
     match entry.server {
         Some(server) => u64::from(server.number()),
@@ -71,7 +71,7 @@ fn server_number(entry: Entry) -> u64 {
     }
 }
 
-/// A batch of looks. What it finds changes whenever the plan publishes.
+/// Makes a batch of looks. Its findings change whenever the plan publishes.
 pub(crate) fn look_batch<A: Ledger, B: Ledger, C: Ledger, N: Naming>(
     rt: &impl Clock,
     board: &Board<A, B, C, N>,
@@ -92,7 +92,7 @@ pub(crate) fn look_batch<A: Ledger, B: Ledger, C: Ledger, N: Naming>(
     Ok(Batch { time, found })
 }
 
-/// A batch of loads.
+/// Makes a batch of loads.
 pub(crate) fn load_batch(rt: &impl Clock, plain: &PlainWords) -> io::Result<Batch> {
     let start = Instant::now(rt)?;
     let mut found = 0_u64;

@@ -1,4 +1,4 @@
-//! Who looks at the map while a plan runs.
+//! Lookers, which look at the map while a plan runs.
 ghost use Rattle.std.specs.Prelude.{◌≤◌, length};
 ghost use Rattle.board_trials.specs.declared.looks.batches.TheConstants.{SHARDS};
 
@@ -13,7 +13,7 @@ use std::rt::Clock;
 use std::sync::ledger::Ledger;
 use std::sync::{Mutex, Wait};
 
-/// How many batches a looker makes at most.
+/// The greatest number of batches that a looker makes.
 const MOST_BATCHES: u32 = 1_000_000;
 
 /// Looks at the map and loads plain words in turn, a batch of each.
@@ -24,7 +24,7 @@ pub(crate) struct Looker {
 }
 
 impl Looker {
-    /// Nothing was looked at yet.
+    /// Makes a looker that has looked at nothing yet.
     pub fn new(alloc: Global) -> Result<Looker, AllocError> {
         Ok(Looker {
             plain: PlainWords::new(alloc)?,
@@ -32,8 +32,8 @@ impl Looker {
         })
     }
 
-    /// Looks until the streams have ended. Batches are measured where a look found another map than in the batch before: the
-    /// plan has published something in the meantime.
+    /// Looks until the streams have ended. Batches are measured if a look found another map than in the batch before:
+    /// the plan has published something in the meantime.
     fn look_on<A: Ledger, B: Ledger, C: Ledger, N: Naming, R: Clock>(
         &self,
         rt: &R,
@@ -59,7 +59,7 @@ impl Looker {
         Ok(measured)
     }
 
-    /// What it has measured.
+    /// Returns what it has measured.
     pub fn measured<R: Wait>(&self, rt: &R) -> Measured {
         *self.measured.lock(rt)
     }

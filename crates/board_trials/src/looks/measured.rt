@@ -1,4 +1,4 @@
-//! How long batches took.
+//! The times of batches.
 use crate::looks::batches::BATCH;
 use std::time::Duration;
 
@@ -10,13 +10,13 @@ pub(crate) struct Measured {
     pub batches: u64,
 }
 
-/// How long each of a batch took.
+/// Returns the time of each look or load of a batch.
 fn picoseconds(batch: Duration) -> u128 {
     batch.as_nanos() * 1_000 / u128::from(BATCH)
 }
 
 impl Measured {
-    /// Nothing was measured.
+    /// Makes a measurement of nothing.
     pub fn none() -> Measured {
         Measured {
             look: Duration::MAX,
@@ -25,7 +25,7 @@ impl Measured {
         }
     }
 
-    /// A batch of each was measured.
+    /// Notes a batch of each that was measured.
     pub fn note(&mut self, look: Duration, load: Duration) {
         self.look = self.look.min(look);
         self.load = self.load.min(load);
@@ -39,17 +39,17 @@ impl Measured {
         self.batches = self.batches.saturating_add(other.batches);
     }
 
-    /// How long each look of the fastest batch took.
+    /// Returns the time of each look of the fastest batch.
     pub fn look_picoseconds(&self) -> u128 {
         picoseconds(self.look)
     }
 
-    /// How long each load of the fastest batch took.
+    /// Returns the time of each load of the fastest batch.
     pub fn load_picoseconds(&self) -> u128 {
         picoseconds(self.load)
     }
 
-    /// A look took at most twice as long as a load.
+    /// Tells whether a look took at most twice as long as a load.
     pub fn is_fast(&self) -> bool {
         self.batches > 0 && self.look_picoseconds() / 2 <= self.load_picoseconds()
     }

@@ -18,7 +18,7 @@ pub(crate) const LARGE: Shape = Shape {
     third: 10,
 };
 
-/// Small enough to be run where nothing is measured.
+/// Small enough to be run if nothing is measured.
 pub(crate) const SMALL: Shape = Shape {
     streams: 64,
     first: 1,
@@ -26,10 +26,10 @@ pub(crate) const SMALL: Shape = Shape {
     third: 1,
 };
 
-/// How many places the log of a run has: more than there are steps.
+/// The number of places of a run's log: more than there are steps.
 const PLACES: u32 = 524_288;
 
-/// So many lookers.
+/// Makes this many lookers.
 fn lookers_of(alloc: Global, count: usize) -> Result<Vec<Looker>, AllocError> {
     let mut lookers = Vec::new(alloc);
     for _ in 0..count {
@@ -54,7 +54,7 @@ fn run_shape<R: Threads + Wait + Clock + Sync>(
     }
 }
 
-/// What all lookers have measured.
+/// Returns what all lookers have measured.
 fn met<R: Wait>(rt: &R, lookers: &[Looker]) -> Measured {
     let mut all = Measured::none();
     for looker in lookers {
@@ -63,7 +63,7 @@ fn met<R: Wait>(rt: &R, lookers: &[Looker]) -> Measured {
     all
 }
 
-/// What so many threads measure beside a plan of a shape.
+/// Returns what this many threads measure beside a plan of a shape.
 pub(crate) fn measure<R: Threads + Wait + Clock + Sync>(
     rt: &R,
     alloc: Global,

@@ -1,10 +1,10 @@
-//! What is random in a storm: numbers that a seed gives, and gates that yield by them.
+//! The random parts of a storm: numbers that a seed gives, and gates that yield by them.
 use sm_executor::Gate;
 use sm_reservation::StreamId;
 use std::sync::Wait;
 use std::thread;
 
-/// The number that follows another one, in an order that looks like none.
+/// Returns the number that follows another one, in an order that looks random.
 pub(crate) fn scattered(number: u64) -> u64 {
     let a = number.wrapping_add(0x9e37_79b9_7f4a_7c15);
     let b = (a ^ (a >> 30)).wrapping_mul(0xbf58_476d_1ce4_e5b9);

@@ -1,4 +1,4 @@
-//! Who works beside the streams of a run: those who ask, and who restarts servers.
+//! Hands, which work beside the streams of a run: some ask, and one restarts servers.
 ghost use Rattle.std.specs.Prelude.{◌<◌, IfSome};
 
 use crate::storm::gusts::scattered;
@@ -14,10 +14,10 @@ use std::sync::atomic::{AtomicU64, Ordering};
 use std::sync::ledger::Ledger;
 use std::thread;
 
-/// How often each who asks does so in a run.
+/// The number of asks of each who asks in a run.
 const ASKS: u32 = 64;
 
-/// How often a server is restarted that no stream mentions; and as often it is tried with any server.
+/// The number of restarts of servers that no stream mentions, and that of tries with any server.
 pub(crate) const RESTARTS: u64 = 32;
 
 /// One of those who work beside the streams.
@@ -29,7 +29,7 @@ pub(crate) enum Hand {
     Restarts { seed: u64, made: AtomicU64 },
 }
 
-/// One of so many numbers, if there are any.
+/// Returns one of the numbers below `count`, if there are any.
 fn picked(number: u64, count: u32) -> Option<u32>
     ensures { IfSome result (λ pick. pick < count) }
 {
@@ -57,7 +57,7 @@ fn ask_often<A: Ledger, B: Ledger, C: Ledger, N: Naming, R: Wait>(
     }
 }
 
-/// The permit to restart a server, where that is approved.
+/// Asks for a restart of a server, and returns the permit if it is approved.
 fn approved<A: Ledger, B: Ledger, C: Ledger, N: Naming, R: Wait>(
     rt: &R,
     board: &Board<A, B, C, N>,
@@ -69,7 +69,7 @@ fn approved<A: Ledger, B: Ledger, C: Ledger, N: Naming, R: Wait>(
     guard.approve(server).ok()
 }
 
-/// Ends a restart. The permit comes back where it has not ended.
+/// Ends a restart. The permit comes back if it has not ended.
 fn ended<A: Ledger, B: Ledger, C: Ledger, N: Naming, R: Wait>(
     rt: &R,
     board: &Board<A, B, C, N>,
@@ -79,7 +79,7 @@ fn ended<A: Ledger, B: Ledger, C: Ledger, N: Naming, R: Wait>(
     guard.done(permit).err()
 }
 
-/// Restarts a server, and answers whether that was approved. The permit comes back where the restart has not ended.
+/// Restarts a server, and returns whether that was approved. The permit comes back if the restart has not ended.
 fn restart<A: Ledger, B: Ledger, C: Ledger, N: Naming, R: Wait>(
     rt: &R,
     board: &Board<A, B, C, N>,
@@ -148,7 +148,7 @@ impl Worker for Hand {
 }
 
 impl Hand {
-    /// How many restarts of servers that no stream mentions it has made.
+    /// Returns the number of restarts, of servers that no stream mentions, that it has made.
     pub fn made(&self) -> u64 {
         match self {
             Hand::Asks { .. } => 0,

@@ -12,13 +12,13 @@ use std::sync::Wait;
 use std::sync::atomic::AtomicU64;
 use std::thread::Threads;
 
-/// How many threads ask.
+/// The number of threads that ask.
 const ASKERS: u64 = 16;
 
-/// How many places the log of a run has: more than there are steps, requests and restarts.
+/// The number of places of a run's log: more than there are steps, requests and restarts.
 const PLACES: u32 = 16_384;
 
-/// Those who work beside the streams of a run: sixteen who ask, and one who restarts servers.
+/// Makes those who work beside the streams of a run: sixteen who ask, and one who restarts servers.
 fn hands_of(alloc: Global, seed: u64) -> Result<Vec<Hand>, AllocError> {
     let mut hands = Vec::new(alloc);
     for number in 0..ASKERS {
@@ -33,7 +33,7 @@ fn hands_of(alloc: Global, seed: u64) -> Result<Vec<Hand>, AllocError> {
     Ok(hands)
 }
 
-/// The placement at the end of a storm with these hands.
+/// Runs a storm with these hands, and returns the placement at its end.
 fn storm_with<R: Threads + Wait + Clock + Sync>(
     rt: &R,
     alloc: Global,
@@ -49,7 +49,7 @@ fn storm_with<R: Threads + Wait + Clock + Sync>(
     }
 }
 
-/// Each restart was made that had to be.
+/// Tells whether each restart was made that had to be.
 fn has_restarted(hands: &[Hand]) -> bool {
     let mut made = 0_u64;
     for hand in hands {
@@ -58,7 +58,7 @@ fn has_restarted(hands: &[Hand]) -> bool {
     made == RESTARTS
 }
 
-/// A run ended at the placement of the plan, and each restart was made that had to be.
+/// Checks that a run ended at the placement of the plan, and each restart was made that had to be.
 fn judge(ended: &Placement, hands: &[Hand], world: &World) -> Result<(), Fault> {
     if !is_same(ended, &world.after) {
         Err(Fault::OtherEnd)
@@ -69,7 +69,7 @@ fn judge(ended: &Placement, hands: &[Hand], world: &World) -> Result<(), Fault> 
     }
 }
 
-/// One run: it ends at the placement of the plan, and each restart was made that had to be.
+/// Makes one run, which has to end at the placement of the plan, with each restart made that had to be.
 pub(crate) fn run_once<R: Threads + Wait + Clock + Sync>(
     rt: &R,
     alloc: Global,

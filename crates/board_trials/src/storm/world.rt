@@ -1,4 +1,4 @@
-//! What all runs have in common: the shape of the plan, and the placements before it and after it.
+//! The parts that all runs have in common: the shape of the plan, and the placements before it and after it.
 ghost use Rattle.std.specs.Prelude.{◌≡◌, ◌<◌, ◌≤◌, length};
 
 use crate::fault::Fault;
@@ -18,7 +18,7 @@ pub(crate) const SHAPE: Shape = Shape {
 /// The first of the servers that no stream mentions.
 pub(crate) const RESTED: u32 = 48;
 
-/// How many of these there are.
+/// The number of shards that rest.
 pub(crate) const RESTING: u64 = 16;
 
 /// The configuration, and the placements before the plan and after it.
@@ -30,7 +30,7 @@ pub(crate) struct World {
 }
 
 impl World {
-    /// All three, for the plan of `SHAPE`.
+    /// Returns all three, for the plan of `SHAPE`.
     pub fn new(alloc: Global) -> Result<World, Fault> {
         let config = config_of(alloc, &SHAPE)?;
         let before = placement_before(alloc, &config, &SHAPE)?;
@@ -43,7 +43,7 @@ impl World {
     }
 }
 
-/// How many shards and servers a placement has.
+/// Returns the numbers of shards and servers of a placement.
 fn counts(placement: &Placement) -> (u32, u32)
     ensures shards { result.0 ≡ length placement.now.setup.shards }
     ensures servers { result.1 ≡ length placement.now.setup.servers }
@@ -52,7 +52,7 @@ fn counts(placement: &Placement) -> (u32, u32)
     (config.shard_count(), config.server_count())
 }
 
-/// The shard stands at the same ones of so many servers, and the published map lists the same one.
+/// Tells whether the shard has the same cells at this many servers, and the published map lists the same one.
 fn is_same_shard(ended: &Placement, wanted: &Placement, shard: ShardId, servers: u32) -> bool
     requires shards { (shard < length ended.now.setup.shards) × (shard < length wanted.now.setup.shards) }
     requires servers { (servers ≤ length ended.now.setup.servers) × (servers ≤ length wanted.now.setup.servers) }
@@ -69,7 +69,7 @@ fn is_same_shard(ended: &Placement, wanted: &Placement, shard: ShardId, servers:
     true
 }
 
-/// How often a shard is published in a run.
+/// Returns how often a shard is published in a run.
 fn published(shard: u32) -> u64 {
     if shard < SHAPE.streams {
         publications_of(&SHAPE)
@@ -78,7 +78,8 @@ fn published(shard: u32) -> u64 {
     }
 }
 
-/// The shards stand at the same servers, the published map lists the same ones, and each was published as often as the plan has it.
+/// Tells whether the shards stand at the same servers, the published map lists the same ones, and each was published as
+/// often as the plan has it.
 pub(crate) fn is_same(ended: &Placement, wanted: &Placement) -> bool {
     let (shards, servers) = counts(ended);
     let (wanted_shards, wanted_servers) = counts(wanted);

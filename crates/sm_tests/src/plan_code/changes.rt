@@ -8,7 +8,7 @@ use std::alloc::{AllocError, Global};
 use std::process::Abort;
 use std::test::Fail;
 
-/// The shard of the instructions, with a load of 4, at their server 1.
+/// Returns the shard of the instructions, with a load of 4, at their server 1.
 fn shard() -> ShardId {
     ShardId::new(0)
 }
@@ -17,7 +17,7 @@ fn server(number: u32) -> ServerId {
     ServerId::new(number)
 }
 
-/// The right to the cell at server 1.
+/// Returns the right to the cell at server 1.
 fn cell(state: PlainCell) -> Option<CellRight> {
     Some(CellRight {
         shard: shard(),
@@ -61,7 +61,7 @@ fn handed() -> Lead {
     Lead::Handed(server(0), server(1))
 }
 
-/// Rights to the cell and the crown, with room at server 1 and spare replicas, where there are any.
+/// Returns rights to the cell and the crown, with room at server 1 and spare replicas if there are any.
 fn portion(cell: Option<CellRight>, crown: Option<Crown>, room: u64, spare: u64) -> Portion {
     let room = Room {
         server: server(1),
@@ -79,15 +79,15 @@ fn portion(cell: Option<CellRight>, crown: Option<Crown>, room: u64, spare: u64)
     }
 }
 
-/// A hold of a portion's rights and no others.
+/// Returns a hold of a portion's rights and no others.
 fn hold_of(alloc: Global, portion: &Portion) -> Result<Hold, AllocError> {
     Hold::of_parcel(alloc, &parcel_of(alloc, portion)?)
 }
 
-/// What is held, and what the table of rights answers to an instruction.
+/// A line of the table of rights: an instruction, the rights that are held, and the answer.
 type Line = (Instr, Portion, Result<Portion, Why>);
 
-/// Whether an answer is what the line says: needed is all that is held.
+/// Tells whether an answer is what the line says: needed is all that is held.
 fn is_answer(answer: &Result<Change, Why>, held: &Portion, want: &Result<Portion, Why>) -> bool {
     match want {
         Ok(got) => {
@@ -101,7 +101,8 @@ fn is_answer(answer: &Result<Change, Why>, held: &Portion, want: &Result<Portion
     }
 }
 
-/// Whether a line is answered by what is held: needed is all that is held, and given what the line says.
+/// Tells whether the answer is the line's, with its rights held: needed is all that is held, and given what the line
+/// says.
 fn is_line(alloc: Global, config: &Config, line: &Line) -> Result<bool, AllocError> {
     let (instr, held, want) = line;
     if !is_known_instr(config.shard_count(), config.server_count(), instr) {
@@ -111,7 +112,7 @@ fn is_line(alloc: Global, config: &Config, line: &Line) -> Result<bool, AllocErr
     Ok(is_answer(&change_of(config, instr, &hold), held, want))
 }
 
-/// Each line is answered by what is held.
+/// Asserts that each line's answer is right.
 fn assert_lines(rt: &impl Abort, alloc: Global, lines: &[Line]) -> Result<(), AllocError> {
     let config = config_of(alloc, 2, &[4])?;
     for at in 0..lines.len() {
@@ -315,7 +316,7 @@ fn unlist() -> Instr {
     Instr::Unlist { shard: shard() }
 }
 
-/// No rights.
+/// Returns no rights.
 fn bare() -> Portion {
     portion(None, None, 0, 0)
 }
@@ -342,7 +343,7 @@ fn entries_change(rt: HostRuntime) -> Result<(), Fail> {
     Ok(())
 }
 
-/// The instruction makes this call at a server, under the handover number 8.
+/// Asserts that the instruction makes this call at a server, under the handover number 8.
 fn assert_call(rt: &impl Abort, instr: &Instr, number: u32, call: Call) {
     let want = ServerCall {
         shard: shard(),

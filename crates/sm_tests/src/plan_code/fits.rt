@@ -26,7 +26,7 @@ fn ends() -> Ids {
     }
 }
 
-/// A plan of one stream with these rights and this code, and with one signal that carries others.
+/// Returns a plan of one stream with these rights and this code, and with one signal that carries others.
 fn plan(
     alloc: Global,
     holds: &Portion,
@@ -39,7 +39,7 @@ fn plan(
     plan_of(1, streams, signals)
 }
 
-/// Whether such a plan is of the configuration.
+/// Tells whether such a plan is of the configuration.
 fn fits(
     alloc: Global,
     config: &Config,
@@ -51,12 +51,12 @@ fn fits(
     Ok(plan.fits(config))
 }
 
-/// Three servers and two shards.
+/// Makes three servers and two shards.
 fn config(alloc: Global) -> Result<Config, AllocError> {
     config_of(alloc, 3, &[1, 1])
 }
 
-/// Whether the rights are of the configuration, held by a stream or carried by a signal.
+/// Tells whether the rights are of the configuration, held by a stream or carried by a signal.
 fn test_rights(
     rt: &impl Abort,
     alloc: Global,
@@ -102,7 +102,7 @@ fn change(shard: ShardId, server: ServerId) -> Instr {
     }
 }
 
-/// Whether a plan that makes one of the instructions is of the configuration.
+/// Tells whether a plan that makes one of the instructions is of the configuration.
 fn test_code(
     rt: &impl Abort,
     alloc: Global,
@@ -178,7 +178,7 @@ fn instructions_without_server(rt: HostRuntime) -> Result<(), Fail> {
     Ok(())
 }
 
-/// One right to a cell.
+/// Returns one right to a cell.
 const fn one_cell(shard: ShardId, server: ServerId) -> Portion {
     Portion {
         cell: Some(CellRight {
@@ -190,7 +190,7 @@ const fn one_cell(shard: ShardId, server: ServerId) -> Portion {
     }
 }
 
-/// One crown.
+/// Returns one crown.
 const fn one_crown(shard: ShardId, lead: Lead, listed: Option<ServerId>) -> Portion {
     Portion {
         crown: Some(Crown {
@@ -202,7 +202,7 @@ const fn one_crown(shard: ShardId, lead: Lead, listed: Option<ServerId>) -> Port
     }
 }
 
-/// The room of one server.
+/// Returns the room of one server.
 const fn one_room(server: ServerId) -> Portion {
     Portion {
         room: Some(Room { server, amount: 1 }),
@@ -210,7 +210,7 @@ const fn one_room(server: ServerId) -> Portion {
     }
 }
 
-/// The spare replica of one shard.
+/// Returns the spare replica of one shard.
 const fn one_spare(shard: ShardId) -> Portion {
     Portion {
         spare: Some(Spare { shard, amount: 1 }),

@@ -1,4 +1,4 @@
-//! What the instructions of a handover mention, and which of them are calls.
+//! The servers that the instructions of a handover mention, and which of them are calls.
 use sm_plan_code::{Instr, NamedServers, Why, is_call, names};
 use sm_server::{Role, ServerId, ShardId};
 use std::process::Abort;
@@ -8,7 +8,7 @@ fn server(number: u32) -> ServerId {
     ServerId::new(number)
 }
 
-/// The two servers that an instruction mentions are these, and no third one.
+/// Asserts that the two servers that an instruction mentions are these, and no third one.
 fn assert_names(
     rt: &impl Abort,
     instr: &Instr,

@@ -11,7 +11,7 @@ const TOO_MANY: Option<PlanFault> = Some(PlanFault::TooMany);
 
 const UNKNOWN_SIGNAL: Option<PlanFault> = Some(PlanFault::UnknownSignal);
 
-/// How many rights of each kind a parcel has, and the amount of each of its rooms and spares.
+/// The number of rights of each kind in a parcel, and the amount of each of its rooms and spares.
 #[derive(Clone, Copy)]
 struct Counts {
     cells: u32,
@@ -75,7 +75,7 @@ fn spare(alloc: Global, count: u32, amount: u64) -> Result<Vec<Spare>, AllocErro
     Ok(spare)
 }
 
-/// A parcel of so many rights.
+/// Makes a parcel of these numbers of rights.
 fn parcel(alloc: Global, counts: &Counts) -> Result<Parcel, AllocError> {
     let lists = Lists {
         cells: cells(alloc, counts.cells)?,
@@ -86,7 +86,7 @@ fn parcel(alloc: Global, counts: &Counts) -> Result<Parcel, AllocError> {
     Parcel::new(alloc, lists).ok().ok_or(AllocError)
 }
 
-/// Why the parts are no plan, if they are none.
+/// Returns why the parts are no plan, if they are none.
 fn fault_of(budget: u32, streams: Vec<Stream>, signals: Vec<Parcel>) -> Option<PlanFault> {
     let parts = Parts {
         budget,
@@ -99,7 +99,7 @@ fn fault_of(budget: u32, streams: Vec<Stream>, signals: Vec<Parcel>) -> Option<P
     }
 }
 
-/// So many streams without code.
+/// Makes `count` streams without code.
 fn many_streams(alloc: Global, count: u32) -> Result<Vec<Stream>, AllocError> {
     let mut streams = Vec::new(alloc);
     for _ in 0..count {
@@ -108,7 +108,7 @@ fn many_streams(alloc: Global, count: u32) -> Result<Vec<Stream>, AllocError> {
     Ok(streams)
 }
 
-/// So many signals that carry nothing.
+/// Makes `count` signals that carry nothing.
 fn many_signals(alloc: Global, count: u32) -> Result<Vec<Parcel>, AllocError> {
     let mut signals = Vec::new(alloc);
     for _ in 0..count {
@@ -117,13 +117,13 @@ fn many_signals(alloc: Global, count: u32) -> Result<Vec<Parcel>, AllocError> {
     Ok(signals)
 }
 
-/// So many streams without code, and so many signals that carry nothing.
+/// Makes this many streams without code, and this many signals that carry nothing, and returns the fault of the plan.
 fn with_many(alloc: Global, streams: u32, signals: u32) -> Result<Option<PlanFault>, AllocError> {
     let streams = many_streams(alloc, streams)?;
     Ok(fault_of(0, streams, many_signals(alloc, signals)?))
 }
 
-/// A plan's budget, and the budget and the retries of its one stream.
+/// Returns a plan's budget, and the budget and the retries of its one stream.
 fn with_numbers(
     alloc: Global,
     plan: u32,
@@ -135,7 +135,7 @@ fn with_numbers(
     Ok(fault_of(plan, streams, Vec::new(alloc)))
 }
 
-/// One stream that makes an instruction so many times, beside two signals.
+/// Makes one stream that makes an instruction `times` times, beside two signals, and returns the fault of the plan.
 fn with_code(
     alloc: Global,
     budget: u32,
@@ -148,20 +148,20 @@ fn with_code(
     Ok(fault_of(budget, streams, many_signals(alloc, 2)?))
 }
 
-/// One stream that holds so many rights.
+/// Makes one stream that holds these numbers of rights, and returns the fault of the plan.
 fn with_hold(alloc: Global, counts: &Counts) -> Result<Option<PlanFault>, AllocError> {
     let stream = stream_of(alloc, 0, 0, parcel(alloc, counts)?, &[])?;
     let streams = Vec::from_array(alloc, [stream])?;
     Ok(fault_of(0, streams, Vec::new(alloc)))
 }
 
-/// One signal that carries so many rights.
+/// Makes one signal that carries these numbers of rights, and returns the fault of the plan.
 fn with_signal(alloc: Global, counts: &Counts) -> Result<Option<PlanFault>, AllocError> {
     let signals = Vec::from_array(alloc, [parcel(alloc, counts)?])?;
     Ok(fault_of(0, Vec::new(alloc), signals))
 }
 
-/// So many rights, held by a stream and carried by a signal.
+/// Tests these numbers of rights, held by a stream and carried by a signal.
 fn test_rights(
     rt: &impl Abort,
     alloc: Global,
@@ -282,7 +282,7 @@ fn assert_parts(rt: &impl Abort, parts: &Parts, budget: u32) {
     assert!(rt; parts.streams.len() == 2 && parts.signals.len() == 3);
 }
 
-/// The small parts as they come back, since their budget is too high.
+/// Returns the small parts as they come back, since their budget is too high.
 fn refused_parts(rt: &impl Abort, alloc: Global) -> Result<Parts, AllocError> {
     match Plan::new(small_parts(alloc)?) {
         Ok(_) => {

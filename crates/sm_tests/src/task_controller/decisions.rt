@@ -15,7 +15,7 @@ use std::alloc::{AllocError, Global};
 use std::process::Abort;
 use std::test::Fail;
 
-/// What is asked, and what is to be answered.
+/// A question, and the answer that it is to get.
 #[derive(Clone, Copy)]
 struct Case {
     server: u32,
@@ -29,7 +29,7 @@ struct Case {
     want: Result<Approved, Denied>,
 }
 
-/// Server 0, where nothing stands against it.
+/// Server 0, if nothing stands against it.
 const FREE: Case = Case {
     server: 0,
     down: false,
@@ -46,7 +46,7 @@ const fn stream(number: u32) -> StreamId {
     }
 }
 
-/// The worked placement, of which one server may be down.
+/// Returns the worked placement, of which one server may be down.
 fn worked_placement(
     alloc: Global,
     config: &Config,
@@ -67,7 +67,7 @@ fn worked_placement(
         .ok_or(AllocError)
 }
 
-/// What is decided of a placement.
+/// Returns the decision at a placement.
 fn decided_at(
     alloc: Global,
     placement: &Placement,
@@ -91,7 +91,7 @@ fn decided_at(
     Ok(decide(placement, &pool, engaged, case.log_free, server))
 }
 
-/// What is decided of the worked placement.
+/// Returns the decision at the worked placement.
 fn decided(alloc: Global, case: &Case) -> Result<Result<Approved, Denied>, AllocError> {
     let config = config_of(alloc, 4, &[4, 4, 4])?;
     let servers = [ServerId::new(3)];
@@ -118,7 +118,7 @@ fn servers_with_spare_replicas_are_approved(rt: HostRuntime) -> Result<(), Fail>
     Ok(())
 }
 
-/// Each denial alone.
+/// Returns each denial alone.
 const fn alone() -> [Case; 6] {
     [
         Case {
@@ -165,7 +165,7 @@ fn each_denial_is_given(rt: HostRuntime) -> Result<(), Fail> {
     Ok(())
 }
 
-/// Two denials that apply: the first in their order is given.
+/// Returns cases of two denials that apply: the first in their order is given.
 const fn both() -> [Case; 4] {
     [
         Case {

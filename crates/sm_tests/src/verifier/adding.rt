@@ -1,4 +1,4 @@
-//! Adding a replica: a secondary, a primary where none leads, and the new owner of a handover.
+//! Adding a replica: a secondary, a primary if none leads, and the new owner of a handover.
 use super::rows::*;
 use sm_plan_code::{Instr, Why};
 use sm_server::Role;

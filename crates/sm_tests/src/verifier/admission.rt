@@ -17,7 +17,7 @@ use std::alloc::{AllocError, Global};
 use std::process::Abort;
 use std::test::Fail;
 
-/// The worked placement, of which two servers may be down.
+/// Returns the worked placement, of which two servers may be down.
 pub(super) fn worked_placement(
     alloc: Global,
     config: &Config,
@@ -37,7 +37,7 @@ pub(super) fn worked_placement(
         .ok_or(AllocError)
 }
 
-/// Room of server 1.
+/// Returns room of server 1.
 const fn room(amount: u64) -> Room {
     Room {
         server: ServerId::new(1),
@@ -45,7 +45,7 @@ const fn room(amount: u64) -> Room {
     }
 }
 
-/// A spare replica of shard 0.
+/// Returns a spare replica of shard 0.
 pub(super) const fn spare() -> Spare {
     Spare {
         shard: ShardId::new(0),
@@ -53,7 +53,7 @@ pub(super) const fn spare() -> Spare {
     }
 }
 
-/// The right to the cell of shard 0 at a server, as if the server had nothing of the shard.
+/// Returns the right to the cell of shard 0 at a server, as if the server had nothing of the shard.
 pub(super) const fn absent(server: u32) -> CellRight {
     CellRight {
         shard: ShardId::new(0),
@@ -62,7 +62,7 @@ pub(super) const fn absent(server: u32) -> CellRight {
     }
 }
 
-/// The crown of shard 0.
+/// Returns the crown of shard 0.
 pub(super) const fn crown() -> Crown {
     Crown {
         shard: ShardId::new(0),
@@ -71,7 +71,7 @@ pub(super) const fn crown() -> Crown {
     }
 }
 
-/// What a parcel has.
+/// The rights of a parcel.
 #[derive(Clone, Copy)]
 pub(super) struct Rights {
     pub(super) cells: [Option<CellRight>; 2],
@@ -87,7 +87,7 @@ pub(super) const NOTHING: Rights = Rights {
     spare: None,
 };
 
-/// What the handover of shard 0 from server 0 to server 1 needs.
+/// Returns what the handover of shard 0 from server 0 to server 1 needs.
 const fn handover() -> Rights {
     Rights {
         cells: [Some(absent(1)), None],
@@ -97,7 +97,7 @@ const fn handover() -> Rights {
     }
 }
 
-/// The right to the cell of shard 0 at a server, as if the server had nothing of the shard.
+/// Returns the right to the cell of shard 0 at a server, as if the server had nothing of the shard.
 const fn only_absent(server: u32) -> Rights {
     Rights {
         cells: [Some(absent(server)), None],
@@ -105,7 +105,7 @@ const fn only_absent(server: u32) -> Rights {
     }
 }
 
-/// Room of server 1.
+/// Returns room of server 1.
 pub(super) const fn only_room(amount: u64) -> Rights {
     Rights {
         room: Some(room(amount)),
@@ -113,7 +113,7 @@ pub(super) const fn only_room(amount: u64) -> Rights {
     }
 }
 
-/// The items that are there.
+/// Returns the items that are there.
 fn listed<T: Copy + Drop>(alloc: Global, items: &[Option<T>]) -> Result<Vec<T>, AllocError> {
     let mut list = Vec::new(alloc);
     for item in items {
@@ -138,7 +138,7 @@ fn stream(alloc: Global, rights: &Rights, code: &[Instr]) -> Result<Stream, Allo
     stream_of(alloc, 4, 0, parcel(alloc, rights)?, code)
 }
 
-/// A plan of two streams with these rights, of which the second has a code.
+/// Returns a plan of two streams with these rights, of which the second has a code.
 pub(super) fn plan(
     alloc: Global,
     first: &Rights,
@@ -149,7 +149,7 @@ pub(super) fn plan(
     plan_of(8, Vec::from_array(alloc, streams)?, Vec::new(alloc))
 }
 
-/// What holds a plan up once a parcel was taken from the pool.
+/// Returns what holds a plan up once a parcel was taken from the pool.
 fn judged_after(
     alloc: Global,
     checked: &Checked,
@@ -168,7 +168,7 @@ fn judged_after(
     Ok(answer)
 }
 
-/// The pool of a placement.
+/// Returns the pool of a placement.
 pub(super) fn pool_of(alloc: Global, placement: &Placement) -> Result<Pool, AllocError>
     requires { IsSettled (sizes_of placement.now.setup) (place_of placement.now) }
     ensures { IfOk result (HasSize (sizes_of placement.now.setup)) }
@@ -176,7 +176,7 @@ pub(super) fn pool_of(alloc: Global, placement: &Placement) -> Result<Pool, Allo
     Pool::open(alloc, placement)
 }
 
-/// What holds a plan up at a placement, once a parcel was taken from its pool.
+/// Returns what holds a plan up at a placement, once a parcel was taken from its pool.
 fn judged_at(
     alloc: Global,
     checked: &Checked,
@@ -190,7 +190,7 @@ fn judged_at(
     judged_after(alloc, checked, placement, &mut pool, taken)
 }
 
-/// The plan with its check, which it passes.
+/// Returns the plan with its check, which it passes.
 pub(super) fn checked_of(alloc: Global, plan: Plan) -> Result<Checked, AllocError> {
     let config = config_of(alloc, 4, &[4, 6])?;
     if !plan.fits(&config) {
@@ -199,7 +199,7 @@ pub(super) fn checked_of(alloc: Global, plan: Plan) -> Result<Checked, AllocErro
     check(alloc, &config, plan).ok().ok_or(AllocError)
 }
 
-/// What holds a plan up at the worked placement with servers down, once a parcel was taken from its pool.
+/// Returns what holds a plan up at the worked placement with servers down, once a parcel was taken from its pool.
 pub(super) fn judged(
     alloc: Global,
     plan: Plan,
@@ -211,7 +211,7 @@ pub(super) fn judged(
     judged_at(alloc, &checked, &placement, taken)
 }
 
-/// What holds a plan of two streams with these rights up, once others were taken.
+/// Returns what holds a plan of two streams with these rights up, once others were taken.
 fn held_up(
     alloc: Global,
     first: &Rights,
@@ -222,7 +222,7 @@ fn held_up(
     judged(alloc, plan(alloc, first, second, &[])?, &[], &taken)
 }
 
-/// What holds a plan with a code and its rights up where these servers are down.
+/// Returns what holds up a plan with a code and its rights if these servers are down.
 fn held_up_by_servers(
     alloc: Global,
     down: &[ServerId],
@@ -233,7 +233,7 @@ fn held_up_by_servers(
     judged(alloc, plan(alloc, &NOTHING, rights, code)?, down, &taken)
 }
 
-/// The key of a cell of shard 0.
+/// Returns the key of a cell of shard 0.
 const fn cell_key(server: u32) -> Key {
     Key::CellRight {
         shard: ShardId::new(0),
@@ -319,7 +319,7 @@ fn rights_out_of_the_pool_are_taken(rt: HostRuntime) -> Result<(), Fail> {
     Ok(())
 }
 
-/// Room of server 1 and a spare replica of shard 0.
+/// Returns room of server 1 and a spare replica of shard 0.
 const fn amounts() -> Rights {
     Rights {
         room: Some(room(3)),
@@ -375,7 +375,7 @@ fn what_is_untrue_comes_before_what_is_taken(rt: HostRuntime) -> Result<(), Fail
     Ok(())
 }
 
-/// Asserts which server that is down holds a plan with a code and its rights up, where these are down.
+/// Asserts which server that is down holds up a plan with a code and its rights, if these are down.
 fn assert_down(
     rt: &impl Abort,
     alloc: Global,
@@ -393,7 +393,7 @@ fn assert_down(
     Ok(())
 }
 
-/// A secondary of shard 0 more.
+/// Returns one more secondary of shard 0.
 pub(super) const fn add(server: u32) -> Instr {
     Instr::Add {
         shard: ShardId::new(0),
@@ -402,7 +402,7 @@ pub(super) const fn add(server: u32) -> Instr {
     }
 }
 
-/// One replica of shard 0 less.
+/// Returns one replica of shard 0 less.
 pub(super) const fn drop_from(server: u32) -> Instr {
     Instr::Drop {
         shard: ShardId::new(0),
@@ -422,7 +422,7 @@ fn servers_that_are_up_hold_nothing_up(rt: HostRuntime) -> Result<(), Fail> {
     Ok(())
 }
 
-/// The owner of a handover that is prepared and then given up.
+/// Returns the owner of a handover that is prepared and then given up.
 #[test]
 fn owner_that_is_down_is_named(rt: HostRuntime) -> Result<(), Fail> {
     let owner = ServerId::new(0);

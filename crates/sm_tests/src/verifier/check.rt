@@ -6,7 +6,7 @@ use sm_verifier::{Checked, Fault};
 use std::alloc::{AllocError, Global};
 use std::test::Fail;
 
-/// The stream is the handover's.
+/// Tells whether the stream is the handover's.
 fn is_handover_stream(stream: &Stream) -> bool {
     stream.budget == 4
         && stream.retries == 0
@@ -17,7 +17,7 @@ fn is_handover_stream(stream: &Stream) -> bool {
         && stream.holds.spare().is_empty()
 }
 
-/// The plan is the handover's.
+/// Tells whether the plan is the handover's.
 fn is_handover(plan: &Plan) -> bool {
     match plan.streams() {
         [stream] => {
@@ -27,7 +27,7 @@ fn is_handover(plan: &Plan) -> bool {
     }
 }
 
-/// The most keys that one list of the first stream's hold has.
+/// Returns the greatest number of keys that one list of the first stream's hold has.
 fn room_of(checked: &Checked) -> Option<u32> {
     if checked.plan().streams().is_empty() {
         return None;
@@ -35,12 +35,12 @@ fn room_of(checked: &Checked) -> Option<u32> {
     Some(checked.peak(0))
 }
 
-/// Whether the first stream ends with the rights at the end of the handover.
+/// Tells whether the first stream ends with the rights at the end of the handover.
 fn has_end(checked: &Checked) -> bool {
     !checked.plan().streams().is_empty() && is_end(checked.final_hold(0))
 }
 
-/// What the check found out about the handover.
+/// Returns what the check found out about the handover.
 fn is_found_out(checked: &Checked) -> bool {
     let steps = [(0, 0), (0, 1), (0, 2), (0, 3), (0, 4), (0, 5)];
     checked.order() == steps.as_slice()
@@ -58,7 +58,7 @@ fn handover_passes(rt: HostRuntime) -> Result<(), Fail> {
     Ok(())
 }
 
-/// With one unit of room to spare, its list has two keys at the end.
+/// Checks the list's two keys at the end, with one unit of room to spare.
 #[test]
 fn room_counts_the_longest_list(rt: HostRuntime) -> Result<(), Fail> {
     let alloc = rt.alloc();
@@ -68,7 +68,7 @@ fn room_counts_the_longest_list(rt: HostRuntime) -> Result<(), Fail> {
     Ok(())
 }
 
-/// Whether the sum of the handover's calls and of so many retries passes, or is above the plan's budget.
+/// Tells whether the sum of the handover's calls and of this many retries passes, or is above the plan's budget.
 fn adds_up(alloc: Global, plan: u32, retries: u32, over: Option<Fault>) -> bool {
     let numbers = Numbers {
         plan,
@@ -78,7 +78,7 @@ fn adds_up(alloc: Global, plan: u32, retries: u32, over: Option<Fault>) -> bool 
     fault_of(alloc, handover_plan(alloc, numbers, &handover())) == over
 }
 
-/// The streams' calls and retries add up to more than the plan's budget.
+/// Checks that the streams' calls and retries add up to more than the plan's budget.
 const fn over(streams: u64, plan: u32) -> Option<Fault> {
     Some(Fault::Budget { streams, plan })
 }
@@ -90,7 +90,7 @@ fn budgets_add_up(rt: HostRuntime) {
     assert!(rt; adds_up(rt.alloc(), 5, 1, None));
 }
 
-/// Where and why the handover's stream breaks off with this code.
+/// Returns where and why the handover's stream breaks off with this code.
 fn breaks_off(alloc: Global, code: &[Instr], at: u32, why: Why) -> bool {
     let fault = fault_of(alloc, handover_plan(alloc, ENOUGH, code));
     fault == Some(Fault::Stream { stream: 0, at, why })
@@ -116,7 +116,7 @@ const fn signals() -> [Instr; 5] {
     ]
 }
 
-/// How many instructions of the code are made: which of two signals is misused, and its posts and waits.
+/// The number of instructions of the code that are made, which of two signals is misused, and its posts and waits.
 type Misuse = (usize, Option<(u32, u32, u32)>);
 
 static MISUSES: [Misuse; 5] = [
@@ -127,12 +127,12 @@ static MISUSES: [Misuse; 5] = [
     (5, Some((0, 1, 2))),
 ];
 
-/// Why a plan of one stream with this code and of two signals does not pass.
+/// Returns why a plan of one stream with this code and of two signals does not pass.
 fn misuse_of(alloc: Global, code: &[Instr]) -> Option<Fault> {
     fault_of(alloc, plan(alloc, 2, &[code]))
 }
 
-/// The fault of a signal that is misused.
+/// Returns the fault of a signal that is misused.
 fn fault_for(misuse: Option<(u32, u32, u32)>) -> Option<Fault> {
     let (signal, posts, waits) = misuse?;
     Some(Fault::SignalNotOnce {
@@ -157,7 +157,8 @@ fn empty_plan_passes(rt: HostRuntime) {
     assert!(rt; fault_of(alloc, plan(alloc, 0, &[])).is_none());
 }
 
-/// With each allocation refused in turn: a plan passes the check, and `reached` is printed, or it comes back as it was.
+/// Checks a plan with each allocation refused in turn: it passes the check, and `reached` is printed, or it comes back
+/// as it was.
 #[test]
 fn a_plan_is_checked_or_not(rt: HostRuntime) {
     let alloc = rt.alloc();
@@ -173,14 +174,14 @@ fn a_plan_is_checked_or_not(rt: HostRuntime) {
     }
 }
 
-/// A stream that posts a signal, and one that waits for it.
+/// Returns a stream that posts a signal, and one that waits for it.
 fn signalling_plan(alloc: Global) -> Result<Plan, AllocError> {
     let post = [Instr::Signal { signal: 0 }];
     let wait = [Instr::Wait { signal: 0 }];
     plan(alloc, 1, &[&post, &wait])
 }
 
-/// The plan is the one of the signal.
+/// Tells whether the plan is the one of the signal.
 fn is_signalling(plan: &Plan) -> bool {
     plan.signals().len() == 1
         && match plan.streams() {
@@ -192,7 +193,8 @@ fn is_signalling(plan: &Plan) -> bool {
         }
 }
 
-/// With each allocation refused in turn: a plan of two streams and a signal passes the check, and `reached` is printed, or it comes back as it was.
+/// Checks a plan of two streams and a signal with each allocation refused in turn: it passes the check, and `reached`
+/// is printed, or it comes back as it was.
 #[test]
 fn two_streams_are_checked_or_not(rt: HostRuntime) {
     let alloc = rt.alloc();
@@ -208,7 +210,7 @@ fn two_streams_are_checked_or_not(rt: HostRuntime) {
     }
 }
 
-/// As many streams as a plan may have, none of which does anything.
+/// Checks a plan with the greatest number of streams, none of which does anything.
 #[test]
 fn streams_without_code_pass(rt: HostRuntime) {
     let alloc = rt.alloc();

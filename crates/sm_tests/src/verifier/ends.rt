@@ -1,4 +1,4 @@
-//! Where a stream breaks off for its budget or for its end, and want of memory.
+//! Streams that break off for their budget or at their end, and want of memory.
 use super::handover::{handover, held, is_end as is_handover_end};
 use super::rows::*;
 use crate::fixture::stream_of;
@@ -8,7 +8,7 @@ use sm_server::{Role, ShardId};
 use sm_verifier::Bad;
 use std::alloc::Global;
 
-/// The calls: of each kind, and in each role.
+/// Returns the calls: of each kind, and in each role.
 fn calls() -> [Instr; 7] {
     let (shard, old, new) = (shard(), server(A), server(B));
     [
@@ -57,7 +57,7 @@ static BEFORE_CALLS: [Held; 7] = [
     Held(None, At(B), None, 4, 1),
 ];
 
-/// Whether a call is over the budget where there is none.
+/// Tells whether a call is over the budget if there is none.
 fn is_over_budget(alloc: Global, before: &Held, instr: Instr) -> bool {
     let answer = answer_with(alloc, 0, before, &[IDLE, instr]);
     breaks_at(&answer, 1, Why::OverBudget)
@@ -76,13 +76,13 @@ fn calls_over_the_budget(rt: HostRuntime) {
     }
 }
 
-/// Whether a stream that starts in a handover breaks off at the end of this code.
+/// Tells whether a stream that starts in a handover breaks off at the end of this code.
 fn is_unsettled(alloc: Global, led: Led, code: &[Instr], end: u32) -> bool {
     let before = Held(None, led, Some(A), 0, 0);
     breaks_at(&answer_with(alloc, 0, &before, code), end, Why::Unsettled)
 }
 
-/// At the end of an empty code, and behind an instruction.
+/// Tries the end of an empty code, and the place behind an instruction.
 #[test]
 fn ends_in_a_handover(rt: HostRuntime) {
     for led in &[Ready(A, B), Handing(A, B), Handed(A, B)] {
@@ -91,7 +91,7 @@ fn ends_in_a_handover(rt: HostRuntime) {
     }
 }
 
-/// The crown of S is at rest, and that of T is not.
+/// Tries a stream in which the crown of S is at rest, and that of T is not.
 #[test]
 fn ends_in_a_handover_of_another_shard(rt: HostRuntime) {
     let before = Held(None, Gone, None, 3, 0);
@@ -104,7 +104,7 @@ fn ends_in_a_handover_of_another_shard(rt: HostRuntime) {
     assert!(rt; breaks_at(&answer, 2, Why::Unsettled));
 }
 
-/// A handover cut to so many instructions, with so many calls and retries: where and why it breaks off.
+/// A handover that is cut to a number of instructions, with numbers of calls and retries: where and why it breaks off.
 type Cut = (usize, u32, u32, Option<(u32, Why)>);
 
 static CUTS: [Cut; 14] = [
@@ -124,7 +124,7 @@ static CUTS: [Cut; 14] = [
     (1, 1, 1, Some((1, Why::Unsettled))),
 ];
 
-/// The answer to a handover that is cut.
+/// Returns the answer to a handover that is cut.
 fn answer_to(alloc: Global, cut: &Cut) -> Result<Parcel, Bad> {
     let (length, budget, retries, _) = *cut;
     let code = handover();
@@ -133,7 +133,7 @@ fn answer_to(alloc: Global, cut: &Cut) -> Result<Parcel, Bad> {
     answer_of(alloc, stream, Vec::new(alloc))
 }
 
-/// Whether a handover that is cut is answered as it is to be.
+/// Tells whether a handover that is cut gets the answer that it should.
 fn is_cut(alloc: Global, cut: &Cut) -> bool {
     let answer = answer_to(alloc, cut);
     match cut.3 {
@@ -152,7 +152,8 @@ fn cut_handovers(rt: HostRuntime) {
     }
 }
 
-/// With each allocation refused in turn: the stream's end, and `reached` is printed, or want of memory.
+/// Follows a stream with each allocation refused in turn: there is the stream's end, and `reached` is printed, or want
+/// of memory.
 #[test]
 fn a_stream_is_followed_or_not(rt: HostRuntime) {
     let alloc = rt.alloc();
@@ -173,7 +174,7 @@ fn a_stream_is_followed_or_not(rt: HostRuntime) {
     }
 }
 
-/// There is no answer for want of memory.
+/// Tells whether there is no answer for want of memory.
 fn is_short(answer: &Result<Parcel, Bad>) -> bool {
     match answer {
         Ok(_) => false,
@@ -181,7 +182,8 @@ fn is_short(answer: &Result<Parcel, Bad>) -> bool {
     }
 }
 
-/// With each allocation refused in turn: the place where the stream breaks off, and `reached` is printed, or want of memory.
+/// Breaks a stream off with each allocation refused in turn: there is the place where it breaks off, and `reached` is
+/// printed, or want of memory.
 #[test]
 fn a_stream_breaks_off_or_not(rt: HostRuntime) {
     let before = Held(ABSENT, Gone, Some(A), 3, 0);

@@ -20,12 +20,12 @@ const fn new() -> ServerId {
     ServerId::new(1)
 }
 
-/// Two servers, and a shard with a load of 4.
+/// Makes two servers, and a shard with a load of 4.
 pub(super) fn config(alloc: Global) -> Result<Config, AllocError> {
     config_of(alloc, 2, &[4])
 }
 
-/// The absent cell at the new server, the crown of the old one, and so much room at the new one.
+/// Returns the absent cell at the new server, the crown of the old one, and `room` at the new one.
 pub(super) fn held(alloc: Global, room: u64) -> Result<Parcel, AllocError> {
     let cell = CellRight {
         shard: shard(),
@@ -44,7 +44,7 @@ pub(super) fn held(alloc: Global, room: u64) -> Result<Parcel, AllocError> {
     parcel(alloc, &[cell], &[crown], &[room], &[])
 }
 
-/// The steps of the handover: prepared, forwarded, added, published, dropped.
+/// Returns the steps of the handover: prepared, forwarded, added, published, dropped.
 pub(super) fn handover() -> [Instr; 5] {
     [
         Instr::PrepareAdd {
@@ -79,7 +79,7 @@ pub(super) struct Numbers {
     pub(super) room: u64,
 }
 
-/// As many calls as the handover makes, and the room that it takes.
+/// The number of calls of the handover, and the room that it takes.
 pub(super) const ENOUGH: Numbers = Numbers {
     plan: 4,
     budget: 4,
@@ -87,7 +87,7 @@ pub(super) const ENOUGH: Numbers = Numbers {
     room: 4,
 };
 
-/// A plan of one stream with this code and the rights of the handover.
+/// Returns a plan of one stream with this code and the rights of the handover.
 pub(super) fn handover_plan(
     alloc: Global,
     numbers: Numbers,
@@ -99,7 +99,7 @@ pub(super) fn handover_plan(
     plan_of(numbers.plan, streams, Vec::new(alloc))
 }
 
-/// What the stream of such a plan holds at its end.
+/// Returns what the stream of such a plan holds at its end.
 fn end_of(alloc: Global, numbers: Numbers, code: &[Instr]) -> Result<Parcel, Bad> {
     let plan = handover_plan(alloc, numbers, code)?;
     let config = config(alloc)?;
@@ -113,7 +113,7 @@ const fn at(at: u32, why: Why) -> Bad {
     Bad::At { at, why }
 }
 
-/// The parcel has the rights at the end of the handover.
+/// Tells whether the parcel has the rights at the end of the handover.
 pub(super) fn is_end(end: &Parcel) -> bool {
     let absent = CellRight {
         shard: shard(),
@@ -135,7 +135,7 @@ pub(super) fn is_end(end: &Parcel) -> bool {
         && end.spare().is_empty()
 }
 
-/// Whether the handover is followed to its end.
+/// Tells whether the handover is followed to its end.
 fn is_followed(alloc: Global) -> bool {
     match end_of(alloc, ENOUGH, &handover()) {
         Ok(end) => is_end(&end),
@@ -148,7 +148,7 @@ fn handover_is_followed(rt: HostRuntime) {
     assert!(rt; is_followed(rt.alloc()));
 }
 
-/// Whether the stream of a plan with these numbers and this code breaks off.
+/// Tells whether the stream of a plan with these numbers and this code breaks off.
 fn breaks_off(alloc: Global, numbers: Numbers, code: &[Instr], want: Bad) -> bool {
     match end_of(alloc, numbers, code) {
         Ok(_) => false,

@@ -1,5 +1,5 @@
-//! Which of several things that hold a plan up is named, and crowns that are not true of the placement, the worked one of
-//! the admission, also where calls have left cells that no lead describes.
+//! The one thing that is named of several that hold a plan up, and crowns that are not true of the placement: the
+//! worked one of the admission, also if calls have left cells that no lead describes.
 ghost use Rattle.std.specs.Prelude.{◌≡◌};
 
 use super::admission::{
@@ -14,8 +14,8 @@ use std::alloc::{AllocError, Global};
 use std::process::Abort;
 use std::test::Fail;
 
-/// What holds up a plan of two streams that add a secondary of shard 0 at server 3, which is down, and declare a spare
-/// replica more, where the first one declares these rights.
+/// Returns what holds up a plan of two streams, of which the first declares these rights. The second adds a secondary
+/// of shard 0 at server 3, which is down, and declares a spare replica.
 fn held_up_by_many(alloc: Global, first: &Rights) -> Result<Option<Holding>, AllocError> {
     let server = ServerId::new(3);
     let second = Rights {
@@ -33,7 +33,7 @@ fn held_up_by_many(alloc: Global, first: &Rights) -> Result<Option<Holding>, All
     )
 }
 
-/// Room of server 1, and a spare replica of shard 0 where there is to be one.
+/// Returns room of server 1, and a spare replica of shard 0 if there is to be one.
 const fn first_rights(amount: u64, replica: bool) -> Rights {
     Rights {
         spare: if replica { Some(spare()) } else { None },
@@ -74,7 +74,7 @@ fn room_comes_before_spare_replicas_and_these_before_servers(rt: HostRuntime) ->
     Ok(())
 }
 
-/// The crown of shard 0 and nothing else, under a lead.
+/// Returns the crown of shard 0 and nothing else, under a lead.
 const fn only_crown(lead: Lead) -> Rights {
     Rights {
         crown: Some(Crown { lead, ..crown() }),
@@ -82,7 +82,7 @@ const fn only_crown(lead: Lead) -> Rights {
     }
 }
 
-/// The crown of shard 0 is not true.
+/// Checks that the crown of shard 0 is not true.
 const fn untrue_crown() -> Holding {
     Holding::Untrue {
         key: Key::Crown {
@@ -105,7 +105,7 @@ fn crown_of_another_primary_is_untrue(rt: HostRuntime) -> Result<(), Fail> {
     Ok(())
 }
 
-/// How the cells of shard 0 come to be such that no lead describes them.
+/// The way in which the cells of shard 0 come to be such that no lead describes them.
 #[derive(Clone, Copy)]
 enum Odd {
     /// Server 1 is a primary beside server 0.
@@ -133,7 +133,7 @@ fn disturb(rt: &impl Abort, placement: &mut Placement, odd: Odd)
     assert!(rt; placement.lead(shard).is_none());
 }
 
-/// What holds a plan up once no lead describes the cells of shard 0. The pool is the one from before.
+/// Returns what holds a plan up once no lead describes the cells of shard 0. The pool is the one from before.
 fn judged_at_odd(
     rt: &impl Abort,
     alloc: Global,
@@ -146,7 +146,7 @@ fn judged_at_odd(
     Ok(admit(checked, &pool, &placement).err())
 }
 
-/// The crown of shard 0 is not true under this lead.
+/// Checks that the crown of shard 0 is not true under this lead.
 fn assert_untrue(rt: &impl Abort, alloc: Global, odd: Odd, lead: Lead) -> Result<(), AllocError> {
     let checked = checked_of(alloc, plan(alloc, &NOTHING, &only_crown(lead), &[])?)?;
     let answer = judged_at_odd(rt, alloc, &checked, odd)?;
@@ -154,7 +154,7 @@ fn assert_untrue(rt: &impl Abort, alloc: Global, odd: Odd, lead: Lead) -> Result
     Ok(())
 }
 
-/// Neither the lead that the pool still has nor the one that the call made would be true.
+/// Checks that neither the lead that the pool still has is true, nor the one that the call made.
 #[test]
 fn crown_of_cells_that_no_lead_describes_is_untrue(rt: HostRuntime) -> Result<(), Fail> {
     let alloc = rt.alloc();

@@ -14,7 +14,7 @@ const fn wait(signal: u32) -> Instr {
     Instr::Wait { signal }
 }
 
-/// The plan of these codes and of so many signals passes with this order.
+/// Asserts that the plan of these codes and of this many signals passes with this order.
 fn assert_order(
     rt: &impl Abort,
     alloc: Global,
@@ -27,7 +27,7 @@ fn assert_order(
     Ok(())
 }
 
-/// The streams of these codes get to these positions, with so many signals.
+/// Asserts that the streams of these codes get to these positions, with this many signals.
 fn assert_stuck(
     rt: &impl Abort,
     alloc: Global,
@@ -50,7 +50,8 @@ fn wait_comes_after_its_post(rt: HostRuntime) -> Result<(), Fail> {
     Ok(())
 }
 
-/// With each allocation refused in turn: the two streams are put in order, and `reached` is printed, or the plan comes back.
+/// Checks two streams with each allocation refused in turn: they are put in order, and `reached` is printed, or the
+/// plan comes back.
 #[test]
 fn streams_with_a_signal_are_checked_or_not(rt: HostRuntime) {
     let alloc = rt.alloc();

@@ -6,7 +6,7 @@ use sm_reservation::Parcel;
 use sm_verifier::{Checked, Fault, check};
 use std::alloc::{AllocError, Global};
 
-/// A stream of each code, which holds nothing and makes no calls.
+/// Returns a stream of each code, which holds nothing and makes no calls.
 fn streams(alloc: Global, codes: &[&[Instr]]) -> Result<Vec<Stream>, AllocError> {
     let mut streams = Vec::new(alloc);
     for code in codes {
@@ -15,7 +15,7 @@ fn streams(alloc: Global, codes: &[&[Instr]]) -> Result<Vec<Stream>, AllocError>
     Ok(streams)
 }
 
-/// So many signals that carry nothing.
+/// Makes `count` signals that carry nothing.
 fn signals(alloc: Global, count: u32) -> Result<Vec<Parcel>, AllocError> {
     let mut signals = Vec::new(alloc);
     for _ in 0..count {
@@ -24,13 +24,14 @@ fn signals(alloc: Global, count: u32) -> Result<Vec<Parcel>, AllocError> {
     Ok(signals)
 }
 
-/// A plan of a stream for each code, with so many signals that carry nothing.
+/// Makes a plan of a stream for each code, with `count` signals that carry nothing.
 pub(super) fn plan(alloc: Global, count: u32, codes: &[&[Instr]]) -> Result<Plan, AllocError> {
     let streams = streams(alloc, codes)?;
     plan_of(0, streams, signals(alloc, count)?)
 }
 
-/// The answer where a plan does not fit: no check gives it, as the signal is posted once and waited for once, and no test wants it.
+/// Returns the answer to a plan that does not fit. No check gives it, as the signal is posted once and waited for once,
+/// and no test wants it.
 fn misfit() -> Fault {
     Fault::SignalNotOnce {
         signal: u32::MAX,
@@ -39,7 +40,7 @@ fn misfit() -> Fault {
     }
 }
 
-/// The plan's check with the two servers and the shard of the handover.
+/// Returns the plan's check with the two servers and the shard of the handover.
 pub(super) fn check_of(alloc: Global, plan: Plan) -> Result<Checked, (Plan, Fault)> {
     let Ok(config) = config(alloc) else {
         return Err((plan, Fault::NoMemory));
@@ -50,12 +51,12 @@ pub(super) fn check_of(alloc: Global, plan: Plan) -> Result<Checked, (Plan, Faul
     check(alloc, &config, plan)
 }
 
-/// The plan with its check, which it passes.
+/// Returns the plan with its check, which it passes.
 pub(super) fn checked_of(alloc: Global, plan: Plan) -> Result<Checked, AllocError> {
     check_of(alloc, plan).ok().ok_or(AllocError)
 }
 
-/// Why the plan does not pass.
+/// Returns why the plan does not pass.
 pub(super) fn fault_of(alloc: Global, plan: Result<Plan, AllocError>) -> Option<Fault> {
     let Ok(plan) = plan else {
         return Some(Fault::NoMemory);

@@ -44,7 +44,7 @@ pub(super) struct Held(
     pub(super) u64,
 );
 
-/// What is held before an instruction, and what after it, or why it is not made.
+/// The rights that are held before an instruction, and after it, or why it is not made.
 pub(super) type Case = (Held, Result<Held, Why>);
 
 pub(super) const NOTHING: Held = Held(None, Apart, None, 0, 0);
@@ -67,7 +67,7 @@ pub(super) fn server(number: u32) -> ServerId {
     ServerId::new(number)
 }
 
-/// The right to a cell.
+/// Returns the right to a cell.
 const fn cell(shard: u32, server: u32, state: PlainCell) -> CellRight {
     CellRight {
         shard: ShardId::new(shard),
@@ -76,7 +76,7 @@ const fn cell(shard: u32, server: u32, state: PlainCell) -> CellRight {
     }
 }
 
-/// Rights to cells that no instruction of the cases needs: to those of S at A and C, and to that of T at B.
+/// Returns rights to cells that no instruction of the cases needs: to those of S at A and C, and to that of T at B.
 const fn other_cells() -> [CellRight; 3] {
     [
         cell(S, A, PlainCell::Absent),
@@ -85,7 +85,7 @@ const fn other_cells() -> [CellRight; 3] {
     ]
 }
 
-/// The crown of T.
+/// Returns the crown of T.
 const fn other_crown() -> Crown {
     Crown {
         shard: ShardId::new(T),
@@ -94,7 +94,7 @@ const fn other_crown() -> Crown {
     }
 }
 
-/// Room of a server.
+/// Returns room of a server.
 const fn room(server: u32, amount: u64) -> Room {
     Room {
         server: ServerId::new(server),
@@ -102,7 +102,7 @@ const fn room(server: u32, amount: u64) -> Room {
     }
 }
 
-/// Spare replicas of a shard.
+/// Returns spare replicas of a shard.
 const fn spare(shard: u32, amount: u64) -> Spare {
     Spare {
         shard: ShardId::new(shard),
@@ -121,7 +121,7 @@ pub(super) fn lead_of(led: Led) -> Option<Lead> {
     }
 }
 
-/// The rights as a portion.
+/// Returns the rights as a portion.
 fn portion_of(held: &Held) -> Portion {
     let Held(state, led, listed, amount, replicas) = *held;
     Portion {
@@ -145,12 +145,12 @@ fn portion_of(held: &Held) -> Portion {
     }
 }
 
-/// The parcel of these rights alone.
+/// Returns the parcel of these rights alone.
 pub(super) fn alone(alloc: Global, held: &Held) -> Result<Parcel, AllocError> {
     parcel_of(alloc, &portion_of(held))
 }
 
-/// These items, and one more where there is one.
+/// Returns these items, and one more if there is one.
 fn with_one<T: Copy + Drop>(
     alloc: Global,
     items: &[T],
@@ -163,7 +163,7 @@ fn with_one<T: Copy + Drop>(
     Ok(list)
 }
 
-/// The parcel of these rights and of others that no instruction of the cases needs.
+/// Returns the parcel of these rights and of others that no instruction of the cases needs.
 pub(super) fn beside_others(alloc: Global, held: &Held) -> Result<Parcel, AllocError> {
     let rights = portion_of(held);
     let lists = Lists {
@@ -175,14 +175,14 @@ pub(super) fn beside_others(alloc: Global, held: &Held) -> Result<Parcel, AllocE
     Parcel::new(alloc, lists).ok().ok_or(AllocError)
 }
 
-/// A plan with these signals, in which the stream is the second one.
+/// Returns a plan with these signals, in which the stream is the second one.
 fn second_of_two(alloc: Global, stream: Stream, signals: Vec<Parcel>) -> Result<Plan, AllocError> {
     let budget = stream.budget;
     let first = stream_of(alloc, 0, 0, nothing(alloc)?, &[])?;
     plan_of(budget, Vec::from_array(alloc, [first, stream])?, signals)
 }
 
-/// What a stream holds at its end, in a plan with these signals in which it is the second one.
+/// Returns what a stream holds at its end, in a plan with these signals in which it is the second one.
 pub(super) fn answer_of(
     alloc: Global,
     stream: Stream,
@@ -205,7 +205,7 @@ struct Row {
     want: Result<Held, Why>,
 }
 
-/// What each signal carries: nothing, what the row says, and what is to be held after the instruction.
+/// Returns the parcel of each signal: nothing, the row's rights, and what is to be held after the instruction.
 fn signals(alloc: Global, row: &Row) -> Result<Vec<Parcel>, AllocError> {
     let want = row.want.unwrap_or(NOTHING);
     let parcels = [
@@ -216,14 +216,14 @@ fn signals(alloc: Global, row: &Row) -> Result<Vec<Parcel>, AllocError> {
     Ok(Vec::from_array(alloc, parcels)?)
 }
 
-/// What a stream that starts with the row's rights holds at the end of a code with one call at most.
+/// Returns what a stream that starts with the row's rights holds at the end of a code with one call at most.
 fn end_of(alloc: Global, row: &Row, code: &[Instr]) -> Result<Parcel, Bad> {
     let budget = u32::from(is_call(&row.instr));
     let stream = stream_of(alloc, budget, 0, beside_others(alloc, &row.before)?, code)?;
     answer_of(alloc, stream, signals(alloc, row)?)
 }
 
-/// The stream comes to its end with the rights.
+/// Tells whether the stream comes to its end with the rights.
 pub(super) fn is_end(answer: &Result<Parcel, Bad>, want: &Parcel) -> bool {
     match answer {
         Ok(end) => {
@@ -236,7 +236,7 @@ pub(super) fn is_end(answer: &Result<Parcel, Bad>, want: &Parcel) -> bool {
     }
 }
 
-/// The stream breaks off.
+/// Tells whether the stream breaks off at this place, for this reason.
 pub(super) fn breaks_at(answer: &Result<Parcel, Bad>, at: u32, why: Why) -> bool {
     match answer {
         Ok(_) => false,
@@ -244,19 +244,19 @@ pub(super) fn breaks_at(answer: &Result<Parcel, Bad>, at: u32, why: Why) -> bool
     }
 }
 
-/// A handover is under way.
+/// Tells whether a handover is under way.
 fn is_under_way(led: Led) -> bool {
     matches!(led, Ready(_, _) | Handing(_, _) | Handed(_, _))
 }
 
-/// All rights that are to be held after the instruction may be given away, and then nothing is left.
+/// Tells whether all rights that are to be held after the instruction may be given away, and nothing is left then.
 fn is_given_away(alloc: Global, row: &Row) -> Result<bool, AllocError> {
     let answer = end_of(alloc, row, &[IDLE, row.instr, GIVE_ALL]);
     let nothing = nothing(alloc)?;
     Ok(is_end(&answer, &nothing))
 }
 
-/// The stream ends with these rights behind the instruction, or it may not end in a handover.
+/// Tells whether the stream ends with these rights behind the instruction, or may not end in a handover.
 fn is_kept(alloc: Global, row: &Row, want: &Held) -> Result<bool, AllocError> {
     let answer = end_of(alloc, row, &[IDLE, row.instr]);
     if is_under_way(want.1) {
@@ -266,18 +266,18 @@ fn is_kept(alloc: Global, row: &Row, want: &Held) -> Result<bool, AllocError> {
     Ok(is_end(&answer, &want))
 }
 
-/// The instruction leaves just these rights.
+/// Tells whether the instruction leaves just these rights.
 fn is_made(alloc: Global, row: &Row, want: &Held) -> Result<bool, AllocError> {
     Ok(is_given_away(alloc, row)? && is_kept(alloc, row, want)?)
 }
 
-/// The instruction is not made for this reason.
+/// Tells whether the instruction is not made for this reason.
 fn is_refused(alloc: Global, row: &Row, why: Why) -> bool {
     let answer = end_of(alloc, row, &[IDLE, row.instr, GIVE_ALL]);
     breaks_at(&answer, 1, why)
 }
 
-/// The instruction is as the row says.
+/// Tells whether the instruction is as the row says.
 fn is_so(alloc: Global, row: &Row) -> Result<bool, AllocError> {
     match &row.want {
         Ok(want) => is_made(alloc, row, want),
@@ -290,7 +290,7 @@ pub(super) fn assert_case(rt: &impl Abort, at: usize, is_so: bool) {
     assert!(rt; is_so, "case {at}");
 }
 
-/// The instruction is as each of the cases says.
+/// Asserts that the instruction is as each of the cases says.
 pub(super) fn assert_cases(
     rt: &impl Abort,
     alloc: Global,
@@ -310,7 +310,7 @@ pub(super) fn assert_cases(
     Ok(())
 }
 
-/// What is held with a crown that has the wrong lead: all else that might be needed, or nothing of it.
+/// Returns what is held with a crown that has the wrong lead: all others that might be needed, or none of them.
 fn with_lead(led: Led) -> [Held; 3] {
     [
         Held(ABSENT, led, None, 9, 9),
@@ -319,7 +319,7 @@ fn with_lead(led: Led) -> [Held; 3] {
     ]
 }
 
-/// The instruction is not made at any of these leads for the lead's sake, whatever else is held.
+/// Asserts that the instruction is not made at any of these leads for the lead's sake, whatever else is held.
 pub(super) fn assert_wrong_leads(
     rt: &impl Abort,
     alloc: Global,
@@ -340,10 +340,11 @@ pub(super) fn assert_wrong_leads(
     Ok(())
 }
 
-/// What is held before a signal is posted or waited for, what the signal carries, and what is held after it.
+/// The rights that are held before a signal is posted or waited for, those that the signal carries, and those that are
+/// held after it.
 pub(super) type Carriage = (Held, Held, Result<Held, Why>);
 
-/// The instruction is as each of the cases says.
+/// Asserts that the instruction is as each of the cases says.
 pub(super) fn assert_carriages(
     rt: &impl Abort,
     alloc: Global,
@@ -363,7 +364,7 @@ pub(super) fn assert_carriages(
     Ok(())
 }
 
-/// The answer to a code of a stream that starts with these rights.
+/// Returns the answer to a code of a stream that starts with these rights.
 pub(super) fn answer_with(
     alloc: Global,
     budget: u32,
@@ -374,7 +375,7 @@ pub(super) fn answer_with(
     answer_of(alloc, stream, one_signal(alloc)?)
 }
 
-/// One signal that carries nothing.
+/// Returns one signal that carries nothing.
 fn one_signal(alloc: Global) -> Result<Vec<Parcel>, AllocError> {
     Ok(Vec::from_array(alloc, [nothing(alloc)?])?)
 }
