@@ -54,7 +54,7 @@ impl<S: Store> Journal<S> {
         Ok(())
     }
 
-    /// Appends the commands of one turn, if there are any. Each has a comma before it.
+    /// Appends the commands of one turn if there are any. Each has a comma before it.
     pub fn keep(&mut self, alloc: Global, commands: &[u8]) -> Result<(), StoreFault>
         ensures kept { S.keeps_word self.old.store → (batches : List (List (List ℕ))) (changed : List (List ℕ))
             → IsOnDisk S.moment S.written_at S.left_at self.old batches → All IsObject changed → commands.now ≡ behind_commas changed

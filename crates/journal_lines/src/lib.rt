@@ -1,7 +1,8 @@
 //! The lines of a journal: how an append is written, and what a content recovers to.
 //!
-//! A journal is a head and then lines, one for each append. A line has the commands that were appended, as they were read, the sum of the line
-//! before it, and its own, so that each line is checked by itself, and that none is missing before it.
+//! A journal is a head and then lines, one for each append. A line has the commands that were appended, as they were
+//! read, the sum of the line before it, and its own. So each line is checked by itself, and a missing line before it is
+//! found.
 #![tactic(auto)]
 
 mod bodies;

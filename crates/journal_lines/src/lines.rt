@@ -10,12 +10,12 @@ use std::alloc::{AllocError, Global};
 
 const SUM_LENGTH: usize = 64;
 
-/// How many bytes of a line stand before its entries, and how many behind.
+/// The number of bytes of a line before its entries, and the number of those behind them.
 const BEFORE_BODY: usize = 12;
 
 const BEHIND_BODY: usize = 150;
 
-/// How many bytes there are from the sum of the line before to the end of a line, and from what stands behind that sum.
+/// The number of bytes from the sum of the line before to the end of a line, and the number of those behind that sum.
 const FROM_AFTER: usize = 139;
 
 const FROM_QUOTE: usize = 75;
@@ -52,7 +52,7 @@ pub struct Line {
     pub sum: Sum,
 }
 
-/// What a line has that goes on from the line before it.
+/// The parts of a line that goes on from the line before it.
 #[derive(Clone, Copy, Debug)]
 pub struct Entries<'a> {
     pub body: &'a [u8],

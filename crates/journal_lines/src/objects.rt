@@ -3,7 +3,7 @@ ghost use Rattle.std.specs.Prelude.{◌≡◌, ◌<◌, ◌≤◌, ◌↔◌, le
 ghost use Rattle.journal_lines.specs.declared.objects.Quoting.TheVariants.{Outside};
 ghost use Rattle.journal_lines.specs.Objects.{closed_length, is_last, object_length, depth_after, quoting_after, IsObject};
 
-/// Where a byte stands in a text of JSON.
+/// The place of a byte in a text of JSON.
 #[derive(Clone, Copy, Debug, PartialEq, Eq)]
 enum Quoting {
     Outside,
@@ -67,7 +67,7 @@ fn closed_length(bytes: &[u8]) -> Option<usize>
 
 /// Returns the length of the object at the front of the bytes, if there is one on its first line.
 ///
-/// An object is known by its braces alone. What stands within it is read by whoever carries the command out.
+/// An object is known by its braces alone. Those who carry the command out read what stands within it.
 pub fn object_length(bytes: &[u8]) -> Option<usize>
     ensures value { result ≡ object_length bytes.now }
     ensures within { IfSome result (λ n. n ≤ length bytes.now) }

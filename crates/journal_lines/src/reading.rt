@@ -6,12 +6,12 @@ use crate::fault::JournalFault;
 use crate::lines::{Sum, is_right, read_line};
 use std::alloc::Global;
 
-/// How far a journal was read.
+/// The progress of reading a journal.
 #[derive(Clone, Copy, Debug)]
 pub struct Reading {
     /// The sum of the last line that goes on.
     pub sum: Sum,
-    /// How many bytes the lines of entries have that go on.
+    /// The number of bytes of the lines of entries that go on.
     pub end: u64,
     pub batches: u64,
     /// A line was found that does not go on.

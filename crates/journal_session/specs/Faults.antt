@@ -1,4 +1,4 @@
--- What a fault of a store is told as.
+-- The words for a fault of a store.
 use Rattle.journal_store.specs.declared.store.StoreFault.{StoreFault}
 use Rattle.journal_store.specs.declared.store.StoreFault.TheVariants.{NoMemory, Failed}
 use Rattle.journal_session.specs.declared.fault.RecoverFault.{RecoverFault}

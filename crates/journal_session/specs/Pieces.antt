@@ -1,5 +1,5 @@
--- A text that comes in pieces, line by line. `IsOneLine`, `EndsLine`, `with_feed` and `Splits` are steps of the code's own way: whoever reads the public
--- contracts need not read them.
+-- A text that comes in pieces, line by line. `IsOneLine`, `EndsLine`, `with_feed` and `Splits` are internal: you need
+-- not read them for the public contracts.
 use Rattle.std.specs.Prelude.{◌≡◌, ◌≤◌, ℕ, ◌+◌, List, [], ◌∷◌, ◌++◌, length, drop, All, if◌then◌else◌, ◌==◌}
 use Rattle.std.specs.List.{flat_map}
 

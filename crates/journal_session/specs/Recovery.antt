@@ -1,5 +1,5 @@
--- Recovery: the effect on a store, and the content that a crash leaves meanwhile. `StartsAs`, `ComesNext`, `IsFront`, `WasRead` and `HasReplayed` are steps of the code's own way:
--- whoever reads the public contracts need not read them.
+-- Recovery: the effect on a store, and the content that a crash leaves meanwhile. `StartsAs`, `ComesNext`, `IsFront`,
+-- `WasRead` and `HasReplayed` are internal: you need not read them for the public contracts.
 use Rattle.std.specs.Prelude.{◌≡◌, ◌≤◌, ◌<◌, ◌⊎◌, ◌+◌, ℕ, List, [], ◌∷◌, ◌++◌, length, take, drop, All}
 use Rattle.journal_lines.specs.declared.reading.Reading.{Reading}
 use Rattle.journal_lines.specs.Objects.{IsBatch}

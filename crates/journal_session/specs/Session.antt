@@ -1,5 +1,5 @@
--- What a session told, and what a crash leaves of its journal. `IsBetween` and `HasChanges` are steps of the code's own way: whoever reads the public contracts
--- need not read them.
+-- The replies of a session, and what a crash leaves of its journal. `IsBetween` and `HasChanges` are internal: you need not
+-- read them for the public contracts.
 use Rattle.std.specs.Prelude.{◌≡◌, ◌≤◌, ℕ, List, [], ◌++◌, length, take, map, Option}
 use Rattle.std.specs.List.{flat_map}
 use Rattle.std.specs.Io.KnownBytes.{Appends}

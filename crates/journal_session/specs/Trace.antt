@@ -1,4 +1,4 @@
--- What lines do to a state, one behind the other: each line with its effect and its reply is an exchange.
+-- The effects of lines on a state, one behind the other: each line with its effect and its reply is an exchange.
 use Rattle.std.specs.Prelude.{◌≡◌, ℕ, List, [], ◌∷◌, ◌++◌, map, All}
 use Rattle.journal_session.specs.declared.applies.Applied.{Applied}
 use Rattle.journal_session.specs.declared.applies.Applied.TheVariants.{Changed, Unchanged}

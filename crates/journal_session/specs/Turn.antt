@@ -1,4 +1,5 @@
--- What a turn of a session has of its lines. `Took` and `TookText` are steps of the code's own way: whoever reads the public contracts need not read them.
+-- The lines of a turn of a session. `Took` and `TookText` are internal: you need not read them for the public
+-- contracts.
 use Rattle.std.specs.Prelude.{◌≡◌, ℕ, List, ◌++◌, All, map, take}
 use Rattle.journal_lines.specs.Objects.{IsObject, behind_commas}
 use Rattle.journal_session.specs.declared.pending.Pending.{Pending}

@@ -1,4 +1,4 @@
-//! What applies the lines that come.
+//! The trait of what applies the lines of a session.
 ghost use Rattle.std.specs.Prelude.{◌≡◌, ℕ, List, ◌++◌, IfOk};
 ghost use Rattle.journal_lines.specs.Objects.{IsObject};
 ghost use Rattle.journal_session.specs.declared.applies.Applied.TheVariants.{Changed};

@@ -43,7 +43,7 @@ impl From<ServeFault> for ResumeFault {
     }
 }
 
-/// No change of the first `safe` exchanges is ever lost, even if more of them are safe.
+/// States that no change of the first `safe` exchanges is ever lost, even if more of them are safe.
 pub fn safe_lines_stay()
     ensures { (found : List (List ℕ)) (trace : List Exchange) (safe : ℕ) (content : List ℕ)
         → RecoversBeyond found trace safe content → HasAtLeast (found ++ changes_in (take safe trace)) content }

@@ -77,7 +77,7 @@ fn end_turn<S: Store, W: Write>(
     Ok(())
 }
 
-/// Serves each line of the input, to its end. What changed something is on the disk before its reply is written.
+/// Serves each line of the input, to its end. Changes are on the disk before their replies are written.
 pub fn serve<S: Store, A: Applies, R: Read, W: Write>(
     alloc: Global,
     journal: &mut Journal<S>,
@@ -113,7 +113,7 @@ pub fn serve<S: Store, A: Applies, R: Read, W: Write>(
     Err(ServeFault::ReadFailed)
 }
 
-/// Serves each line of the input, to its end, where the input is the journal.
+/// Serves each line of the input, to its end. The input itself is the journal.
 pub fn serve_unkept<A: Applies, R: Read, W: Write>(
     alloc: Global,
     state: &mut A,

@@ -1,4 +1,4 @@
-//! What one read brought, applied.
+//! Turns: the lines that one read brought, applied.
 ghost use Rattle.std.specs.Prelude.{◌≡◌, ℕ, List, [], ◌∷◌, ◌++◌, OnOk};
 ghost use Rattle.journal_session.specs.Pieces.{IsOneLine};
 ghost use Rattle.journal_session.specs.Trace.{Exchange, lines_in, LeadsThrough};

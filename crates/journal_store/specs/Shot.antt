@@ -1,4 +1,4 @@
--- What a store in memory has at a moment, and what a crash then may leave.
+-- The content of a store in memory at a moment, and what a crash then may leave.
 use Rattle.std.specs.Prelude.{◌≡◌, ◌≤◌, ℕ, List, [], ◌++◌, length, take, Option, Some, None}
 use Rattle.journal_store.specs.declared.shot.Shot.{Shot}
 

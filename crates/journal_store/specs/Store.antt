@@ -1,4 +1,4 @@
--- What the calls of a store do to its bytes, and what a crash may leave of them, moment by moment.
+-- The effects of a store's calls on its bytes, and what a crash may leave of them, moment by moment.
 -- A moment is a number that does not fall; a call takes one or more, or none. A store is seen by three functions: its latest moment, what was written by a
 -- moment, and what a crash at a moment may leave.
 use Rattle.std.specs.Prelude.{◌≡◌, ◌≤◌, ◌<◌, ℕ, List, ◌++◌, length, take, drop}
@@ -36,7 +36,7 @@ IsCut least before content = (most : ℕ) × (least ≤ most) × (content ≡ ta
 abbrev pub StepsTo : (List ℕ → Type 0) → (List ℕ → List ℕ → Type 0) → List ℕ → Type 0
 StepsTo left step content = (before : List ℕ) × left before × step before content
 
--- n bytes of the text, from a place on, stand at the front of a piece; none only behind its end, or where there is no room
+-- n bytes of the text, from a place on, stand at the front of a piece; none only behind its end, or if there is no room
 pub record IsPiece (text : List ℕ) (at : ℕ) (piece : List ℕ) (n : ℕ) : Type 0 where
   pub bytes : take n piece ≡ take n (drop at text)
   pub within : n ≤ length (drop at text)

@@ -1,4 +1,4 @@
-//! What a journal is kept in: bytes that are read, appended, cut and synced, and what a crash may leave of them.
+//! Stores of journals: bytes that are read, appended, cut and synced, and what a crash may leave of them.
 #![tactic(auto)]
 
 mod file;

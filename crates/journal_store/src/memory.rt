@@ -1,4 +1,4 @@
-//! A store in memory, which fails where it is told to, and says what a crash may leave.
+//! A store in memory, which fails if it is told to, and says what a crash may leave.
 ghost use Rattle.std.specs.Prelude.{◌≡◌, ◌<◌, ℕ, List, [], ◌∷◌, ◌++◌, false, length, IfOk, IfSome, OnOk, Some, slice_get, ◌⊎◌};
 
 use crate::shot::Shot;
@@ -10,7 +10,7 @@ use std::alloc::{AllocError, Global};
 pub struct MemoryStore {
     alloc: Global,
     shots: Vec<Shot>,
-    /// How many more calls do not fail.
+    /// The number of further calls that do not fail.
     left: u64,
     failed: bool,
     ghost some: { 0 < length shots.items },
@@ -21,7 +21,8 @@ impl MemoryStore {
     ghost use Rattle.journal_store.specs.Store.{IsSynced};
     ghost use Rattle.journal_store.specs.MemoryStore.{memory_moment, memory_written, memory_left};
 
-    /// Makes a store that has these bytes, all of them on the disk. Of its calls that write, the one fails that comes after so many.
+    /// Makes a store that has these bytes, all of them on the disk. It fails at the call that writes after `left`
+    /// others.
     pub fn new(alloc: Global, bytes: &[u8], left: u64) -> Result<MemoryStore, AllocError>
         ensures word { IfOk result (λ store. store.failed ≡ false) }
         ensures written { IfOk result (λ store. memory_written store (memory_moment store) ≡ bytes.now) }
@@ -56,7 +57,8 @@ impl MemoryStore {
         self.present().loose
     }
 
-    /// Makes what a crash now leaves that keeps so many bytes of what is on the disk, and these bytes in the range that was appended. None if no crash leaves that.
+    /// Makes what a crash leaves now that keeps `front` bytes of what is on the disk, and these bytes in the range that
+    /// was appended. None if no crash leaves that.
     pub fn crash(
         &self,
         alloc: Global,
@@ -68,7 +70,7 @@ impl MemoryStore {
         self.present().crash(alloc, front, torn)
     }
 
-    /// Goes on to the next moment, and fails where it is told to.
+    /// Goes on to the next moment, and fails if it is told to.
     fn go_on(&mut self, next: Shot) -> Result<(), StoreFault>
         ensures ok { OnOk result (self.new.shots.items ≡ self.old.shots.items ++ next ∷ []) }
         ensures word { OnOk result (self.new.failed ≡ self.old.failed) }

@@ -1,17 +1,17 @@
-//! What a store in memory has at a moment.
+//! The content of a store in memory at a moment.
 ghost use Rattle.std.specs.Prelude.{◌≡◌, ◌≤◌, ℕ, List, [], ◌++◌, length, take, IfOk, IfSome};
 
 use crate::store::StoreFault;
 use std::alloc::{AllocError, Global};
 
-/// What is on the disk, and what was written.
+/// The bytes on the disk, and those that were written.
 #[derive(Drop)]
 pub struct Shot {
-    /// What the last sync brought to the disk.
+    /// The bytes that the last sync brought to the disk.
     pub synced: Vec<u8>,
-    /// How short cuts since then may have made it.
+    /// The least length to which cuts since then may have brought it.
     pub floor: usize,
-    /// How many bytes were appended since then.
+    /// The number of bytes that were appended since then.
     pub loose: usize,
     pub written: Vec<u8>,
 }
@@ -20,7 +20,7 @@ impl Shot {
     ghost use Rattle.journal_store.specs.Store.{IsTorn, IsCut, StepsTo};
     ghost use Rattle.journal_store.specs.Shot.{IsLeft};
 
-    /// Makes what is there where all of these bytes are on the disk.
+    /// Makes the shot of a store with all of these bytes on the disk.
     pub fn settled(alloc: Global, bytes: &[u8]) -> Result<Shot, AllocError>
         ensures written { IfOk result (λ shot. shot.written.items ≡ bytes.now) }
         ensures only { IfOk result (λ shot. (content : List ℕ) → IsLeft shot content → content ≡ bytes.now) }
@@ -54,7 +54,7 @@ impl Shot {
         })
     }
 
-    /// Makes what is there once it was cut, where nothing was appended since the last sync.
+    /// Makes the shot of a store after a cut, if nothing was appended since the last sync.
     pub fn cut(&self, alloc: Global, least: usize) -> Result<Shot, StoreFault>
         ensures written { IfOk result (λ shot. shot.written.items ≡ take least self.now.written.items) }
         ensures left { IfOk result (λ shot. (content : List ℕ) → IsLeft shot content → StepsTo (IsLeft self.now) (IsCut least) content) }
@@ -73,7 +73,8 @@ impl Shot {
         })
     }
 
-    /// Makes what a crash leaves that keeps so many bytes of what is on the disk, and these bytes in the range that was appended. None if no crash leaves that.
+    /// Makes what a crash leaves that keeps `front` bytes of what is on the disk, and these bytes in the range that was
+    /// appended. None if no crash leaves that.
     pub fn crash(
         &self,
         alloc: Global,

@@ -31,7 +31,7 @@ impl<T: Drop> From<AllocFailed<T>> for StoreFault {
     }
 }
 
-/// What a journal is kept in.
+/// The place in which a journal is kept.
 ///
 /// After a call that failed nothing more is promised of what is read or written, but what a crash may leave.
 pub trait Store {
@@ -41,10 +41,10 @@ pub trait Store {
     /// The latest moment.
     ghost moment: { Self → ℕ };
 
-    /// What was written by a moment, whatever of it is on the disk.
+    /// The bytes that were written by a moment, whatever of them is on the disk.
     ghost written_at: { Self → ℕ → List ℕ };
 
-    /// What a crash at a moment may leave.
+    /// The contents that a crash at a moment may leave.
     ghost left_at: { Self → ℕ → List ℕ → Type 0 };
 
     /// Reads bytes from a place on, and returns how many.

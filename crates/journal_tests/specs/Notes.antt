@@ -1,4 +1,5 @@
--- What the tests keep of the lines that come. `IsNoted`, `ask`, `yes` and `no` are steps of the tests' own way: whoever reads the public contracts need not read them.
+-- The tests' notes of the lines that come. `IsNoted`, `ask`, `yes` and `no` are internal: you need not read them for
+-- the public contracts.
 use Rattle.std.specs.Prelude.{◌≡◌, ◌==◌, ℕ, List, [], ◌∷◌, false}
 use Rattle.std.specs.List.{starts_with}
 use Rattle.journal_lines.specs.Objects.{IsObject}

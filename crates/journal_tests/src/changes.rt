@@ -23,9 +23,9 @@ fn long_journal(alloc: Global) -> Result<(Vec<u8>, Vec<Vec<u8>>), Fail> {
     Ok((journal, end.notes.lines))
 }
 
-/// Changes each byte of a half of the journal in turn: the journal is damaged, with the line of that byte told, or without its last
-/// line where that byte stands in it, or no journal where it stands in the head. It is never another journal. The line feed before the last
-/// line joins two lines into one that is torn.
+/// Changes each byte of a half of the journal in turn. The journal is then damaged, with the line of that byte told; or
+/// without its last line, if the byte stands in that; or no journal, if it stands in the head. It is never another
+/// journal. The line feed before the last line joins two lines into one that is torn.
 fn change_bytes<R: Abort>(
     rt: &R,
     alloc: Global,
@@ -75,7 +75,8 @@ fn a_changed_byte_behind_is_found(rt: HostRuntime) -> Result<(), Fail> {
     change_bytes(&rt, alloc, &journal, &commands, 1)
 }
 
-/// A journal that was cut at any byte of its first lines or its last recovers to the lines that stand in it whole.
+/// Checks that a journal that was cut at any byte of its first lines or its last recovers to the lines that stand in it
+/// whole.
 #[test]
 fn a_cut_journal_keeps_its_lines(rt: HostRuntime) -> Result<(), Fail> {
     let alloc = rt.alloc();

@@ -13,13 +13,13 @@ const REPLIES: &[u8] = b"yes\nno\nno\nyes\nno\nyes\n";
 
 const ENTRIES: [&[u8]; 3] = [b"{\"a\":1}", b"{\"b\":\"}\"}", b"{\"c\":[3,{}]}"];
 
-/// How many parts of what is not synced are lost or kept.
+/// The number of parts of what is not synced that are lost or kept.
 const PARTS: usize = 6;
 
-/// How many subsets of these parts there are.
+/// The number of subsets of these parts.
 const SUBSETS: u32 = 64;
 
-/// Returns the bytes, of which a part is lost where the mask has no bit for it.
+/// Returns the bytes, of which a part is lost if the mask has no bit for it.
 fn torn(alloc: Global, bytes: &[u8], mask: u32) -> Result<Vec<u8>, AllocError> {
     let size = bytes.len() / PARTS + 1;
     let mut torn = Vec::new(alloc);
@@ -37,8 +37,9 @@ fn count(bytes: &[u8], byte: u8) -> usize {
     bytes.iter().filter(|b| **b == byte).count()
 }
 
-/// Each of 14 calls fails in turn, with lines that come one by one or all at once. Whichever of the 64 subsets of six blocks that were not
-/// synced a crash then leaves, all of them or the first half, the store recovers to a beginning of the commands, and to no fewer than were told.
+/// Lets each of 14 calls fail in turn, with lines that come one by one or all at once. A crash then leaves any of the
+/// 64 subsets of six blocks that were not synced, all of them or the first half. The store recovers to a beginning of
+/// the commands, and to no fewer than were told.
 #[test]
 fn nothing_told_is_lost(rt: HostRuntime) -> Result<(), Fail> {
     let alloc = rt.alloc();
@@ -104,9 +105,9 @@ fn crash_recovery<R: Abort>(rt: &R, alloc: Global, content: &[u8], left: u64) ->
     Ok(seen)
 }
 
-/// Each of six calls of a recovery fails in turn, over a journal that was cut at each third byte of its head or each eleventh byte of all, some with
-/// other lines behind the cut. Whatever a crash then leaves, at any length and with any of the 64 subsets of what was not synced, recovers to the
-/// same commands.
+/// Lets each of six calls of a recovery fail in turn. The journal was cut at each third byte of its head or each
+/// eleventh byte of all, and has other lines behind some cuts. Whatever a crash then leaves, at any length and with any
+/// of the 64 subsets of what was not synced, recovers to the same commands.
 #[test]
 fn a_recovery_may_crash(rt: HostRuntime) -> Result<(), Fail> {
     let alloc = rt.alloc();
@@ -129,7 +130,7 @@ fn a_recovery_may_crash(rt: HostRuntime) -> Result<(), Fail> {
     Ok(())
 }
 
-/// However the lines come in pieces, the replies are the same, and so are the commands.
+/// Checks that the replies are the same, and so are the commands, however the lines come in pieces.
 #[test]
 fn pieces_change_nothing(rt: HostRuntime) -> Result<(), Fail> {
     let alloc = rt.alloc();

@@ -1,4 +1,4 @@
-//! What the tests stand on.
+//! The ground that the tests stand on.
 ghost use Rattle.std.specs.Prelude.{◌≡◌, List, [], ◌∷◌, ◌++◌, map};
 ghost use Rattle.journal_session.specs.declared.applies.Applied.TheVariants.{Changed, Unchanged};
 ghost use Rattle.journal_tests.specs.Notes.{IsNoted, no, yes};
@@ -54,7 +54,7 @@ impl Read for Pieces<'_> {
     }
 }
 
-/// What a session left.
+/// The outcome of a session.
 #[derive(Drop)]
 pub struct Outcome {
     pub journal: Journal<MemoryStore>,

@@ -1,6 +1,5 @@
--- What is known of a command that was read over the names of a configuration, or over any names if there is none.
--- `IsKnownAnywhere` is a step of the code's own way, which private functions' contracts cite: whoever reads the public ones need not
--- read it.
+-- Facts that are known of a command that was read over the names of a configuration, or over any names if there is none.
+-- `IsKnownAnywhere` is internal: you need not read it for the public contracts.
 use Rattle.std.specs.Prelude.{◌≢◌, ◌≤◌, ℕ, List, Option, Some, None, IsSome, IfSome, length}
 use Rattle.std.specs.Borrow.{Bor}
 use Rattle.sm_placement.specs.Setup.{Setup, server_named, shard_named}

@@ -1,6 +1,5 @@
--- What is known once a member was read.
--- `is_clean`, `is_needed` and `IsRead` are steps of the code's own way, which private functions' contracts cite: whoever reads the
--- public ones need not read them.
+-- Facts that are known once a member was read.
+-- `is_clean`, `is_needed` and `IsRead` are internal: you need not read them for the public contracts.
 use Rattle.std.specs.Prelude.{◌≡◌, Bool, true, false, is_none}
 use Rattle.sm_commands.specs.declared.faults.Faults.{Faults}
 use Rattle.sm_commands.specs.declared.row.Row.{Row}

@@ -1,4 +1,4 @@
--- What is known of a slot that was read.
+-- Facts that are known of a slot that was read.
 use Rattle.std.specs.Prelude.{◌≡◌, ◌≤◌, Bool, true, false, IfSome, is_some}
 use Rattle.sm_placement.specs.Names.{is_name}
 use Rattle.sm_commands.specs.declared.form.TheConstants.{MOST_EXACT}

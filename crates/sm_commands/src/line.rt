@@ -19,7 +19,7 @@ use json_tree::{ReadFault, Tree};
 use sm_placement::Config;
 use std::alloc::{AllocError, Global};
 
-/// Reads a line as JSON. It answers None where it is none.
+/// Reads a line as JSON. Returns None if it is none.
 pub fn parse_line<'a>(
     alloc: Global,
     line: &'a [u8],
@@ -35,7 +35,7 @@ pub fn parse_line<'a>(
     }
 }
 
-/// Returns by what a line is told, if it is told by something that is in its form.
+/// Returns the id of a line, if it has one that is in its form.
 pub fn id_of<'a>(line: &Tree<'a>) -> Option<Id<'a>> {
     line.get("id").and_then(id_in)
 }

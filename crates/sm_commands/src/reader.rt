@@ -46,7 +46,7 @@ fn first_nameless(entries: &[Tree<'_>]) -> Option<usize> {
     None
 }
 
-/// Returns what is wrong with that by which a line is told, if it is told by anything.
+/// Returns what is wrong with the id of a line, if it has one.
 fn id_fault(line: &Tree<'_>) -> Option<BadLine> {
     let id = line.get("id")?;
     match id_in(id) {

@@ -6,7 +6,7 @@ use sm_placement::{Config, OpenFault};
 use sm_server::{ServerId, ShardId};
 use std::alloc::{AllocError, Global};
 
-/// Returns the name of a server. It is empty where there is no such server.
+/// Returns the name of a server. It is empty if there is no such server.
 pub fn server_name<'a>(config: &'a Config, server: ServerId) -> &'a str {
     match config.servers().get(server.number() as usize) {
         Some(server) => server.name.as_str(),
@@ -14,7 +14,7 @@ pub fn server_name<'a>(config: &'a Config, server: ServerId) -> &'a str {
     }
 }
 
-/// Returns the name of a shard. It is empty where there is no such shard.
+/// Returns the name of a shard. It is empty if there is no such shard.
 pub fn shard_name<'a>(config: &'a Config, shard: ShardId) -> &'a str {
     match config.shards().get(shard.number() as usize) {
         Some(shard) => shard.name.as_str(),

@@ -1,4 +1,4 @@
-//! Which members an object may have, and which it needs.
+//! The members that an object may have, and those that it needs.
 ghost use Rattle.std.specs.Prelude.{◌≡◌};
 
 use crate::command_member::CommandMember;

@@ -45,7 +45,7 @@ pub struct SlotText<'a> {
     pub reached: Option<bool>,
 }
 
-/// Who asks for slots, and so what they have to tell.
+/// The party that asks for slots, which decides what they have to tell.
 #[derive(Clone, Copy, Debug, PartialEq, Eq)]
 pub enum SlotNeeds {
     /// A fence needs positions, and of a prepared cell whether its cut is reached.
@@ -105,7 +105,8 @@ fn cell_kind(word: &str) -> Option<CellKind> {
     }
 }
 
-/// Returns the cell that a slot has to tell; for one that tells none, which is noted, the cell that needs nothing else.
+/// Returns the cell that a slot has to tell. If it tells none, which is noted, returns the cell that needs nothing
+/// else.
 fn cell_in(reader: &mut Reader<'_, '_>) -> CellKind
     ensures { is_clean reader.new.faults ≡ true → is_clean reader.old.faults ≡ true }
 {

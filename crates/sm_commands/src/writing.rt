@@ -25,7 +25,7 @@ pub fn write_name(writer: &mut Writer, name: &str, found: Option<&str>) -> Resul
     }
 }
 
-/// Writes by what a line is told, as a member of its reply.
+/// Writes the id of a line, as a member of its reply.
 pub fn write_id(writer: &mut Writer, id: Option<Id<'_>>) -> Result<(), AllocError> {
     match id {
         Some(Id::Text(text)) => write_text(writer, "id", text),

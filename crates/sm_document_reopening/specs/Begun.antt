@@ -1,5 +1,5 @@
 -- How a reopening under a document begins.
--- `IsGround` and `IsBegun` are for private functions' contracts: whoever reads public contracts need not read them.
+-- `IsGround` and `IsBegun` are internal: you need not read them for the public contracts.
 use Rattle.std.specs.Prelude.{◌≡◌, ℕ, List, None, length, map}
 use Rattle.std.specs.List.{range_with_len}
 use Rattle.sm_placement.specs.Setup.{Setup, names_of_servers, names_of_shards}

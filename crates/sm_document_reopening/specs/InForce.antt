@@ -1,5 +1,5 @@
--- What comes of a reopening once its settlement is in force.
--- `IsOpenedOver` is for a private function's contract: whoever reads public contracts need not read it.
+-- The outcome of a reopening once its settlement is in force.
+-- `IsOpenedOver` is internal: you need not read it for the public contracts.
 use Rattle.std.specs.Prelude.{◌≡◌, ◌&&◌, ℕ, Bool, List, Option, Some, is_some, length, not, slice_get, true}
 use Rattle.sm_placement.specs.Setup.{names_of_servers, names_of_shards, sizes_of}
 use Rattle.sm_placement.specs.Layout.{PlacementModel, place_of}

@@ -1,4 +1,4 @@
--- Who takes part in a reopening: by names, and by numbers.
+-- The parties of a reopening: by names, and by numbers.
 use Rattle.std.specs.Prelude.{ℕ, Bool, List, Option, Some, None, slice_index_or, if◌then◌else◌}
 use Rattle.std.specs.List.{list_any}
 use Rattle.std.specs.Str.{bytes_eq}

@@ -1,5 +1,5 @@
 -- The numbers of names: those of a list keep theirs, and new ones follow.
--- `AreNumberedBelow` and `AreNumbered` are for private functions' contracts: whoever reads public contracts need not read them.
+-- `AreNumberedBelow` and `AreNumbered` are internal: you need not read them for the public contracts.
 use Rattle.std.specs.Prelude.{◌≡◌, ℕ, List, Some, length, slice_get}
 
 -- the names of the first list stand at the same numbers in the second

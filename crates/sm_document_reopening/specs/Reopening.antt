@@ -1,5 +1,5 @@
 -- A reopening under a document, as contracts see it.
--- `IsRenumbered`, `IsNextOpening` and `IsReopening` are the type's own: whoever reads public contracts need not read them.
+-- `IsRenumbered`, `IsNextOpening` and `IsReopening` are internal: you need not read them for the public contracts.
 use Rattle.std.specs.Prelude.{◌≡◌, ◌≤◌, ℕ, List, Option, Some, is_some, length, slice_get}
 use Rattle.sm_placement.specs.Place.{down_count}
 use Rattle.sm_placement.specs.Setup.{Setup, names_of_servers, names_of_shards, sizes_of}
@@ -40,14 +40,14 @@ pub record IsRenumbered (document : Setup) (shards servers : List ℕ) (s : Sett
   pub cells : (k v i j : ℕ) → slice_get shards k ≡ Some i → slice_get servers v ≡ Some j → (place_of p).cells k v ≡ s.place.cells i j
   pub down : (v j : ℕ) → slice_get servers v ≡ Some j → (place_of p).down v ≡ s.place.down j
 
--- What the next driver opens with is settled, and its log has room for those who are down.
+-- The next driver's placement is settled, and its log has room for the servers that are down.
 pub record IsNextOpening (document : Document) (shards servers : List ℕ) (s : Settlement) (p : PlacementModel) : Type 0 where
   pub same : IsRenumbered document.config shards servers s p
   pub settled : IsSettled (sizes_of p.setup) (place_of p)
   pub room : down_count (sizes_of p.setup) (place_of p) ≤ document.log
   pub most : document.log ≤ MOST_PLACES
 
--- What holds of every reopening under a document.
+-- The facts that hold of every reopening under a document.
 pub record IsReopening (r : ReopeningModel) : Type 0 where
   pub servers : length r.numbering.servers ≡ (net_reopening r.ongoing).servers
   pub shards : length r.numbering.shards ≡ shards_of r.ongoing

@@ -1,5 +1,5 @@
 -- Roles by shard and server, as they are kept.
--- `role_at` is for private functions' contracts: whoever reads public contracts need not read it.
+-- `role_at` is internal: you need not read it for the public contracts.
 use Rattle.std.specs.Prelude.{ℕ, Option, None}
 use Rattle.sm_server.specs.declared.call.Role.{Role}
 use Rattle.sm_placement.specs.Layout.{grid_of}

@@ -1,4 +1,4 @@
-//! What begins with a reopening under a document: what is numbered, and who takes part.
+//! The beginning of a reopening under a document: its numbers, and its parties.
 ghost use Rattle.std.specs.Prelude.{◌≡◌, ◌+◌, [], IfOk, length, map};
 ghost use Rattle.sm_placement.specs.Layout.{place_of};
 ghost use Rattle.sm_placement.specs.Config.{setup_of};
@@ -20,7 +20,7 @@ use sm_reopening::{Membership, OngoingReopening};
 use sm_server::{ServerId, ShardId};
 use std::alloc::{AllocError, Global};
 
-/// What all parties of a reopening are numbered by, and the document's roles.
+/// The configuration by which all parties of a reopening are numbered, and the document's roles.
 #[derive(Drop)]
 pub(crate) struct Ground {
     pub numbering: Config,

@@ -1,4 +1,4 @@
-//! Who takes part in a reopening.
+//! The parties of a reopening.
 ghost use Rattle.std.specs.Prelude.{◌≡◌, IfOk, length, map};
 ghost use Rattle.std.specs.List.{list_any, range_with_len};
 ghost use Rattle.std.specs.Str.{bytes_eq};

@@ -68,7 +68,7 @@ fn append_server(rows: &mut Vec<Server>, server: &Server) -> Result<(), AllocErr
     Ok(())
 }
 
-/// Returns the number that a document's server has, or else gives it the next one.
+/// Returns the number that a document's server has, or otherwise gives it the next one.
 #[tactic(auto, using(crate::proofs::Numbers::server_found, crate::proofs::Numbers::keeps_before, crate::proofs::Numbers::server_appended))]
 fn server_number(
     rows: &mut Vec<Server>,
@@ -106,7 +106,7 @@ fn append_shard(rows: &mut Vec<Shard>, shard: &Shard) -> Result<(), AllocError>
     Ok(())
 }
 
-/// Returns the number that a document's shard has, or else gives it the next one.
+/// Returns the number that a document's shard has, or otherwise gives it the next one.
 #[tactic(auto, using(crate::proofs::Numbers::shard_found, crate::proofs::Numbers::keeps_before, crate::proofs::Numbers::shard_appended))]
 fn shard_number(
     rows: &mut Vec<Shard>,

@@ -101,7 +101,7 @@ impl Roles {
     }
 }
 
-/// Returns which of so many servers are down.
+/// Returns which of the first `servers` servers are down.
 fn servers_down(alloc: Global, down: &[bool], servers: u32) -> Result<Vec<ServerId>, AllocError>
     ensures down { IfOk result (λ list. (v : ℕ) → v < servers → list_any (λ x. x == v) list.items ≡ is_down_in down.now v) }
     ensures few { IfOk result (λ list. length list.items ≤ servers) }

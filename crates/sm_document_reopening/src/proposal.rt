@@ -1,4 +1,4 @@
-//! What is proposed.
+//! Proposals, by the numbers of a reopening.
 ghost use Rattle.std.specs.Prelude.{◌≡◌, IfOk, length};
 
 use crate::reopening::DocumentReopening;
@@ -14,7 +14,7 @@ pub struct ShortFloor {
     pub floor: u32,
 }
 
-/// What may be confirmed, by the numbers of the reopening.
+/// The settlement that may be confirmed, by the numbers of the reopening.
 #[derive(Drop)]
 pub struct Proposal {
     pub(crate) roles: Roles,

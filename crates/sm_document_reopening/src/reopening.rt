@@ -20,14 +20,15 @@ use sm_server::{ServerId, ShardId};
 use std::alloc::Global;
 use std::marker::Model;
 
-/// A reopening under way, whose servers and shards have names: those that are recorded keep their numbers, those of reopenings that were
-/// replaced keep theirs, and the new ones of the document follow in its order.
+/// A reopening under way, whose servers and shards have names. Those that are recorded keep their numbers, those of
+/// reopenings that were replaced keep theirs, and the new ones of the document follow in its order.
 pub struct DocumentReopening {
     pub(crate) ongoing: OngoingReopening,
     pub(crate) journal: u64,
     pub(crate) epoch: u32,
     pub(crate) document: Document,
-    /// All servers and shards that have numbers. What the document leaves out has no room there, and wants no replicas.
+    /// All servers and shards that have numbers. Those that the document leaves out have no room there, and want no
+    /// replicas.
     pub(crate) numbering: Config,
     /// The numbers of the document's servers and shards, in the document's order.
     pub(crate) servers: Vec<ServerId>,
@@ -37,7 +38,7 @@ pub struct DocumentReopening {
     /// The permits of the recorded servers that are down.
     pub(crate) permits: Vec<Option<u64>>,
     pub(crate) strays: Vec<Stray>,
-    /// What the next driver opens with, once a settlement is confirmed.
+    /// The placement on which the next driver opens, once a settlement is confirmed.
     pub(crate) next: Option<Placement>,
 }
 

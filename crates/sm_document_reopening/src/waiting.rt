@@ -1,4 +1,4 @@
-//! Whose answers are awaited.
+//! Awaited answers.
 ghost use Rattle.std.specs.Prelude.{◌≡◌, ◌&&◌, not, is_some};
 ghost use Rattle.sm_network.specs.Reopening.{is_asked};
 ghost use Rattle.sm_reopening.specs.Ongoing.{net_reopening};
@@ -9,12 +9,12 @@ use sm_reopening::Party;
 use sm_server::{ServerId, ShardId};
 use std::alloc::{AllocError, Global};
 
-/// How far a reopening is.
+/// The stage of a reopening.
 #[derive(Clone, Copy, Debug, PartialEq, Eq)]
 pub enum Stage {
     /// Answers to the fence are awaited.
     Fence,
-    /// What is proposed may be confirmed.
+    /// The proposal may be confirmed.
     Confirm,
     /// It is confirmed, and answers to the settles are awaited.
     Settle,
@@ -87,8 +87,8 @@ impl DocumentReopening {
         Ok(heirs)
     }
 
-    /// Returns the parties, in their order, that have to answer the fence before anything can be confirmed: those that are not carried over,
-    /// or else those that would be primaries and are not recorded so.
+    /// Returns the parties, in their order, that have to answer the fence before anything can be confirmed. They are
+    /// those that are not carried over, or otherwise those that would be primaries and are not recorded so.
     pub fn waits_for(&self, alloc: Global) -> Result<Vec<Party>, AllocError> {
         let mut parties = self.awaited(alloc)?;
         if !parties.is_empty() {

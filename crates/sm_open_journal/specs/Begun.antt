@@ -1,4 +1,4 @@
--- What is told of a plan that has begun.
+-- Replies about a plan that has begun.
 use Rattle.std.specs.Prelude.{ℕ, List, [], ◌++◌, codes, count_by, sum_by}
 use Rattle.json.specs.Token.{Token}
 use Rattle.sm_plan_code.specs.Instr.{is_call}

@@ -1,4 +1,4 @@
--- What an order or a publication asks for, as it is told.
+-- The calls of orders and publications in replies.
 use Rattle.std.specs.Prelude.{ℕ, List, [], ◌++◌, None, codes, option_map}
 use Rattle.json.specs.Token.{Token}
 use Rattle.sm_server.specs.declared.call.Role.{Role}

@@ -24,10 +24,10 @@ list_member name items = key name ∷ begin_array ∷ (items ++ end_array ∷ []
 abbrev pub object : List Token → List Token
 object members = begin_object ∷ (members ++ end_object ∷ [])
 
--- the name of a server, empty where there is none
+-- the name of a server, empty if there is none
 abbrev pub server_text : Setup → ℕ → List ℕ
 server_text setup v = (slice_index_or setup.servers v no_server).name
 
--- the name of a shard, empty where there is none
+-- the name of a shard, empty if there is none
 abbrev pub shard_text : Setup → ℕ → List ℕ
 shard_text setup s = (slice_index_or setup.shards s no_shard).name

@@ -1,5 +1,5 @@
 -- Which streams a reply tells the messages of.
--- `message_if_new` and `new_message` are for private functions' contracts: whoever reads public contracts need not read them.
+-- `message_if_new` and `new_message` are internal: you need not read them for the public contracts.
 use Rattle.std.specs.Prelude.{ℕ, Bool, true, ◌==◌, List, [], ◌∷◌, ◌++◌, Option, Some, None, codes, decimal, map, not, slice_get, if◌then◌else◌}
 use Rattle.std.specs.List.{filter, list_any, range_with_len}
 use Rattle.json.specs.Token.{Token, key, number}

@@ -259,7 +259,8 @@ impl<'o, 's> Audit<'o, 's> {
         )
     }
 
-    /// Returns whether a shard was recorded last at or before a place, and the server has neither that nor what its present order makes of it.
+    /// Tells whether a shard was recorded last at or before a place, and the server has neither that nor what its
+    /// present order makes of it.
     fn differs(&self, shard: ShardId, facing: &Facing, place: u64) -> bool {
         if self.opened.history.recorded(shard, self.server) > place {
             return false;

@@ -1,4 +1,4 @@
-//! Calls, as they are told.
+//! Calls in replies.
 ghost use Rattle.std.specs.Prelude.{◌≡◌, ◌++◌, OnOk};
 ghost use Rattle.sm_open_journal.specs.Calls.{call_members, word_of_call, change_members, handover_members, word_of_role};
 

@@ -1,4 +1,4 @@
-//! Cells, as they are told.
+//! Cells in replies.
 
 use json::Writer;
 use sm_commands::{server_name, shard_name, write_number, write_text};

@@ -1,4 +1,4 @@
-//! JSON that stands in a text.
+//! Copies of JSON from a text.
 
 use json::{Reader, Scratch, Token, Writer};
 use std::alloc::{AllocError, Global};

@@ -1,4 +1,4 @@
-//! What is to be done about a present order that its server did not take.
+//! Advice about a present order that its server did not take.
 
 use crate::opened::Opened;
 use crate::restored::write_bits;

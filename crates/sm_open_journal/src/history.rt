@@ -1,4 +1,4 @@
-//! What happened at which place. A place counts the commands that changed something.
+//! The history: what happened at which place. A place counts the commands that changed something.
 
 use indexmap::IndexMap;
 use sm_reservation::StreamId;
@@ -19,15 +19,16 @@ struct PlanPlaces {
     ended: Option<u64>,
 }
 
-/// Where present orders came up, where entries of the map and cells changed, and where plans of the epoch ended.
+/// The places where present orders came up, where entries of the map and cells changed, and where plans of the epoch
+/// ended.
 #[derive(Drop)]
 pub struct History {
     alloc: Global,
-    /// Where the map and all cells were recorded anew: the opening of the document in force.
+    /// The place where the map and all cells were recorded anew: the opening of the document in force.
     mapped: u64,
-    /// Where each entry of the map changed last, by the shards' numbers.
+    /// The places where each entry of the map changed last, by the shards' numbers.
     published: Vec<u64>,
-    /// Where cells were recorded last that have changed since.
+    /// The places where cells were recorded last that have changed since.
     recorded: IndexMap<CellAt, u64>,
     plans: Vec<PlanPlaces>,
 }

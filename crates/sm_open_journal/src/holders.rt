@@ -1,4 +1,4 @@
-//! Who has a shard's data, and who has a replica of it.
+//! The holders of a shard's data, and of its replicas.
 ghost use Rattle.std.specs.Prelude.{◌≡◌, ◌<◌, ◌++◌, OnOk, length, not, option_map};
 ghost use Rattle.std.specs.List.{flat_map, range_with_len};
 ghost use Rattle.sm_server.specs.Cell.{is_absent};

@@ -34,7 +34,7 @@ pub fn write_name(writer: &mut Writer, name: &str, found: Option<&str>) -> Resul
     }
 }
 
-/// Returns the name of a server. It is empty where there is no such server.
+/// Returns the name of a server. It is empty if there is no such server.
 pub fn server_name<'a>(config: &'a Config, server: ServerId) -> &'a str
     ensures { result.now ≡ server_text config.now server }
 {
@@ -44,7 +44,7 @@ pub fn server_name<'a>(config: &'a Config, server: ServerId) -> &'a str
     }
 }
 
-/// Returns the name of a shard. It is empty where there is no such shard.
+/// Returns the name of a shard. It is empty if there is no such shard.
 pub fn shard_name<'a>(config: &'a Config, shard: ShardId) -> &'a str
     ensures { result.now ≡ shard_text config.now shard }
 {

@@ -1,4 +1,4 @@
-//! What has come of an answer.
+//! The effects of an answer.
 ghost use Rattle.std.specs.Prelude.{◌≡◌, ◌++◌, OnOk};
 ghost use Rattle.sm_driver.specs.Driver.{record_of};
 ghost use Rattle.sm_open_journal.specs.Replies.{moved_member, position_of, step_members, taken_members};
@@ -44,8 +44,8 @@ impl Messages<'_> {
         Ok(())
     }
 
-    /// Writes, as members, that a stream has made its step, the messages of those streams of its plan that do not stand as they stood, and
-    /// whether the plan has ended.
+    /// Writes, as members, that a stream has made its step, the new messages of its plan's streams, and whether the
+    /// plan has ended.
     pub fn write_taken(
         &self,
         writer: &mut Writer,

@@ -1,4 +1,4 @@
-//! What a command did, as it is noted beside the driver.
+//! Notes of what a command did, beside the driver.
 
 use crate::begun_plan::BegunPlan;
 use crate::history::History;

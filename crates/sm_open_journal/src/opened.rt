@@ -73,7 +73,7 @@ impl Opened {
         Opened::with_kept(alloc, driver, journal, log_room, kept, place)
     }
 
-    /// Returns a journal that is opened anew with a driver at a place. What was given a name in the epoch before is still known.
+    /// Returns a journal that is opened anew with a driver at a place. The names of the epoch before are still known.
     pub fn reopened(
         alloc: Global,
         before: Option<Opened>,
@@ -286,8 +286,8 @@ impl Opened {
         Ok(())
     }
 
-    /// Writes, as members of a reply, that a plan has begun before. If it is one of the present epoch, and that goes on, its orders are told
-    /// as they are now.
+    /// Writes, as members of a reply, that a plan has begun before. If it is one of the present epoch, and that goes
+    /// on, the reply has its orders as they are now.
     pub fn write_begun_again(
         &self,
         writer: &mut Writer,

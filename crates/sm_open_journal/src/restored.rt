@@ -1,4 +1,4 @@
-//! Restores, as they are told.
+//! Restores in replies.
 ghost use Rattle.std.specs.Prelude.{◌<◌};
 ghost use Rattle.sm_driver.specs.Driver.{record_of};
 
@@ -22,7 +22,7 @@ pub fn write_bits(
     write_text(writer, name, text.as_str())
 }
 
-/// Writes what a server is told that has lost all it had.
+/// Writes the restore of a server that has lost all it had.
 fn write_restore(
     opened: &Opened,
     alloc: Global,
@@ -50,7 +50,7 @@ pub struct ToldRestore {
     text: Vec<u8>,
 }
 
-/// Returns a restore as it is told.
+/// Returns a restore with its reply's text.
 fn told_restore(
     opened: &Opened,
     alloc: Global,
@@ -79,7 +79,7 @@ pub fn told_restores(opened: &Opened, alloc: Global) -> Result<Vec<ToldRestore>,
     Ok(told)
 }
 
-/// Returns what servers were told last: what they are told now, and what those were told before that are told nothing now.
+/// Returns the latest restores of servers: those of the present epoch, and for other servers those before.
 pub fn told_last(
     now: Vec<ToldRestore>,
     before: Vec<ToldRestore>,

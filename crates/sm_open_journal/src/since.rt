@@ -1,4 +1,4 @@
-//! What has come since a place.
+//! The changes since a place.
 
 use crate::opened::Opened;
 use crate::published::write_entry;

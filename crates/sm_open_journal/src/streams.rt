@@ -6,7 +6,7 @@ ghost use Rattle.sm_plan_code.specs.declared.limits.TheConstants.{MOST_STREAMS};
 
 use sm_plan_code::{Instr, Stream, is_call};
 
-/// Returns how many calls stand in a code.
+/// Counts the calls of a code.
 fn calls_in(code: &[Instr]) -> usize
     ensures count { result ≡ count_by is_call code.now }
     ensures most { result ≤ length code.now }
@@ -14,7 +14,7 @@ fn calls_in(code: &[Instr]) -> usize
     code.iter().filter(|instr| is_call(instr)).count()
 }
 
-/// Returns how many calls stand in the codes of streams.
+/// Counts the calls of streams.
 pub fn calls_of(streams: &[Stream]) -> usize
     requires small { All IsSmallStream streams.now }
     requires few { length streams.now ≤ MOST_STREAMS }

@@ -1,4 +1,4 @@
--- What the lines of a reopening make of it.
+-- The effects of lines on a reopening.
 use Rattle.std.specs.Prelude.{◌≡◌, ℕ, true}
 use Rattle.sm_network.specs.Reopening.{Confirm, Inventory, Party, Settlement, Told, Took, entered, is_first}
 use Rattle.sm_reopening.specs.Faults.{MayConfirm}

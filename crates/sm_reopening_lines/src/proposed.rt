@@ -1,4 +1,4 @@
-//! What is proposed, and how far a reopening is.
+//! Lines about the proposal, and about the progress of a reopening.
 use crate::sent::party_name;
 use json::Writer;
 use sm_commands::{server_name, shard_name, write_number, write_text};

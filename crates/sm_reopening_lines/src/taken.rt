@@ -63,7 +63,7 @@ fn read_told(
     }
 }
 
-/// Writes whose answers have to come, or else what may be confirmed.
+/// Writes whose answers have to come, or otherwise what may be confirmed.
 fn write_next(
     alloc: Global,
     writer: &mut Writer,

@@ -1,4 +1,4 @@
-//! What a server tells of its slots, as a reopening takes it.
+//! A server's account of its slots, as a reopening takes it.
 ghost use Rattle.std.specs.Prelude.{◌≡◌, ℕ, IfOk, Some, length, true};
 ghost use Rattle.sm_reopening.specs.States.{fits_told};
 
@@ -8,7 +8,7 @@ use sm_reopening::{FoundSlot, Inventory};
 use sm_server::{Cell, ServerId, ShardId};
 use std::alloc::{AllocError, Global};
 
-/// What a server tells: slots of shards that have numbers, and the names of other shards that it has.
+/// A server's account: slots of shards that have numbers, and the names of other shards that it has.
 #[derive(Drop)]
 pub(crate) struct Told {
     pub inventory: Inventory,
@@ -66,7 +66,7 @@ fn no_slots(alloc: Global, numbering: &Config) -> Result<Vec<FoundSlot>, AllocEr
     vec![in alloc; nothing; numbering.shard_count() as usize]
 }
 
-/// Puts what is told of a shard at its place.
+/// Puts a shard's slot at its place.
 fn put_slot(found: &mut Vec<FoundSlot>, shard: ShardId, slot: FoundSlot)
     ensures { length found.new.items ≡ length found.old.items }
 {

@@ -1,4 +1,4 @@
--- What the commands that change something make of a driver.
+-- The effects on a driver of the commands that change something.
 use Rattle.std.specs.Prelude.{◌≡◌, ◌<◌, ◌⊎◌, ℕ, true, List, [], Option, Some, None, length, option_map}
 use Rattle.sm_reservation.specs.declared.stream_id.StreamId.{StreamId}
 use Rattle.sm_placement.specs.Setup.{Setup, Sizes}
@@ -53,7 +53,7 @@ RestoresServer old new = (server : ℕ) × (nonce : ℕ) × HasRestored server n
 abbrev pub OpensNext : DriverModel → DriverModel → Type 0
 OpensNext old new = (epoch_fault old ≡ None) × HasOpenedEpoch old new
 
--- What a command makes of the driver of an open journal.
+-- The effect of a command on the driver of an open journal.
 pub data Changes (old new : DriverModel) : Type 0 where
   Begins : BeginsPlan old new → Changes old new
   Takes : TakesAnswer old new → Changes old new
@@ -134,7 +134,7 @@ SettlesTo None last = ⊥
 abbrev pub ComesInForce : Option UnderWay → Option UnderWay → Option Opened → Type 0
 ComesInForce under after new = (last : ReopeningModel) × SettlesTo (reopening_under_way under) last × (after ≡ None) × OpensOf last new
 
--- What a command that changed something made of what was opened, and of the reopening under way. While one is under way the driver stays as
+-- The effect of a command that changed something on the open journal, and on the reopening under way. While one is under way the driver stays as
 -- it is.
 pub data HasChanged (opened : Option Opened) (under : Option UnderWay) (new : Option Opened) (after : Option UnderWay) : Type 0 where
   Drives : under ≡ None → after ≡ None → HasDriven (driver_of opened) (driver_of new) → HasChanged opened under new after

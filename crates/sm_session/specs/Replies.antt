@@ -1,5 +1,5 @@
--- What is told of a plan that has begun.
--- `TellsBegun` is for private functions' contracts: whoever reads public contracts need not read it.
+-- Replies about a plan that has begun.
+-- `TellsBegun` is internal: you need not read it for the public contracts.
 use Rattle.std.specs.Prelude.{◌≡◌, ℕ, List, ◌++◌}
 use Rattle.json.specs.Token.{Token}
 use Rattle.sm_plan_code.specs.Plan.{PlanModel}

@@ -105,8 +105,8 @@ fn approve_now(
     }
 }
 
-/// Approves the restart of a server under a name, unless one was approved under it or a reopening is under way, writes the reply, and tells
-/// whether it is approved now.
+/// Approves the restart of a server under a name, unless one was approved under it or a reopening is under way. Writes
+/// the reply, and returns whether it is approved now.
 pub fn approve(
     opened: &mut Opened,
     at: Standing,

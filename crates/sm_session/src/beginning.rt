@@ -19,7 +19,7 @@ use sm_plan_code::Plan;
 use sm_verifier::{Fault, check};
 use std::alloc::{AllocError, Global};
 
-/// Returns a plan that is ready to begin; where it does not pass the check, writes why.
+/// Makes a plan ready to begin, and returns it; if it does not pass the check, writes why.
 fn ready(
     opened: &Opened,
     alloc: Global,
@@ -96,8 +96,8 @@ fn start(
     }
 }
 
-/// Begins the plan of a command, unless one has begun under its name or a reopening is under way, writes the reply, and tells whether it
-/// has begun now.
+/// Begins the plan of a command, unless one has begun under its name or a reopening is under way. Writes the reply, and
+/// returns whether it has begun now.
 pub fn begin(
     opened: &mut Opened,
     at: Standing,

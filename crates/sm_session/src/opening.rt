@@ -15,7 +15,7 @@ use sm_placement::{OpenFault, Placement};
 use sm_plan_text::{Document, TextFault, read_document_value};
 use std::alloc::{AllocError, Global};
 
-/// Returns the document that a value is; where it is none, writes what is wrong with it.
+/// Returns the document that a value is; if it is none, writes what is wrong with it.
 pub fn read_document(
     alloc: Global,
     value: &Tree<'_>,
@@ -35,7 +35,7 @@ pub fn read_document(
     }
 }
 
-/// Returns the placement that a document names; where it is not opened, writes why.
+/// Returns the placement that a document names; if it is not opened, writes why.
 fn read_placement(
     alloc: Global,
     document: &Document,

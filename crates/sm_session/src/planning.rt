@@ -18,7 +18,8 @@ use sm_protocol::BeginFault;
 use sm_verifier::{Checked, Fault, admit, check};
 use std::alloc::{AllocError, Global};
 
-/// Returns the plan that a value says over the names of a journal's servers and shards; where it says none, writes what is wrong with it.
+/// Returns the plan that a value says over the names of a journal's servers and shards; if it says none, writes what is
+/// wrong with it.
 pub fn read_plan(
     opened: &Opened,
     alloc: Global,

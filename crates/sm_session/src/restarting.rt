@@ -24,8 +24,8 @@ fn wait_for_reopening(
     }
 }
 
-/// Ends the restart that has this permit, of a server with this base, unless a reopening is under way, writes the reply, and tells whether the
-/// server is up now.
+/// Ends the restart that has this permit, of a server with this base, unless a reopening is under way. Writes the
+/// reply, and returns whether the server is up now.
 pub fn restarted(
     opened: &mut Opened,
     at: Standing,

@@ -23,8 +23,8 @@ fn refuse_engaged(
     refuse(writer, alloc, "Engaged", &[server, plan, number])
 }
 
-/// Restores a server that asks under a nonce, writes the reply, and tells whether it is restored now. While a reopening is under way only
-/// what was told before is told again.
+/// Restores a server that asks under a nonce. Writes the reply, and returns whether it is restored now. While a
+/// reopening is under way, a server is only told what it was told before.
 pub fn restore(
     opened: &mut Opened,
     at: Standing,

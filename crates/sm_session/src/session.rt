@@ -63,7 +63,8 @@ impl Session {
         }
     }
 
-    /// Applies a line, and writes the reply to it, without a line feed, behind what is there. Where memory is short, the session is to end.
+    /// Applies a line, and writes the reply to it, without a line feed, behind what is there. If memory is short, the
+    /// session is to end.
     pub fn apply(
         &mut self,
         alloc: Global,

@@ -1,6 +1,6 @@
-//! Where a command stands.
+//! The standing of a command.
 
-/// Where a command stands: its place if it changes something, and whether a reopening is under way.
+/// The standing of a command: its place if it changes something, and whether a reopening is under way.
 #[derive(Clone, Copy, Debug, PartialEq, Eq)]
 pub struct Standing {
     pub place: u64,

@@ -1,9 +1,9 @@
--- What lines change, as the commands of a driver.
+-- The changes of lines, as the commands of a driver.
 use Rattle.std.specs.Prelude.{List}
 use Rattle.sm_session.specs.Changes.{Changes}
 use Rattle.sm_driver_laws.specs.Driven.{AllByRecursion, Command, Driven, DriverModel, TellsTruth, IsCallable, IsDrivenReached, JournalEntry, Takes, Writes, after_turn}
 
--- What a line makes of the driver of an open journal is what a command of the driver does, given as it has to be.
+-- A line makes of the driver of an open journal what a command of the driver does, given as it has to be.
 abbrev pub ChangesAreCommands : Type 0
 ChangesAreCommands = (old new : DriverModel) → Changes old new → (command : Command) × (es : List JournalEntry) × IsCallable old command × Writes command old new es
 

@@ -4,14 +4,15 @@ ghost use Rattle.sm_session_laws.specs.Turns.{ChangesAreCommands, ChangesAreTurn
 
 use sm_driver_laws::answers_have_entries;
 
-/// What a line makes of the driver of an open journal is what a command of the driver does.
+/// States that what a line makes of the driver of an open journal is what a command of the driver does.
 pub fn changes_are_commands()
     ensures { ChangesAreCommands }
 {
     answers_have_entries();
 }
 
-/// If a line tells the truth, it is a turn of the driver and its fleet, so all laws of the fleet go on to hold.
+/// States that if a line tells the truth, it is a turn of the driver and its fleet, so all laws of the fleet go on to
+/// hold.
 pub fn changes_are_turns()
     ensures { EachDriven ChangesAreTurns }
 {

@@ -4,7 +4,7 @@ use clap::error::ErrorKind;
 use clap::{Arg, ArgAction, Command, Error};
 use std::alloc::{AllocError, Global};
 
-/// What the words behind the program's name ask for.
+/// The task that the words behind the program's name ask for.
 #[derive(Clone, Copy, Debug)]
 pub enum Asked<'a> {
     /// To serve lines whose host keeps them: the input is the journal.

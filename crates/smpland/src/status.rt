@@ -1,6 +1,6 @@
-//! How the program ends.
+//! The end of the program.
 
-/// How the program ends.
+/// The end of the program.
 #[derive(Clone, Copy, Debug, PartialEq, Eq)]
 pub enum Status {
     /// Each line has its reply.
