@@ -6,7 +6,7 @@ NOTHING = ""
 
 # What stands above the list.
 OF_ALL = """The command is `rt ci CRATE`. No contract says what real servers, files, hosts and operators do, when something is sent
-or called, how long it takes, or that it ends. Those of 18 and 19 leave out forged lines."""
+or called, how long it takes, or that it ends."""
 
 NOTES = {
     "report_word": "statuses 3 and 4, beyond what was written; what `main` does",
