@@ -43,7 +43,7 @@ fn start_workers<
     true
 }
 
-/// The things that the threads of a run are lent.
+/// Loans to the threads of a run.
 #[derive(Drop)]
 struct Lent<'r, A: Ledger, B: Ledger, C: Ledger, N: Naming> {
     seats: &'r mut [Seat<B, C, N>],

@@ -33,7 +33,7 @@ fn fault_of(why: RunFault) -> Fault {
 }
 
 impl<A: Ledger> Streams<A> {
-    /// Streams that have not run, and an empty list with room for their tokens.
+    /// Makes streams that have not run, and an empty list with room for their tokens.
     pub fn new(alloc: Global, runners: Vec<Runner<A>>, tokens: Vec<StreamToken>) -> Streams<A>
         requires { vec_len tokens + vec_len runners ≤ vec_capacity tokens }
         ensures runners { result.runners ≡ runners }

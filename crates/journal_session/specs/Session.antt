@@ -43,8 +43,9 @@ abbrev pub EachRecovers : {D : Type 0} → (D → ℕ) → (D → ℕ → List �
 EachRecovers {D} moment written_at left_at entries trace old new = (n : ℕ) (content : List ℕ) → moment old ≤ n → n ≤ moment new
     → left_at new n content → HasNoForged (written_at new n) content → RecoversBeyond entries trace 0 content
 
--- The first `safe` of these exchanges are safe: nothing was written but of their replies, what a crash now leaves has what they changed, and at each moment
--- of the call a crash left what the first of the exchanges changed, none skipped and none in part. What was before the call is as it was.
+-- The first `safe` of these exchanges are safe: nothing was written but of their replies, what a crash now leaves has
+-- what they changed, and at each moment of the call a crash left what the first of the exchanges changed, none skipped
+-- and none in part. The content before the call is as it was.
 pub record AreSafe {D : Type 0} (moment : D → ℕ) (written_at : D → ℕ → List ℕ) (left_at : D → ℕ → List ℕ → Type 0)
     (entries : List (List ℕ)) (trace : List Exchange) (before after : Option (List ℕ)) (old new : D) (safe : ℕ) : Type 0 where
   pub within : safe ≤ length trace

@@ -27,6 +27,6 @@ pub trait Applies {
     ) -> Result<Applied, AllocError>
         ensures takes { IfOk result (λ applied. (text : List ℕ) × (reply.new.items ≡ reply.old.items ++ text)
             × takes self.old (exchange line.now applied text) self.new) }
-        // What changed something is one object, on one line: a journal can take it as an entry.
+        // A line that changed something is one object: a journal can take it as an entry.
         ensures object { IfOk result (λ applied. applied ≡ Changed → IsObject line.now) };
 }

@@ -204,7 +204,7 @@ pub fn recover<S: Store, A: Applies>(
         → IsUnfit A.takes state.old (written_now S.moment S.written_at journal.old.store) number }
     ensures foreign { S.keeps_word journal.old.store → result ≡ Err RecoverFault.Foreign → IsForeign (written_now S.moment S.written_at journal.old.store) }
 {
-    // What is read may be nowhere but in memory.
+    // The bytes that are read may be nowhere but in memory.
     journal.store.sync()?;
     match read_head(alloc, &mut journal.store)? {
         Beginning::Head => recover_lines(alloc, journal, state),

@@ -70,13 +70,13 @@ pub fn resume<S: Store, A: Applies, R: Read, W: Write>(
         × (S.keeps_word journal.old.store → (found : List (List ℕ)) → RecoversTo (written_now S.moment S.written_at journal.old.store) found
         → (count : ℕ) × HasResumed S.moment S.written_at S.left_at found trace
         (W.contents writer.old) (W.contents writer.new) journal.old.store journal.new.store count) }
-    // What earlier runs have told is never lost: if what is read has it, and each content that a crash may leave before
-    // the call has it, then each content that a crash may leave during the call has it too.
+    // Nothing that earlier runs have told is ever lost: if the bytes that are read have it, and each content that a
+    // crash may leave before the call has it, then each content that a crash may leave during the call has it too.
     ensures never_lost { S.keeps_word journal.old.store → (told : List (List ℕ))
         → HasAtLeast told (written_now S.moment S.written_at journal.old.store) → ((content : List ℕ) → MayLeave S.moment S.left_at journal.old.store content → HasAtLeast told content)
         → (n : ℕ) (content : List ℕ) → S.moment journal.old.store ≤ n → n ≤ S.moment journal.new.store → S.left_at journal.new.store n content
         → HasNoForged (S.written_at journal.new.store n) content → HasAtLeast told content }
-    // No reply is written where a line is damaged.
+    // No reply is written if a line is damaged.
     ensures damaged { S.keeps_word journal.old.store → (number : ℕ) → IsDamaged (written_now S.moment S.written_at journal.old.store) number
         → Keeps (W.contents writer.old) (W.contents writer.new) }
 {

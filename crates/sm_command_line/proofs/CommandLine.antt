@@ -1,4 +1,4 @@
--- What clap makes of the words that name a command.
+-- The outcome of clap for words that name a command.
 use Rattle.std.proofs.Common.{◌≡◌, ◌≢◌, true, false, Bool, List, [], ◌∷◌, None, codes, refl, ap, subst, inl, inr, ◌∙◌, ◌⊎◌}
 use Rattle.std.specs.Str.{bytes_eq}
 use Rattle.std.proofs.lemmas.Slice.Eq.{bytes_eq-Decides}

@@ -20,7 +20,7 @@ pub fn report_word<R: AllocGlobal + Threads + Wait + Sync, I: Read, W: Write>(
     reader: &mut I,
     writer: &mut W,
 ) -> Status
-    // What is written and the status are those of the report on the bytes that came.
+    // The text and the status are those of the report on the bytes that came.
     ensures reported { code_of result < 3 → (output : Output)
         × IsReported word (I.remaining reader.old) output × (result ≡ output.status)
         × Appends (W.contents writer.old) (W.contents writer.new) output.text }

@@ -10,7 +10,7 @@ use sm_report::Command;
 use std::alloc::{AllocError, Global};
 use thiserror::Error;
 
-/// The thing that the words after the program's name ask for.
+/// The task that the words after the program's name ask for.
 #[derive(Clone, Copy, Debug, PartialEq, Eq)]
 pub enum Word {
     Report(Command),

@@ -1,4 +1,4 @@
--- Who is live at a server that a call does not name.
+-- Live replicas at a server that a call does not name.
 use Rattle.std.proofs.Common.{◌≡◌, ◌≢◌, ℕ, true, false, refl, sym, ap, ◌∙◌, inl, inr, Some}
 use Rattle.std.proofs.lemmas.Bool.{cases_eq, eq-eqb}
 use Rattle.sm_server.specs.declared.call.Cell.{Cell}

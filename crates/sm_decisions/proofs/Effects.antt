@@ -42,7 +42,7 @@ use Rattle.sm_machine.proofs.ties.Before.{known}
 use Rattle.sm_machine.proofs.ties.Freeing.{free_published, free_unanswered}
 use Rattle.sm_decisions.proofs.Alike.{IsElsewhere, serves_alike}
 
--- What decisions look at is the same.
+-- Decisions look at the same.
 pub record IsAlike (w new : State) : Type 0 where
   pub sizes : new.sizes ≡ w.sizes
   pub down : new.place.down ≡ w.place.down

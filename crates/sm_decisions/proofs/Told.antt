@@ -1,4 +1,4 @@
--- What servers have is what the record says with the effects of some streams.
+-- Servers have what the record says with the effects of some streams.
 use Rattle.std.proofs.Common.{◌≡◌, ◌≢◌, ℕ, suc, zero, ◌<◌, ◌⊎◌, refl, sym, ap, ◌∙◌, inl, inr, subst, arith, Bool, true, false, Option, Some, None, List, [], ◌∷◌, ◌++◌}
 use Rattle.std.specs.Prelude.{◌||◌, is_some, map, option_map, if◌then◌else◌}
 use Rattle.std.specs.List.{AllByRecursion}

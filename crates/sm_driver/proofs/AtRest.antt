@@ -1,4 +1,4 @@
--- Where no plan is unfinished and no version is too high, the next epoch can open on the placement as it is recorded.
+-- If no plan is unfinished and no version is too high, the next epoch can open on the placement as it is recorded.
 use Rattle.std.proofs.Common.{◌≡◌, ◌∙◌, ◌+◌, ◌<◌, ◌≤◌, ℕ, zero, suc, Bool, true, false, Option, Some, None, ◌∷◌, length, refl, ap, arith, inl, inr}
 use Rattle.std.specs.Prelude.{nat_le, slice_get, if◌then◌else◌}
 use Rattle.std.specs.List.{filter, range_with_len}

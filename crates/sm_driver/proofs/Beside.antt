@@ -1,4 +1,4 @@
--- What steps, starts and restarts leave as it is: who is down, and whether a stream is free.
+-- Facts that steps, starts and restarts leave as they are: who is down, and whether a stream is free.
 use Rattle.std.proofs.Common.{◌≡◌, ◌∙◌, ◌<◌, ◌∷◌, [], ℕ, Bool, true, false, Option, Some, None, List, length, map, refl, sym, ap, subst}
 use Rattle.std.proofs.Math.Path.{fun_ext}
 use Rattle.std.specs.Prelude.{◌&&◌, is_none, nat_lt, if◌then◌else◌}

@@ -28,7 +28,7 @@ fault_by None false None = None
 abbrev pub epoch_fault : DriverModel → Option EpochFault
 epoch_fault d = fault_by (slice_get (unfinished_plans (record_of d)) 0) (d.epoch == last_epoch) (shard_spent (record_of d))
 
--- The next epoch has opened, with an empty log of the same room. All else stays.
+-- The next epoch has opened, with an empty log of the same room. Everything else stays.
 pub record HasOpenedEpoch (old new : DriverModel) : Type 0 where
   pub state : record_of new ≡ opened (record_of old).sizes (record_of old).place (record_of old).room
   pub epoch : new.epoch ≡ old.epoch + 1

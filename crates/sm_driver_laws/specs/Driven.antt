@@ -19,7 +19,7 @@ pub data Turn : Type 0 where
   -- the driver takes a command and is this one then; these entries are written
   Takes : (command : Command) (driver : DriverModel) (entries : List JournalEntry) → Turn
 
--- the fleet whose journal has these entries more; all else is as it was
+-- the fleet whose journal has these entries more; the rest is as it was
 abbrev pub with_entries : Fleet → List JournalEntry → Fleet
 with_entries f es = record f { journal = es ++ f.journal }
 

@@ -1,4 +1,4 @@
--- What a closure captures may go to another thread where each captured value may.
+-- Values that a closure captures may go to another thread if each captured value may.
 use Prim.Native.Nat.{ℕ}
 use mathlib.Core.List.{List, [], ◌∷◌}
 use mir.Syntax.{Sym, Ty}

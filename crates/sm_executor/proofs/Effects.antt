@@ -1,4 +1,4 @@
--- What each event records and publishes.
+-- The entries that each event records and publishes.
 use Rattle.std.proofs.Common.{◌≡◌, ◌⊎◌, ◌<◌, ℕ, suc, ◌+◌, Bool, true, false, refl, sym, ap, subst, arith, inl, inr, Option, Some, None, Result, Ok, Err, [], ◌∷◌, ◌++◌}
 use Rattle.std.specs.Prelude.{◌==◌, if◌then◌else◌}
 use Rattle.sm_server.specs.declared.call.Refusal.{Refusal}

@@ -1,4 +1,4 @@
--- What a caller knows of the map: the newest entry of each shard, so that its looks find that entry or a newer one.
+-- A caller's knowledge of the map: the newest entry of each shard, so that its looks find that entry or a newer one.
 use Rattle.std.proofs.Common.{◌≡◌, ◌≢◌, ◌<◌, ℕ, zero, suc, List, [], ◌∷◌, length, length-set, refl, sym, ap, ◌∙◌, subst, arith}
 use Rattle.std.specs.Prelude.{Option, Some, All, IfSome, slice_get, slice_set}
 use Rattle.std.proofs.lemmas.List.Elements.{All-head}

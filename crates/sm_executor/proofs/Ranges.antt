@@ -1,4 +1,4 @@
--- What holds of the map's entries in each state that events lead to.
+-- Facts that hold of the map's entries in each state that events lead to.
 use Rattle.std.proofs.Common.{◌≡◌, ◌<◌, ℕ, Option, Some, None, refl, subst}
 use Rattle.std.specs.Prelude.{IfSome}
 use Rattle.sm_placement.specs.Setup.{Setup}

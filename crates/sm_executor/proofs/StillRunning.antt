@@ -1,4 +1,4 @@
--- How many streams can be unfinished at once.
+-- The number of streams that can be unfinished at once.
 use Rattle.std.proofs.Common.{◌≡◌, ◌≤◌, ◌<◌, ◌+◌, ◌*◌, ◌-◌, ◌++◌, ◌∷◌, [], ◌∙◌, ℕ, zero, suc, Bool, true, false, not, refl, sym, ap, subst, arith, length, length-append, inl, inr}
 use Rattle.std.specs.Prelude.{if◌then◌else◌, ◌==◌, ◌||◌, nat_le, nat_lt}
 use Rattle.std.proofs.lemmas.Bool.{leb-false, cases_eq, and_parts}

@@ -1,4 +1,5 @@
--- Answers of a board. What lies behind the lock then has no name in a contract, so the answer is told by some state of the board.
+-- Answers of a board. No contract has a name for the state behind the lock at that moment, so the answer is told by
+-- some state of the board.
 use Rattle.std.specs.Prelude.{◌≡◌}
 use Rattle.sm_placement.specs.Setup.{Setup}
 use Rattle.sm_protocol.specs.declared.event.Played.{Played}

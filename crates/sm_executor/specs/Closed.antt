@@ -12,9 +12,9 @@ use Rattle.sm_executor.specs.declared.closing.CloseFault.TheVariants.{NotDone, B
 use Rattle.sm_executor.specs.Counting.{IsBooked}
 use Rattle.sm_executor.specs.Views.{HeldModel, state_in, EndedModel, CallerModel}
 
--- ---- the streams that have not made their ends
+-- ---- the streams that have not finished
 
--- the first n streams of a plan that have not made their ends, each with how many instructions it has made
+-- the first n streams of a plan that have not finished, each with how many instructions it has made
 abbrev pub unfinished_in : State → ℕ → ℕ → List (StreamId × ℕ)
 unfinished_in w k zero = []
 unfinished_in w k (suc i) = unfinished_in w k i ++ (if (w.progress k i).done then [] else (stream_id k i, (w.progress k i).at) ∷ [])
@@ -43,7 +43,7 @@ pub data GoesOn (opened : State) : State → Type 0 where
 -- state. It excludes what no list of events since the opening leads to: an answer by a server that did not get the request, a ticket or a
 -- number of another pass, a count that does not rise with the answer, a link that is asked otherwise than the step asks. It does not
 -- exclude what comes about at another of these states: a halted board, a full log, a ticket that is spent, a caller too many, or a stream
--- that has not made its end if it had not at the opening. That these come only from the state behind the lock is told by the code and by
+-- that has not finished if it had not at the opening. That these come only from the state behind the lock is told by the code and by
 -- tests.
 pub record IsBoardState (setup : Setup) (opened now : State) : Type 0 where
   pub reached : IsReached setup now
@@ -79,7 +79,7 @@ abbrev pub StaysOpenFor : HeldModel → ℕ → ℕ → CloseFault → Type 0
 StaysOpenFor h ended callers NotDone = ¬ AreDone (state_in h)
 StaysOpenFor h ended callers BookDiffers = AreDone (state_in h) × ¬ AreAllBack h ended callers
 
--- what a contract sees of a board that is not closed: why, what came back, and which streams have not made their ends
+-- what a contract sees of a board that is not closed: why, what came back, and which streams have not finished
 pub record NotClosedModel : Type 0 where
   pub fault : CloseFault
   pub ended : List EndedModel

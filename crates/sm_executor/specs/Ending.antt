@@ -1,4 +1,5 @@
--- A stream's end at a board. What lies behind the lock then has no name in a contract, so the end is told by some state of the board.
+-- A stream's end at a board. No contract has a name for the state behind the lock at that moment, so the end is told by
+-- some state of the board.
 use Rattle.std.specs.Prelude.{◌≡◌, true, false}
 use Rattle.sm_placement.specs.Setup.{Setup}
 use Rattle.sm_protocol.specs.State.{State}
@@ -15,7 +16,7 @@ pub record HasEnded (setup : Setup) (opened : State) (finish : EndedModel) : Typ
   pub counts : finish ≡ end_in now (running finish.stream finish.counted)
   pub made : finish.steps ≡ made_in finish.stream now.log
 
--- At a state of the board the runner's stream has not made its end.
+-- At a state of the board the runner's stream has not finished.
 pub record HasNotEnded (setup : Setup) (opened : State) (runner : RunnerModel) : Type 0 where
   pub now : State
   pub state : IsBoardState setup opened now

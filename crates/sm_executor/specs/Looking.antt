@@ -1,5 +1,5 @@
--- A caller's knowledge of a board's map. What lies behind the lock has no name in a contract, so what a new caller knows is told by some state of the
--- board.
+-- A caller's knowledge of a board's map. No contract has a name for the state behind the lock at a moment, so the
+-- knowledge of a new caller is told by some state of the board.
 use Rattle.std.specs.Prelude.{◌≡◌, ◌<◌, ℕ, List, [], ◌∷◌, Some, IfSome, slice_get, slice_set}
 use Rattle.sm_placement.specs.Place.{entry_at}
 use Rattle.sm_placement.specs.Setup.{Setup}

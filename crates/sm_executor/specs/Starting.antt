@@ -1,4 +1,5 @@
--- A plan's start at a board. What lies behind the lock then has no name in a contract, so the start is told by some state of the board.
+-- A plan's start at a board. No contract has a name for the state behind the lock at that moment, so the start is told
+-- by some state of the board.
 use Rattle.std.specs.Prelude.{List, ◌≡◌, length}
 use Rattle.sm_placement.specs.Setup.{Setup}
 use Rattle.sm_plan_code.specs.Plan.{PlanModel}

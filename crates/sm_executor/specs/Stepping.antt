@@ -1,5 +1,5 @@
--- A stream's step at a board. What lies behind the lock then has no name in a contract, so the step is told by some
--- state of the board. `is_waiting` is internal: you need not read it for the public contracts.
+-- A stream's step at a board. No contract has a name for the state behind the lock at that moment, so the step is told
+-- by some state of the board. `is_waiting` is internal: you need not read it for the public contracts.
 use Rattle.std.specs.Prelude.{ℕ, Bool, true, false, ◌≡◌}
 use Rattle.sm_placement.specs.Setup.{Setup}
 use Rattle.sm_reservation.specs.declared.stream_id.StreamId.{StreamId}

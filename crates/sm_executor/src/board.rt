@@ -227,7 +227,7 @@ impl<A: Ledger, B: Ledger, C: Ledger, N: Naming> Board<A, B, C, N> {
         self.held.lock(rt).position(runner)
     }
 
-    /// Makes the runner's next step over a link that is not Blocked: waits for the signal, and asks the link for that
+    /// Makes the runner's next step that is not Blocked, over a link: waits for the signal, and asks the link for that
     /// step alone.
     pub(crate) fn step_or_wait<R: Wait, L: Link>(
         &self,

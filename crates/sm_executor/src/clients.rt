@@ -131,7 +131,7 @@ fn start_asks<
     true
 }
 
-/// The things that the threads of a run beside clients are lent.
+/// Loans to the threads of a run beside clients.
 #[derive(Drop)]
 struct Lent<'r, A: Ledger, B: Ledger, C: Ledger, N: Naming> {
     clients: &'r mut [Client<B, C, N>],
@@ -216,7 +216,7 @@ pub fn run_beside<
 {
     let (lists, mut runners) = Lists::beside(alloc, runners)?;
     let ran = run_all_beside(rt, board, runners.as_mut_slice(), clients, gate);
-    // What a thread did to its client is not told to who joins it.
+    // A thread does not tell what it did to its client.
     ask_all(rt, board, clients);
     lists.answer(rt, board, runners, ran)
 }

@@ -53,7 +53,7 @@ pub(crate) struct Starter {
 }
 
 impl Starter {
-    /// Makes a starter that has told no thread anything, and of which no stream has spent its allowance.
+    /// Makes a starter that has told no thread anything yet, with no stream that has spent its allowance.
     pub fn new() -> Starter {
         Starter {
             start: Mutex::new(Start::Waits),

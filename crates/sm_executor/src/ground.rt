@@ -95,7 +95,7 @@ fn words_of(alloc: Global, machine: &Machine) -> Result<(Words, Publisher), Allo
 }
 
 impl Ground {
-    /// Makes the ground of a machine as it stands. Takes memory, and otherwise cannot fail.
+    /// Makes the ground of a machine as it stands. It takes memory, and fails only for want of it.
     pub fn new(alloc: Global, machine: &Machine) -> Result<Ground, AllocError>
         ensures map { IfOk result (λ ground. IsMapOf ground.words (state_of machine.now)) }
         ensures setup { IfOk result (λ ground. ground.setup ≡ machine.now.placement.setup) }

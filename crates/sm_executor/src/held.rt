@@ -432,7 +432,7 @@ impl<A: Ledger, B: Ledger, C: Ledger, N: Naming> Held<A, B, C, N> {
         self.machine.halt();
     }
 
-    /// Streams go on.
+    /// Lets streams go on.
     pub fn resume(&mut self)
         ensures state { state_in self.new ≡ record (state_in self.old) { halted = false } }
         ensures others { self.new ≡ held_model self.new.machine self.old.runners self.old.callers }

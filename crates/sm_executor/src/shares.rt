@@ -8,7 +8,7 @@ use crate::runner::{Ended, Runner};
 use sm_machine::StreamToken;
 use std::sync::ledger::{Ledger, Share};
 
-/// Runners for tokens, each with a part of what is left, into a list with room for them. Takes no memory.
+/// Puts runners for tokens, each with a part of what is left, into a list with room for them. Takes no memory.
 pub(crate) fn fill_runners<A: Ledger>(
     runners: &mut Vec<Runner<A>>,
     mut tokens: Vec<StreamToken>,
@@ -80,7 +80,7 @@ pub(crate) fn spend_ended<A: Ledger>(mut ended: Vec<Ended<A>>) {
     ended.destroy_empty();
 }
 
-/// Callers are given up.
+/// Gives callers up.
 pub(crate) fn spend_callers<B: Ledger, C: Ledger, N: Naming>(mut callers: Vec<Caller<B, C, N>>) {
     while let Some(caller) = callers.pop() {
         caller.spend();

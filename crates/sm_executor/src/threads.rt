@@ -72,7 +72,7 @@ fn outcome(all: bool, starter: Starter) -> Ran {
     }
 }
 
-/// The things that the threads of a run are lent: the runners, and the links in their places.
+/// Loans to the threads of a run: the runners, and the links in their places.
 #[derive(Drop)]
 struct Lent<'r, A: Ledger, L: Link> {
     runners: &'r mut [Runner<A>],
@@ -194,8 +194,8 @@ fn retire_all<A: Ledger, B: Ledger, C: Ledger, N: Naming, R: Wait>(
     runners.destroy_empty();
 }
 
-/// The things that a run needs after its threads: the streams as they were before, and two empty lists with room for
-/// all runners.
+/// Lists for a run to use after its threads: the streams as they were before, and two empty lists with room for all
+/// runners.
 pub(crate) struct Lists<A: Ledger> {
     streams: Vec<StreamId>,
     ended: Vec<Ended<A>>,

@@ -1,4 +1,4 @@
-//! The beginnings of tests of machines and of boards: worked placements, plans of handovers, events by plain numbers
+//! Parts that tests of machines and of boards share: worked placements, plans of handovers, events by plain numbers
 //! with their answers, links that lose calls, and dice. Nothing here is part of the product.
 #![tactic(auto)]
 

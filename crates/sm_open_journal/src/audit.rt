@@ -32,7 +32,7 @@ struct Audit<'o, 's> {
     strays: Vec<usize>,
 }
 
-/// Returns what a server has by a slot, in the configuration's numbers, if it can be recorded so.
+/// Tells whether a slot says what this cell is, in the configuration's numbers.
 fn is_cell(config: &Config, slot: Option<&SlotText<'_>>, cell: &Cell) -> bool {
     let Some(slot) = slot else {
         return cell.is_absent();

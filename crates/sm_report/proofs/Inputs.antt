@@ -1,4 +1,4 @@
--- What is reported of bytes that a reader may have given.
+-- Reports of bytes that a reader may have given.
 use Rattle.std.proofs.Common.{◌≡◌, ◌<◌, ℕ, suc, List, length, replicate, Option, Some, None, Result, Ok, Err, IfSome, lt-ltb, sym, ap, subst, refl, arith}
 use Rattle.std.proofs.lemmas.List.{length-replicate}
 use Rattle.sm_plan_text.specs.Documents.{DocumentModel}

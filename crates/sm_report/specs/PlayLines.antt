@@ -52,7 +52,7 @@ executed_line server = line (codes "executed at " ∷ server ∷ [])
 abbrev pub passed_line : List ℕ → ℕ → ℕ → List ℕ
 passed_line server number place = line (codes "passed to " ∷ server ∷ codes " number " ∷ decimal number ∷ codes " ticket " ∷ decimal place ∷ [])
 
--- no restart: a stream that has not made its end has the server in its code
+-- no restart: a stream that has not finished has the server in its code
 abbrev pub engaged_line : List ℕ → List ℕ
 engaged_line stream = line (codes "denied 2 Engaged " ∷ stream ∷ [])
 
@@ -128,7 +128,7 @@ event_lines setup many x i (e ∷ es) = outcome_line setup many i (event_turn x 
 
 -- ---- the streams after the events
 
--- a stream has not made its end: how many instructions it has made, and how many its code has
+-- a stream has not finished: how many instructions it has made, and how many its code has
 abbrev pub stream_at_line : List ℕ → ℕ → ℕ → List ℕ
 stream_at_line stream at length = line (stream ∷ codes ": at " ∷ decimal at ∷ codes " of " ∷ decimal length ∷ [])
 

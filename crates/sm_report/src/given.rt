@@ -1,4 +1,4 @@
-//! The things that a board has given out, and takes back at its end.
+//! Lists of what a board has given out, and takes back at its end.
 ghost use Rattle.std.specs.Prelude.{◌≡◌, ◌≤◌, ◌+◌, IfOk, [], map, vec_len, vec_capacity};
 ghost use Rattle.sm_report.specs.Unmade.{IsOfRun};
 
@@ -10,7 +10,7 @@ use std::alloc::{AllocError, Global};
 use std::mem;
 use std::sync::ledger::Ledger;
 
-/// The things that a board has given out: the ends of streams, the clients of asks with its callers, and the tokens of
+/// Lists of what a board has given out: the ends of streams, the clients of asks with its callers, and the tokens of
 /// streams that came to no end. Each list has room for all, as nothing of this can be dropped.
 pub struct Given<A: Ledger, B: Ledger, C: Ledger, N: Naming> {
     pub ended: Vec<Ended<A>>,

@@ -86,7 +86,7 @@ pub fn report<R: Read, W: Write>(
     reader: &mut R,
     writer: &mut W,
 ) -> Status
-    // What is written and the status are those of the report on the bytes that came.
+    // The text and the status are those of the report on the bytes that came.
     ensures reported { code_of result < 3 → (output : Output)
         × IsReportOf command MOST_BYTES (R.remaining reader.old) output × (result ≡ output.status)
         × Appends (W.contents writer.old) (W.contents writer.new) output.text }

@@ -163,14 +163,14 @@ pub fn report_run<R: Threads + Wait + Sync, I: Read, W: Write>(
     reader: &mut I,
     writer: &mut W,
 ) -> Status
-    // What is written and the status are those of a report on the bytes that came.
+    // The text and the status are those of a report on the bytes that came.
     ensures reported { code_of result < 3 → (output : Output)
         × IsRunReportOf MOST_BYTES (I.remaining reader.old) output × (result ≡ output.status)
         × Appends (W.contents writer.old) (W.contents writer.new) output.text }
     // Without memory, and after a read that fails, nothing is written.
     ensures memory { result ≡ Status.NoMemory → Keeps (W.contents writer.old) (W.contents writer.new) }
     ensures read_fault { result ≡ Status.ReadFailed → Keeps (W.contents writer.old) (W.contents writer.new) }
-    // Where the plan has begun and was not run to its end, why is all that is written.
+    // If the plan has begun and was not run to its end, the text says only why.
     ensures threads { result ≡ Status.NoThread → (why : Unrun)
         × IsRunReportOf MOST_BYTES (I.remaining reader.old) (not_run why)
         × Appends (W.contents writer.old) (W.contents writer.new) (unrun_text why) }

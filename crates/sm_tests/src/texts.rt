@@ -7,7 +7,7 @@ use std::alloc::{AllocError, Global};
 use std::fmt::Display;
 use std::test::Fail;
 
-/// Asserts that a value prints as this text.
+/// Tells whether a value prints as this text.
 fn prints<T: Display>(alloc: Global, value: &T, text: &str) -> Result<bool, AllocError> {
     Ok(value.to_string(alloc)?.as_str() == text)
 }

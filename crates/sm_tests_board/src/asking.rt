@@ -175,14 +175,14 @@ const fn with_ticket(answers: [Said; 3], asked: Asked, looks: u32, passes: u32) 
     }
 }
 
-/// Returns a case: the request is executed at the desk's server.
+/// Returns the answer that the request is executed at the desk's server.
 const fn at_server() -> Asked {
     Asked::Executed {
         server: the_server(),
     }
 }
 
-/// Returns a case: a desk that always answers NotOwner gets eight requests, each after a look.
+/// Returns cases of a desk without a ticket. One that always answers NotOwner gets eight requests, each after a look.
 const fn cases_without_ticket() -> [Case; 4] {
     let not_listed = Case {
         lists: false,
@@ -206,8 +206,8 @@ const fn cases_without_ticket() -> [Case; 4] {
     ]
 }
 
-/// Passes are followed without a look, up to eight hops. After a pass that is not known there is another look, and no second request
-/// with its ticket.
+/// Returns cases of a desk that gives its ticket out. Passes are followed without a look, up to eight hops. After a
+/// pass that is not known there is another look, and no second request with its ticket.
 const fn cases_with_ticket() -> [Case; 6] {
     let passed = [Said::Passed, Said::Passed, Said::Passed];
     let then_executed = [Said::Passed, Said::Executed, Said::Executed];

@@ -13,7 +13,7 @@ use std::sync::ledger::Ledger;
 use std::sync::{Mutex, Wait};
 use std::thread::Threads;
 
-/// The way in which a plan is run.
+/// A way to run a plan.
 #[derive(Clone, Copy)]
 pub(crate) enum Course<'a> {
     /// To its end, through a gate at which the streams meet.
@@ -58,8 +58,8 @@ fn assert_calls(rt: &impl Abort, called: (u64, u64), calls: u64) {
 }
 
 /// Runs until the board is halted behind a step, and then the rest. If all streams had ended, nothing was left to halt;
-/// behind the first step something is. The gate was called once round each recorded step, and once round the last step
-/// of each stream that was halted.
+/// behind the first step something is left. The gate was called once round each recorded step, and once round the last
+/// step of each stream that was halted.
 fn run_halted<
     A: Ledger + Send + Sync,
     B: Ledger + Send + Sync,

@@ -1,4 +1,4 @@
-//! The things that a board gives out, and events that are made with them, one by one.
+//! Lists of what a board gives out, and events that are made with them, one by one.
 ghost use Rattle.std.specs.Prelude.{◌<◌, length};
 
 use sm_executor::{Board, Caller, Naming, Runner};

@@ -46,7 +46,7 @@ fn assert_two_hops<A: Ledger, B: Ledger, C: Ledger, N: Naming, R: Wait + Abort>(
     assert!(rt; ends_in_two_hops(board.hold(rt).machine()));
 }
 
-/// Returns what the guard and the map say of s.
+/// Asserts what the guard and the map say of s.
 fn assert_held<A: Ledger, B: Ledger, C: Ledger, N: Naming, R: Wait + Abort>(
     rt: &R,
     board: &Board<A, B, C, N>,
@@ -58,7 +58,7 @@ fn assert_held<A: Ledger, B: Ledger, C: Ledger, N: Naming, R: Wait + Abort>(
     assert_eq!(rt; board.look_held(&mut guard, caller, shard), wanted);
 }
 
-/// Returns what the map says of s, read without the lock.
+/// Asserts what the map says of s, read without the lock.
 fn assert_look<A: Ledger, B: Ledger, C: Ledger, N: Naming>(
     rt: &impl Abort,
     board: &Board<A, B, C, N>,

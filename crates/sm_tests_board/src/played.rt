@@ -21,7 +21,7 @@ use std::thread::Threads;
 /// The number of places of the log.
 const PLACES: u32 = 64;
 
-/// Restarts beside a handover.
+/// Returns turns with restarts beside a handover.
 const fn restarts() -> [Turn; 8] {
     [
         (begin(0), begun(0)),

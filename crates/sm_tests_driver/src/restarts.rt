@@ -106,7 +106,7 @@ fn a_reopening_gives_permits(rt: HostRuntime) {
     let _placement = driver.give_up();
 }
 
-/// Permits of earlier epochs are at or below the base, and no two are alike.
+/// Checks that permits of earlier epochs are at or below the base, and no two are alike.
 #[test]
 fn earlier_permits_are_known(rt: HostRuntime) {
     assert!(&rt; are_earlier_permits(&[Some(8), None, Some(9)], 9));

@@ -34,7 +34,7 @@ static IN_CITY: [(Wanted, Told); 31] = [
         ("NoRoom", [3, 0, 0]),
     ),
     (Wanted::Moves(&[(1, 1, 4), (0, 2, 0)]), ("Held", [0, 0, 0])),
-    // ServerDown: the server that a move leaves, or else the other one.
+    // ServerDown: the server that a move leaves, or otherwise the other one.
     (Wanted::Moves(&[(3, 4, 1)]), ("ServerDown", [4, 0, 0])),
     (Wanted::Moves(&[(1, 1, 4)]), ("ServerDown", [4, 0, 0])),
     (

@@ -99,7 +99,7 @@ fn has_same_courses(one: &Machine, other: &Machine, plan: u32) -> bool {
         && has_same_course(one, other, StreamId { plan, stream: 1 })
 }
 
-/// Returns which streams engage the servers.
+/// Tells whether the same streams engage the servers at both.
 fn has_same_engaged(one: &Machine, other: &Machine, servers: u32) -> bool {
     for number in 0..servers {
         let server = ServerId::new(number);

@@ -77,7 +77,7 @@ fn a_handover_is_played(rt: HostRuntime) {
     close_moved(&rt, table);
 }
 
-/// Requests for shard s while it is handed over, one at each server of each kind.
+/// Returns turns with requests for shard s while it is handed over, one at each server of each kind.
 const fn requests() -> [Turn; 18] {
     [
         (begin(0), begun(0)),
@@ -111,7 +111,7 @@ fn requests_are_played_beside_a_handover(rt: HostRuntime) {
     close_moved(&rt, table);
 }
 
-/// Restarts, each with its end: of c, and of others that are denied.
+/// Returns turns with restarts, each with its end: of c, and of others that are denied.
 const fn restarts() -> [Turn; 14] {
     [
         (done(2), Played::Unknown),

@@ -63,8 +63,8 @@ fn a_parcel_is_looked_up_by_its_keys(rt: HostRuntime) -> Result<(), Fail> {
     Ok(())
 }
 
-/// Lists in which the cells of one key have two states, the crowns of one key two leads, and one of two amounts is 0;
-/// from the kind with this number on.
+/// Makes lists in which the cells of one key have two states, the crowns of one key two leads, and one of two amounts
+/// is 0; from the kind with this number on.
 fn doubled_lists(alloc: Global, from: u32) -> Result<Lists, AllocError> {
     let mut lists = lists(
         alloc,

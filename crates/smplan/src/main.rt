@@ -33,8 +33,7 @@ fn texts_of<'a>(alloc: Global, words: &'a [String]) -> Result<Vec<&'a str>, Allo
     Ok(texts)
 }
 
-/// Returns what the words ask for. If they ask for nothing, it writes the text for them, and returns how the program
-/// ends.
+/// Returns what the words ask for. If they ask for nothing, writes the text for them, and returns how the program ends.
 fn word_named(rt: &HostRuntime, words: &[&str]) -> Result<Word, Status> {
     match command_of(rt.alloc(), words) {
         Ok(word) => Ok(word),
@@ -50,8 +49,8 @@ fn word_named(rt: &HostRuntime, words: &[&str]) -> Result<Word, Status> {
     }
 }
 
-/// Returns what the command line asks for. If it asks for nothing, this writes the text for it, and returns how the
-/// program ends.
+/// Returns what the command line asks for. If it asks for nothing, writes the text for it, and returns how the program
+/// ends.
 fn word_of(rt: &HostRuntime) -> Result<Word, Status> {
     let words = match words_of(rt) {
         Ok(words) => words,

@@ -56,7 +56,7 @@ fn config(alloc: Global) -> Result<Config, AllocError> {
     config_of(alloc, 3, &[1, 1])
 }
 
-/// Tells whether the rights are of the configuration, held by a stream or carried by a signal.
+/// Asserts whether rights are of the configuration, held by a stream or carried by a signal.
 fn test_rights(
     rt: &impl Abort,
     alloc: Global,
@@ -102,7 +102,7 @@ fn change(shard: ShardId, server: ServerId) -> Instr {
     }
 }
 
-/// Tells whether a plan that makes one of the instructions is of the configuration.
+/// Asserts whether a plan that makes one of the instructions is of the configuration.
 fn test_code(
     rt: &impl Abort,
     alloc: Global,

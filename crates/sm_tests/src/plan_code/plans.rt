@@ -123,7 +123,7 @@ fn with_many(alloc: Global, streams: u32, signals: u32) -> Result<Option<PlanFau
     Ok(fault_of(0, streams, many_signals(alloc, signals)?))
 }
 
-/// Returns a plan's budget, and the budget and the retries of its one stream.
+/// Makes a plan with this budget, whose one stream has this budget and these retries, and returns its fault.
 fn with_numbers(
     alloc: Global,
     plan: u32,
@@ -266,7 +266,7 @@ fn instructions_and_signals(rt: HostRuntime) -> Result<(), Fail> {
     Ok(())
 }
 
-/// Parts of two streams and three signals.
+/// Makes the parts of two streams and three signals.
 fn small_parts(alloc: Global) -> Result<Parts, AllocError> {
     let streams = many_streams(alloc, 2)?;
     Ok(Parts {

@@ -422,7 +422,7 @@ fn servers_that_are_up_hold_nothing_up(rt: HostRuntime) -> Result<(), Fail> {
     Ok(())
 }
 
-/// Returns the owner of a handover that is prepared and then given up.
+/// Names the owner of a handover that is prepared and then given up.
 #[test]
 fn owner_that_is_down_is_named(rt: HostRuntime) -> Result<(), Fail> {
     let owner = ServerId::new(0);

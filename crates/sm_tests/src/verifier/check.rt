@@ -40,7 +40,7 @@ fn has_end(checked: &Checked) -> bool {
     !checked.plan().streams().is_empty() && is_end(checked.final_hold(0))
 }
 
-/// Returns what the check found out about the handover.
+/// Tells whether the check found out about the handover all that it has to.
 fn is_found_out(checked: &Checked) -> bool {
     let steps = [(0, 0), (0, 1), (0, 2), (0, 3), (0, 4), (0, 5)];
     checked.order() == steps.as_slice()
@@ -68,7 +68,7 @@ fn room_counts_the_longest_list(rt: HostRuntime) -> Result<(), Fail> {
     Ok(())
 }
 
-/// Tells whether the sum of the handover's calls and of this many retries passes, or is above the plan's budget.
+/// Tells whether the check of the handover with this many retries, in a plan of this budget, has this answer.
 fn adds_up(alloc: Global, plan: u32, retries: u32, over: Option<Fault>) -> bool {
     let numbers = Numbers {
         plan,
@@ -78,7 +78,7 @@ fn adds_up(alloc: Global, plan: u32, retries: u32, over: Option<Fault>) -> bool 
     fault_of(alloc, handover_plan(alloc, numbers, &handover())) == over
 }
 
-/// Checks that the streams' calls and retries add up to more than the plan's budget.
+/// Returns the fault that the streams' calls and retries add up to more than the plan's budget.
 const fn over(streams: u64, plan: u32) -> Option<Fault> {
     Some(Fault::Budget { streams, plan })
 }
@@ -90,7 +90,7 @@ fn budgets_add_up(rt: HostRuntime) {
     assert!(rt; adds_up(rt.alloc(), 5, 1, None));
 }
 
-/// Returns where and why the handover's stream breaks off with this code.
+/// Tells whether the handover's stream breaks off with this code, at this place and for this reason.
 fn breaks_off(alloc: Global, code: &[Instr], at: u32, why: Why) -> bool {
     let fault = fault_of(alloc, handover_plan(alloc, ENOUGH, code));
     fault == Some(Fault::Stream { stream: 0, at, why })
@@ -105,7 +105,7 @@ fn handovers_break_off(rt: HostRuntime) {
     assert!(rt; breaks_off(alloc, &code, 3, Why::StillListed));
 }
 
-/// Posts each of two signals and waits for it, and waits for the first one again.
+/// Returns a code that posts each of two signals and waits for it, and waits for the first one again.
 const fn signals() -> [Instr; 5] {
     [
         Instr::Signal { signal: 0 },

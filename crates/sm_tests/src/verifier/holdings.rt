@@ -82,7 +82,7 @@ const fn only_crown(lead: Lead) -> Rights {
     }
 }
 
-/// Checks that the crown of shard 0 is not true.
+/// Returns the reason that the crown of shard 0 is not true.
 const fn untrue_crown() -> Holding {
     Holding::Untrue {
         key: Key::Crown {
@@ -105,7 +105,7 @@ fn crown_of_another_primary_is_untrue(rt: HostRuntime) -> Result<(), Fail> {
     Ok(())
 }
 
-/// The way in which the cells of shard 0 come to be such that no lead describes them.
+/// A way for the cells of shard 0 to become such that no lead describes them.
 #[derive(Clone, Copy)]
 enum Odd {
     /// Server 1 is a primary beside server 0.

@@ -45,7 +45,7 @@ impl Read for FailingReader<'_> {
     }
 }
 
-/// The way in which a write goes wrong.
+/// A way for a write to go wrong.
 #[derive(Clone, Copy)]
 pub enum Fault {
     Fails,

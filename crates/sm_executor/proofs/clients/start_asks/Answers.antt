@@ -1,4 +1,4 @@
--- What a client's thread captures may go to it.
+-- Values that a client's thread captures may go to it.
 use mathlib.Core.List.{[], ◌∷◌}
 use denote.Exit.{no}
 use denote.Param.{param}

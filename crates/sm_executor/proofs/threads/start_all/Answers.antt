@@ -1,4 +1,4 @@
--- What a thread captures may go to it.
+-- Values that a thread captures may go to it.
 use mathlib.Core.List.{[], ◌∷◌}
 use denote.Exit.{no}
 use denote.Param.{param}

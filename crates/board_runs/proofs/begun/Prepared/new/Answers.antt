@@ -1,4 +1,4 @@
--- What was allocated is what a board needs.
+-- The memory that was allocated is what a board needs.
 use Rattle.board_runs.proofs.begun.Prepared.new.Goals as goal
 
 pub invariant_of-result-clause-map : goal.invariant_of-result-clause-map

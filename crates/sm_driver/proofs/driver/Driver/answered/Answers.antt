@@ -1,4 +1,4 @@
--- What holds of every driver holds after an answer.
+-- The facts that hold of every driver hold after an answer.
 use Rattle.std.proofs.Common.{ap, subst, ◌≡◌, ◌∙◌, sym, refl, true}
 use Rattle.std.proofs.lemmas.Bool.{and_parts}
 use Rattle.sm_protocol.specs.State.{State}

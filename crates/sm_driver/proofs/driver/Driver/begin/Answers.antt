@@ -1,4 +1,4 @@
--- What holds of every driver holds after a start.
+-- The facts that hold of every driver hold after a start.
 use Rattle.std.proofs.Common.{ap, subst, length, sym}
 use Rattle.sm_protocol.specs.State.{State}
 use Rattle.sm_machine.specs.State.{state_of}

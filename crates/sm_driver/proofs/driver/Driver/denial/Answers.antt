@@ -1,4 +1,4 @@
--- How many places of the log are free is a small number.
+-- The number of free places of the log is small.
 use Rattle.std.proofs.Common.{◌≤◌, arith}
 use Rattle.sm_protocol.specs.State.{State, free_places}
 use Rattle.sm_machine.specs.State.{state_of}

@@ -1,4 +1,4 @@
--- What holds of every driver holds at the opening.
+-- The facts that hold of every driver hold at the opening.
 use Rattle.std.proofs.Common.{◌∙◌, None, length, replicate, ap, ◌≤◌, subst}
 use Rattle.sm_placement.specs.Setup.{Setup}
 use Rattle.sm_placement.specs.declared.limits.TheConstants.{MOST_SERVERS}

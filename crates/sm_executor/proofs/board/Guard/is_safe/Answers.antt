@@ -1,4 +1,4 @@
--- What is so of the machine is so of the guard's.
+-- Facts about the machine are facts about the guard's.
 use Rattle.std.proofs.Common.{◌≡◌, ℕ, Some, subst}
 use Rattle.sm_placement.specs.SafePlace.{IsServing}
 use Rattle.sm_protocol.specs.declared.event.Played.TheVariants as played

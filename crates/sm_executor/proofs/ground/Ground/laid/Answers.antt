@@ -1,4 +1,4 @@
--- What lies behind the lock of a new board.
+-- The state behind the lock of a new board.
 use Rattle.std.proofs.Common.{ap, ◌∙◌, subst}
 use Rattle.sm_map.specs.Models.{WordsModel, PublisherModel}
 use Rattle.sm_protocol.specs.State.{State}

@@ -3,7 +3,7 @@ use Rattle.sm_driver.specs.Driver.{DriverModel}
 use Rattle.sm_open_journal.specs.Replies.{plan_members}
 use Rattle.sm_open_journal.proofs.opened.Opened.write_plan_now.Goals as goal
 
--- What is told of the plan, of the driver and the journal that are open.
+-- The reply about the plan, from the driver and the journal that are open.
 pub returns : goal.returns
 returns c =
     let o = c.args.writer.now.tokens in

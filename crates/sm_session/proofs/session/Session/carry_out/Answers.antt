@@ -4,7 +4,7 @@ use Rattle.sm_session.specs.declared.reopening.UnderWay.{UnderWay}
 use Rattle.sm_session.specs.Changes.{Changes, Drives, HasChanged}
 use Rattle.sm_session.proofs.session.Session.carry_out.Goals as goal
 
--- What a command has made of the driver, as long as no reopening is under way.
+-- The effect of a command on the driver, as long as no reopening is under way.
 driven : {E : Type 0} (r : Result Bool E) (opened new : Option Opened) (under after : Option UnderWay) (o p : Opened) (is_reopening : Bool) →
     opened ≡ Some o → new ≡ Some p → after ≡ under → (is_reopening ≡ false → under ≡ None) →
     IfOk r (λ changed. changed ≡ true → Changes o.driver p.driver) → IfOk r (λ changed. changed ≡ true → is_reopening ≡ false) →

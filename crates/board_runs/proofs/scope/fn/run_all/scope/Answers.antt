@@ -1,4 +1,4 @@
--- What the threads of a run are lent may go to them.
+-- The loans to the threads of a run may go to them.
 use denote.Param.Send.{sendable}
 use Rattle.board_runs.proofs.scope.fn.run_all.scope.Goals as goal
 
