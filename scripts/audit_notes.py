@@ -76,6 +76,8 @@ NOTES = {
     "Machine::begin": NOTHING,
     "Machine::step": NOTHING,
     "Machine::play": NOTHING,
+    "Director::play": "starts: `Director::start` does",
+    "Director::start": NOTHING,
     "ask": NOTHING,
     "moves": "that no better plan exists",
     "drain": "that no other choice of targets would do",
