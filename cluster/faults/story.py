@@ -137,24 +137,37 @@ class Story:
         await self.cluster.processes[leader].start()
 
     async def freeze_leader(self, seconds: float = 4.0, reopens: bool = False) -> None:
-        """Stops the leading controller, while it writes the map, until it is deposed; then lets it go on. Its messages to etcd are slow before, so that it is in the
-        middle of a write, and it hears late that its lease has ended. If it `reopens`, the next leader does, before that one goes on."""
+        """Stops the leading controller, while it writes the map, until it is deposed; then lets it go on. Its write is held on its way until another one leads,
+        and it hears late that its lease has ended. If it `reopens`, the next leader does, before the write arrives and that one goes on."""
         leader = await self.leader()
         if leader is None:
             return
-        async with self.slowed(f"etcd {leader} "):
-            await self.wait_for_publication()
-            self.tell(f"stop {leader}, which leads")
-            self.cluster.processes[leader].signal(signal.SIGSTOP)
         try:
-            await asyncio.sleep(seconds)
-            if reopens:
-                await self.reopen(without(await self.state(), self.document, self.lost), [], f"{leader} does not answer", replaces=True)
+            async with self.held(ENTRY_WRITTEN, f"etcd {leader} "):
+                await self.wait_for_held_write()
+                self.tell(f"stop {leader}, which leads")
+                self.cluster.processes[leader].signal(signal.SIGSTOP)
+                await asyncio.sleep(seconds)
+                if reopens:
+                    await self.reopen(without(await self.state(), self.document, self.lost), [], f"{leader} does not answer", replaces=True)
+                arrived, is_deposed = await self.writes_that_arrived(), await self.leader() not in (None, leader)
+            await asyncio.sleep(0.5)
+            self.counts["map writes that a deposed leader had sent"] += is_deposed * (await self.writes_that_arrived() - arrived)
         finally:
             async with self.held(["/v3/lease/"], f"etcd {leader} "):
                 self.cluster.processes[leader].signal(signal.SIGCONT)
                 await asyncio.sleep(1.5)
         self.counts["leaders stopped"] += 1
+
+    async def wait_for_held_write(self, seconds: float = 8.0) -> None:
+        """Waits until one more write of the map is held, for some seconds at most."""
+        held, until = await self.proxies_count("etcd held"), time.monotonic() + seconds
+        while await self.proxies_count("etcd held") == held and time.monotonic() < until:
+            await asyncio.sleep(0.05)
+
+    async def writes_that_arrived(self) -> int:
+        """How many writes of the map have arrived that were held."""
+        return await self.proxies_count("etcd held and then done") + await self.proxies_count("etcd held and then refused")
 
     async def wait_for_publication(self, seconds: float = 4.0) -> None:
         """Waits until the leader has a write of the map under way, for some seconds at most."""
@@ -172,12 +185,10 @@ class Story:
     async def reopen_before_write(self) -> None:
         """Holds writes of the map on their way to etcd, and reopens before they arrive: they come late, behind the fence of the map."""
         async with self.restarting:
-            held, refused = await self.proxies_count("etcd held"), await self.proxies_count("etcd held and then refused")
+            refused = await self.proxies_count("etcd held and then refused")
             document = without(await self.state(), self.document, self.lost)
             async with self.held(ENTRY_WRITTEN, "etcd k"):
-                until = time.monotonic() + 8.0
-                while await self.proxies_count("etcd held") == held and time.monotonic() < until:
-                    await asyncio.sleep(0.05)
+                await self.wait_for_held_write()
                 reopening = asyncio.create_task(self.reopen(document, [], "writes of the map do not arrive"))
                 await self.wait_until_fenced(None)
             await reopening

@@ -14,6 +14,8 @@ SITUATIONS = (
     "a leader killed between an entry and its write of the map", "a fence that meets an order at work", "a crash while at work", "a late fence", "a late inventory",
     "a late settle", "a second reopening in place of one under way", "a server lost between fence and settle", "a late publication after a reopening", "a failover",
 )
+# What a deposed leader does to the map, as controllers and the story count it.
+DEPOSED = ("publications of one that does not lead", "map writes of one that does not lead", "map writes that a deposed leader had sent")
 # Which orders copy a shard. (one that only takes it over is done in no time)
 COPYING = ("prepare_add", "add")
 
@@ -55,15 +57,19 @@ def answered_again(events: list[dict]) -> int:
 
 
 def earlier_restores(events: list[dict]) -> int:
-    """How many restores came that an earlier start of their server had asked for."""
-    nonces: dict[str, list[str]] = defaultdict(list)
+    """How many restores came that an earlier start of their server had asked for. A fence makes one more nonce for the start in which it comes."""
+    earlier: dict[str, set[int]] = defaultdict(set)
+    present: dict[str, set[int]] = defaultdict(set)
     found = 0
     for event in events:
-        asked = nonces[event["server"]]
+        server, nonce = event["server"], int(event.get("nonce") or "0", 16)
         if event["kind"] in ("start", "forget"):
-            asked.append(event["nonce"])
+            earlier[server] |= present[server]
+            present[server] = {nonce}
+        elif event["kind"] == "fence":
+            present[server].add(nonce)
         elif event["kind"] == "restore-ignored":
-            found += int(event["nonce"], 16) in [int(it, 16) for it in asked[:-1]]
+            found += nonce in earlier[server] - {0}
     return found
 
 
@@ -94,7 +100,7 @@ def situations_of(events: list[dict], replies: Counter[str], counts: Counter[str
     found["a second restarted"] = replies["restarted: ignored"]
     found["a passed request after its handover ended"] = kinds["passed-late"]
     found["an append that timed out and went through"] = counts["appends that went through unanswered"]
-    found["a map write of a deposed leader"] = counts["publications of one that does not lead"] + counts["map writes of one that does not lead"]
+    found["a map write of a deposed leader"] = sum(counts[it] for it in DEPOSED)
     found["a repetition while work runs"] = kinds["order-at-work"]
     found["a repetition while a copy runs"] = sum(it["kind"] == "order-at-work" and it["call"] in COPYING for it in ordered)
     found["a server that crashed without leave"] = counts["servers killed without leave"]

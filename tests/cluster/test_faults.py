@@ -205,6 +205,7 @@ class SituationsTest(unittest.TestCase):
             self.event(18, "order-at-work", call="add", number=13), self.event(19, "order-at-work", call="drop", number=15),
             self.event(20, "fence", nonce="9"), self.event(21, "settle"), self.event(22, "restore", nonce="0"),
             self.event(23, "forget", nonce="a"), self.event(24, "fence", nonce="b"), self.event(25, "restore", nonce="b"),
+            self.event(26, "restore-ignored", nonce="a", known=True), self.event(27, "start", nonce="c"), self.event(28, "restore-ignored", nonce="b", known=False),
         ]
         found = situations_of(events, Counter({"restarted: ignored": 2}), Counter())
         self.assertEqual(found["an order answered again after its stream went on"], 1)
@@ -212,7 +213,7 @@ class SituationsTest(unittest.TestCase):
         self.assertEqual(found["a crash while at work"], 1)
         self.assertEqual(found["an order answered old"], 1)
         self.assertEqual((found["a second restarted"], found["a restore behind a late fence"]), (2, 1))
-        self.assertEqual((found["a restore that comes late"], found["a restore of an earlier restart that comes late"]), (2, 1))
+        self.assertEqual((found["a restore that comes late"], found["a restore of an earlier restart that comes late"]), (4, 2))
         self.assertEqual((found["a repetition while work runs"], found["a repetition while a copy runs"]), (2, 1))
         self.assertLessEqual(set(found), set(SITUATIONS))
         self.assertEqual(handover_waits([{**it, "t": it["t"] * 1e9} for it in events]), [3.0])
