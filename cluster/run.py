@@ -131,8 +131,13 @@ class Run:
         showing = asyncio.create_task(self.show())
         start = time.monotonic()
         doing = [asyncio.create_task(self.do_at(start + share * self.settings.seconds, name)) for share, name in self.settings.parts]
-        await asyncio.sleep(self.settings.seconds)
-        await asyncio.gather(*doing)
+        try:
+            await asyncio.sleep(self.settings.seconds)
+            await asyncio.gather(*doing)
+        except BaseException:
+            for task in (moving, showing, *doing):
+                task.cancel()
+            raise
         self.moved_for = time.monotonic() - start
         self.mover.stopped.set()
         try:

@@ -24,6 +24,8 @@ from cluster.launch.situations import SITUATIONS
 from cluster.run import Result, Run, Settings, add_session, in_words
 from cluster.wire import Failed
 
+# How long a run may take beside its harm, in seconds: one whose processes were ended by somebody else would not end.
+LONGEST = 1200.0
 # What may happen in a run, and how often.
 HARM = (("kill_leader", 1), ("freeze_leader", 1), ("kill_member", 1), ("crash_server", 2), ("restart_server", 4), ("drain", 1))
 
@@ -100,7 +102,8 @@ class Storm:
         rates = CALM if told.calm else ROUGH
         settings = Settings(directory, shape, program_of(told.program), told.seconds, rates, parts_of(seed), tuple(told.bug), is_quiet=True, is_busy=told.busy)
         try:
-            result = await Run(settings).run()
+            async with asyncio.timeout(LONGEST + told.seconds):
+                result = await Run(settings).run()
         except (NotReady, NotOpened, OSError, TimeoutError, NoLeader, Failed) as why:
             self.sums.failed.append(f"seed {seed}: {type(why).__name__} {why}")
             print(f"seed {seed}: {why}", flush=True)
