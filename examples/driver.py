@@ -30,10 +30,18 @@ class Servers:
 
     def __init__(self, document):
         self.numbers = {it["name"]: number for number, it in enumerate(document["servers"])}
-        self.bases = {it: agent.forget(secrets.randbits(63) | 1) for it in self.numbers}
-        self.slots = {it: {} for it in self.numbers}
+        self.bases, self.slots = {}, {}
+        for name in self.numbers:
+            self.lose_slots(name)
         self.data = {(cell["server"], it["name"]): ["some data"] for it in document["shards"] for cell in it["cells"]}
         self.map = {it["name"]: (it["listed"], 0) for it in document["shards"]}
+
+    def lose_slots(self, name):
+        self.bases[name], self.slots[name] = agent.forget(secrets.randbits(63) | 1), {}
+
+    async def base(self, name):
+        base = self.bases[name]
+        return base.number if base.known and not base.fenced else None
 
     async def restore(self, told):
         name, journal = told["server"], int(told["journal"], 16)
@@ -76,6 +84,20 @@ def done(reply, word):
     return reply[word]
 
 
+async def restart(controller, servers, name):
+    """Restarts a server, if it may be, and has it lose its slots: it is up once it was restored, as its base tells."""
+    told = await controller.do({"do": "approve", "server": name, "by": "restart"})
+    if "approved" not in told:
+        return print(f"{name} may not be restarted: {json.dumps(told)}")
+    permit = told["approved"]["permit"]
+    servers.lose_slots(name)
+    print(f"{name} has lost its slots: {done(await controller.restarted(permit), 'refused')['kind']}")
+    await controller.do({"do": "restore", "server": name, "nonce": f"{servers.bases[name].nonce:x}"})
+    while controller.outgoing:
+        await asyncio.sleep(0.01)
+    print(f"{done(await controller.restarted(permit), 'up')} has them again, and is up")
+
+
 async def main(path, program):
     try:
         with open(path, encoding="utf-8") as file:
@@ -101,6 +123,7 @@ async def main(path, program):
     done(await controller.do({"do": "begin", "plan": plan, "name": "first"}), "begun")
     while controller.outgoing:
         await asyncio.sleep(0.01)
+    await restart(controller, servers, drained or list(servers.numbers)[-1])
     await controller.rest()
     await session.close()
     for name in servers.numbers:
