@@ -22,9 +22,11 @@ class Lease:
         return self.lease is not None and time.monotonic() < self.until
 
     async def campaign(self) -> bool:
-        """Tries once to become the leader."""
+        """Tries once to become the leader, if nobody is."""
         begun = time.monotonic()
         try:
+            if await self.etcd.get(LEADER) is not None:
+                return False
             lease = await self.etcd.grant(self.seconds)
             if not await self.etcd.transact([is_absent(LEADER)], [put(LEADER, self.name, lease)]):
                 await self.etcd.revoke(lease)
