@@ -15,7 +15,7 @@ from cluster.launch.cluster import ROUGH, program_of
 from cluster.launch.operator import NoLeader
 from cluster.launch.processes import NotReady
 from cluster.launch.shape import Shape
-from cluster.run import Run, Settings, add_session
+from cluster.run import Run, Settings, add_load, add_session
 from cluster.servers.bugs import BUGS as SERVER_BUGS
 from cluster.wire import Failed
 
@@ -54,7 +54,7 @@ async def first_violation(bug: str, seed: int, told: argparse.Namespace) -> str 
     parts, swaps = PARTS_OF.get(bug, PARTS), SWAPS_OF.get(bug, 0.2)
     rates = RATES_OF.get(bug, ROUGH)
     settings = Settings(directory, shape, program_of(told.program), told.seconds, rates, parts, () if told.sound else (bug,), WORKERS_OF.get(bug, 3),
-                        is_quiet=True, swaps=swaps, is_busy=told.busy, ending=45.0)
+                        pause=told.pause, is_quiet=True, swaps=swaps, is_busy=told.busy, ending=45.0)
     try:
         result = await Run(settings).run()
         # (that plans do not end is what a busy machine may do, too)
@@ -85,7 +85,7 @@ def main() -> int:
     parser.add_argument("--servers", type=int, default=5)
     parser.add_argument("--shards", type=int, default=16)
     parser.add_argument("--clients", type=int, default=8)
-    parser.add_argument("--busy", action="store_true", help="the machine has other work: waits are longer, and slow requests are no violations")
+    add_load(parser)
     parser.add_argument("--sound", action="store_true", help="plant no bug: nothing is to be found then")
     add_session(parser)
     told = parser.parse_args()

@@ -242,6 +242,12 @@ def add_session(parser: argparse.ArgumentParser) -> None:
     parser.add_argument("--session", dest="program", metavar="PATH", type="{} -".format, default=argparse.SUPPRESS, help="a built smpland, which decides")
 
 
+def add_load(parser: argparse.ArgumentParser) -> None:
+    """Adds the options that say how much is asked of the machine."""
+    parser.add_argument("--pause", type=float, default=Settings.pause, metavar="SECONDS", help="how long a client rests between two requests (%(default)s)")
+    parser.add_argument("--busy", action="store_true", help="the machine has other work: waits are longer, and slow requests are no violations")
+
+
 def arguments() -> argparse.Namespace:
     """Reads the command line."""
     parser = argparse.ArgumentParser(prog="cluster.run", description="Runs a cluster under load, moves it and harms it, and checks what came of it.")
@@ -252,7 +258,7 @@ def arguments() -> argparse.Namespace:
     parser.add_argument("--clients", type=int, default=16, help="how many clients (%(default)s)")
     parser.add_argument("--seed", type=int, default=1, help="what the harm is drawn by (%(default)s)")
     parser.add_argument("--calm", action="store_true", help="no message is harmed")
-    parser.add_argument("--busy", action="store_true", help="the machine has other work: waits are longer, and slow requests are no violations")
+    add_load(parser)
     parser.add_argument("--parts", help="what happens, as drain,kill_leader; everything if it is missing")
     parser.add_argument("--bug", action="append", default=[], help="plant a bug, which the checkers are to find")
     parser.add_argument("--keep", type=Path, metavar="DIR", help="keep logs and histories there")
@@ -270,7 +276,8 @@ def main() -> int:
     told = arguments()
     directory = Path(tempfile.mkdtemp(prefix="cluster-", dir="/dev/shm" if os.access("/dev/shm", os.W_OK) else None))
     shape = Shape(servers=told.servers, shards=told.shards, clients=told.clients, seed=told.seed)
-    settings = Settings(directory, shape, program_of(told.program), told.seconds, CALM if told.calm else ROUGH, parts_of(told.parts), tuple(told.bug), is_busy=told.busy)
+    settings = Settings(directory, shape, program_of(told.program), told.seconds, CALM if told.calm else ROUGH, parts_of(told.parts), tuple(told.bug),
+                        pause=told.pause, is_busy=told.busy)
     try:
         result = asyncio.run(Run(settings).run())
         print(report(result))

@@ -21,7 +21,7 @@ from cluster.launch.operator import NoLeader
 from cluster.launch.processes import NotReady
 from cluster.launch.shape import Shape
 from cluster.launch.situations import SITUATIONS
-from cluster.run import Result, Run, Settings, add_session, in_words
+from cluster.run import Result, Run, Settings, add_load, add_session, in_words
 from cluster.wire import Failed
 
 # How long a run may take beside its harm, in seconds: one whose processes were ended by somebody else would not end.
@@ -100,7 +100,8 @@ class Storm:
         directory = Path(tempfile.mkdtemp(prefix=f"storm-{seed}-", dir="/dev/shm" if os.access("/dev/shm", os.W_OK) else None))
         shape = Shape(servers=told.servers, shards=told.shards, clients=told.clients, seed=seed)
         rates = CALM if told.calm else ROUGH
-        settings = Settings(directory, shape, program_of(told.program), told.seconds, rates, parts_of(seed), tuple(told.bug), is_quiet=True, is_busy=told.busy)
+        settings = Settings(directory, shape, program_of(told.program), told.seconds, rates, parts_of(seed), tuple(told.bug), pause=told.pause,
+                            is_quiet=True, is_busy=told.busy)
         try:
             async with asyncio.timeout(LONGEST + told.seconds):
                 result = await Run(settings).run()
@@ -154,7 +155,7 @@ def arguments() -> argparse.Namespace:
     parser.add_argument("--shards", type=int, default=64)
     parser.add_argument("--clients", type=int, default=16)
     parser.add_argument("--calm", action="store_true")
-    parser.add_argument("--busy", action="store_true", help="the machine has other work: waits are longer, and slow requests are no violations")
+    add_load(parser)
     parser.add_argument("--bug", action="append", default=[])
     parser.add_argument("--keep", type=Path, metavar="DIR", help="keep the folders of runs with violations there")
     parser.add_argument("--figures", type=Path, metavar="FILE", help="append the figures of each run, a JSON object a line")

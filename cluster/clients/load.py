@@ -108,7 +108,7 @@ class Generator:
                 router.drop(server)
             except ErrorReply:
                 pass
-            await asyncio.sleep(dice.random() * 0.03)
+            await asyncio.sleep(dice.random() * max(0.03, self.load.pause))
         router.close()
 
     async def push(self, router: Router, name: str, shard: str, key: str, value: str) -> None:
