@@ -34,6 +34,8 @@ WHOLE = (
 )
 # The share of a run in which nothing is moved, before the story begins.
 REST = 0.08
+# What begins only when everything else of the story has ended: without a server that is lost for good, no other one may be restarted.
+LAST = ("lose_server",)
 JOURNAL_BITS = 64
 # The session in Python, which decides if there is no built one, and is compared with the one that decides.
 REFERENCE = f"{sys.executable} {ROOT / 'tools' / 'smpland_model.py'} -"
@@ -130,7 +132,9 @@ class Run:
         moving = asyncio.create_task(self.mover.run(self.settings.workers, self.settings.moves))
         showing = asyncio.create_task(self.show())
         start = time.monotonic()
-        doing = [asyncio.create_task(self.do_at(start + share * self.settings.seconds, name)) for share, name in self.settings.parts]
+        doing: list[asyncio.Task[None]] = []
+        for share, name in self.settings.parts:
+            doing.append(asyncio.create_task(self.do_at(start + share * self.settings.seconds, name, tuple(doing) if name in LAST else ())))
         try:
             await asyncio.sleep(self.settings.seconds)
             await asyncio.gather(*doing)
@@ -147,9 +151,10 @@ class Run:
             self.tell("plans do not come to their end: " + "; ".join(f"{it['what']} to {it['to']}, {it['said']}" for it in orders))
         showing.cancel()
 
-    async def do_at(self, when: float, name: str) -> None:
-        """Does a part of the story at a time."""
+    async def do_at(self, when: float, name: str, before: tuple[asyncio.Task[None], ...]) -> None:
+        """Does a part of the story at a time, or once others have ended."""
         await asyncio.sleep(max(0.0, when - time.monotonic()))
+        await asyncio.gather(*before)
         part: Callable[[], Awaitable[object]] = self.drain if name == "drain" else getattr(self.story, name)
         try:
             await part()

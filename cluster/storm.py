@@ -27,7 +27,7 @@ from cluster.wire import Failed
 # How long a run may take beside its harm, in seconds: one whose processes were ended by somebody else would not end.
 LONGEST = 1200.0
 # What may happen in a run, and how often.
-HARM = (("kill_leader", 1), ("freeze_leader", 1), ("kill_member", 1), ("crash_server", 2), ("restart_server", 4), ("drain", 1))
+HARM = (("kill_leader", 1), ("freeze_leader", 1), ("kill_member", 1), ("crash_server", 2), ("restart_server", 5), ("drain", 1))
 
 
 @dataclass
