@@ -18,6 +18,6 @@ def add_etcd(processes: Processes, free: Ports, directory: Path, count: int = 3)
             "etcd", "--name", name, "--data-dir", str(directory / name), "--initial-cluster", together, "--initial-cluster-token", directory.name,
             "--listen-client-urls", url, "--advertise-client-urls", url, "--listen-peer-urls", peers[name],
             "--initial-advertise-peer-urls", peers[name], "--initial-cluster-state", "new", "--max-txn-ops", "10000",
-            "--heartbeat-interval", "50", "--election-timeout", "500", "--log-level", "error", "--logger", "zap",
-        ], says_ready=False)
+            "--heartbeat-interval", "100", "--election-timeout", "1000", "--log-level", "error", "--logger", "zap",
+        ], says_ready=False, GOMAXPROCS="1")
     return list(zip(names, ports))

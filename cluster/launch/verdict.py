@@ -194,12 +194,12 @@ async def judge(cluster: LocalCluster, operator: Operator, program: list[str], r
     look_at_servers(verdict, journal, audits)
     look_at_map(verdict, journal, shown)
     await look_at_replicas(verdict, operator, journal)
-    await look_at_reference(verdict, reference, journal)
     verdict.replies = journal.replies
     verdict.counts["reopenings replaced"] = journal.replies["reopen: fence"] - journal.replies["settled: opened"]
     verdict.counts["lines of the journal"] = len(lines)
     verdict.counts["orders"] = len(journal.orders)
     await cluster.end()
+    await look_at_reference(verdict, reference, journal)
     where = cluster.directory
     write_lines(where / "journal.jsonl", lines)
     write_lines(where / "replies.txt", [f"{count} {what}" for what, count in journal.replies.items()])
