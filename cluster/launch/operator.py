@@ -42,8 +42,8 @@ class Operator:
             raise NoLeader(f"no controller took the line {line.get('do', path)} within {self.patience:g} s") from None
 
     async def restarted(self, permit: int) -> Line:
-        """Has the leader ask the server that has this permit for its base, and end the restart."""
-        return await self.do({"permit": permit}, path="/restarted")
+        """Has the leader ask the server that has this permit for its base, for which it waits 5 s, and end the restart."""
+        return await self.do({"permit": permit}, 7.5, "/restarted")
 
     async def reopen(self, line: Line) -> Line:
         """Has a reopening begun. Each further `reopen` begins it anew, so this one goes to who leads, and waits long for the reply."""
