@@ -37,6 +37,8 @@ REST = 0.08
 # What begins only when everything else of the story has ended: without a server that is lost for good, no other one may be restarted.
 LAST = ("lose_server",)
 JOURNAL_BITS = 64
+# The exit status of a run that a slow machine kept from its end.
+NO_VERDICT = 4
 # The session in Python, which decides if there is no built one, and is compared with the one that decides.
 REFERENCE = f"{sys.executable} {ROOT / 'tools' / 'smpland_model.py'} -"
 # The lines of a reopening, with which a cluster begins.
@@ -277,7 +279,7 @@ def parts_of(text: str | None) -> tuple[tuple[float, str], ...]:
 
 
 def main() -> int:
-    """Runs once, and returns 0 if there was no violation."""
+    """Runs once, and returns 0 if there was no violation, 1 if there was one, and NO_VERDICT if something did not come in time."""
     told = arguments()
     directory = Path(tempfile.mkdtemp(prefix="cluster-", dir="/dev/shm" if os.access("/dev/shm", os.W_OK) else None))
     shape = Shape(servers=told.servers, shards=told.shards, clients=told.clients, seed=told.seed)
@@ -290,6 +292,9 @@ def main() -> int:
     except NotOpened as why:
         print(f"cluster: {why}", file=sys.stderr)
         return 1
+    except (NotReady, NoLeader, TimeoutError) as why:
+        print(f"cluster: no verdict: {why or type(why).__name__}", file=sys.stderr)
+        return NO_VERDICT
     finally:
         if told.keep:
             shutil.copytree(directory, told.keep, dirs_exist_ok=True, ignore=shutil.ignore_patterns("*.sock", "etcd-*", "member"))
