@@ -19,7 +19,7 @@ from pathlib import Path
 from cluster.faults.handovers import HandoverStory
 from cluster.faults.story import NotOpened
 from cluster.launch.cluster import CALM, ROOT, ROUGH, LocalCluster, program_of
-from cluster.launch.figures import at, handover_waits, in_words, lines_of, rate_of, request_waits
+from cluster.launch.figures import at, handover_waits, in_words, lines_of, rate_of, request_waits, unacknowledged
 from cluster.launch.moving import Mover
 from cluster.launch.operator import NoLeader, Operator
 from cluster.launch.processes import NotReady
@@ -201,8 +201,9 @@ class Run:
         by_span = {name: rate_of(asked, spans) for name, spans in self.spans.items() if spans}
         histories = lines_of(where / "histories.jsonl")
         situations = situations_of(histories, self.verdict.replies, self.verdict.counts + self.story.counts)
-        if clients.get("failures") and not self.story.lost and not self.settings.is_busy:
-            self.verdict.faults.append(f"{clients['failures']} requests were not acknowledged within 10 s")
+        failures = unacknowledged(asked, self.story.forsaken)
+        if failures and not self.settings.is_busy:
+            self.verdict.faults.append(f"{failures} requests were not acknowledged within 10 s")
         orders = self.verdict.counts["orders"] / self.moved_for if self.moved_for else 0.0
         return Result(self.verdict, clients, counts, self.story.failovers, request_waits(asked), handover_waits(histories), situations, by_span, orders)
 

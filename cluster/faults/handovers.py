@@ -74,6 +74,7 @@ class HandoverStory(Story):
             self.tell(f"kill -9 {found.new} for good, which is to take {shard} from {old}{', and is fenced' if is_fenced else ''}")
             await self.cluster.processes[found.new].kill()
             self.lost.add(found.new)
+            self.forsaken |= set(found.olds)
             self.mover.avoided.add(found.new)
             self.counts["servers lost in a handover"] += 1
             self.counts["servers lost between fence and settle"] += is_fenced

@@ -39,6 +39,8 @@ class Story:
         self.counts: Counter[str] = Counter()
         self.failovers: list[float] = []
         self.lost: set[str] = set()
+        # The shards that a server which was lost was to take.
+        self.forsaken: set[str] = set()
         # When servers went down under a permit and came up, for the checkers.
         self.permits: list[Line] = []
         self.restarting = asyncio.Lock()

@@ -34,6 +34,11 @@ def handover_waits(events: Iterable[dict]) -> list[float]:
     return waits
 
 
+def unacknowledged(lines: Iterable[dict], forsaken: set[str]) -> int:
+    """How many requests had no reply in time, but those of shards whose new owner was lost in a handover."""
+    return sum("reply" not in it and it["shard"] not in forsaken for it in lines)
+
+
 def request_waits(lines: Iterable[dict]) -> list[float]:
     """How many seconds each request of a client took."""
     return sorted((it["end"] - it["start"]) * NANO for it in lines if not it.get("final") and "reply" in it)
