@@ -19,7 +19,7 @@ from pathlib import Path
 from cluster.faults.handovers import HandoverStory
 from cluster.faults.story import NotOpened
 from cluster.launch.cluster import CALM, ROOT, ROUGH, LocalCluster, program_of
-from cluster.launch.figures import at, handover_waits, in_words, lines_of, rate_of, request_waits, unacknowledged
+from cluster.launch.figures import at, handover_waits, in_words, lines_of, order_waits, rate_of, request_waits, unacknowledged
 from cluster.launch.moving import Mover
 from cluster.launch.operator import NoLeader, Operator
 from cluster.launch.processes import NotReady
@@ -82,6 +82,8 @@ class Result:
     situations: Counter[str] = field(default_factory=Counter)
     rates: dict[str, float] = field(default_factory=dict)
     orders_a_second: float = 0.0
+    # From each leader's death to the next order.
+    pauses: list[float] = field(default_factory=list)
 
 
 class Run:
@@ -205,7 +207,13 @@ class Run:
         if failures and not self.settings.is_busy:
             self.verdict.faults.append(f"{failures} requests were not acknowledged within 10 s")
         orders = self.verdict.counts["orders"] / self.moved_for if self.moved_for else 0.0
-        return Result(self.verdict, clients, counts, self.story.failovers, request_waits(asked), handover_waits(histories), situations, by_span, orders)
+        return Result(self.verdict, clients, counts, self.story.failovers, request_waits(asked), handover_waits(histories), situations, by_span, orders,
+                      order_waits(histories, self.story.deaths))
+
+
+def seconds_of(times: list[float]) -> str:
+    """Times in words."""
+    return ", ".join(f"{it:.1f} s" for it in times) or "none"
 
 
 def report(result: Result) -> str:
@@ -221,7 +229,7 @@ def report(result: Result) -> str:
         f"handovers    {len(result.handovers)}; a shard's requests were held back {in_words(result.handovers)}",
         f"messages     {sum(harm.values())} harmed: " + ", ".join(f"{count} {what}" for what, count in harm.items()),
         f"processes    {', '.join(killed) or 'none harmed'}",
-        f"failovers    {', '.join(f'{it:.1f} s' for it in result.failovers) or 'none'}",
+        f"failovers    {seconds_of(result.failovers)}; from a leader's death to the next order {seconds_of(result.pauses)}",
         f"compared     {verdict.counts['replies compared with the reference']} replies with the reference, {verdict.counts['servers: answers compared']} "
         f"answered orders, {verdict.counts['servers: replicas compared']} replicas, "
         f"{verdict.counts['clients: pushes acknowledged']} acknowledged pushes, {verdict.counts['servers audited']} audits",

@@ -38,6 +38,8 @@ class Story:
         self.dice = random.Random(f"story {seed}")
         self.counts: Counter[str] = Counter()
         self.failovers: list[float] = []
+        # When leaders were killed.
+        self.deaths: list[int] = []
         self.lost: set[str] = set()
         # The shards that a server which was lost was to take.
         self.forsaken: set[str] = set()
@@ -132,6 +134,7 @@ class Story:
         # (its own counts end with it)
         self.counts.update({what: count for what, count in state["counts"].items() if " " in what})
         await self.cluster.processes[leader].kill()
+        self.deaths.append(time.monotonic_ns())
         self.counts["leaders killed"] += 1
         self.failovers.append(await self.wait_for_leader(leader))
         self.counts["failovers"] += 1

@@ -2,11 +2,14 @@
 from __future__ import annotations
 
 import json
+from bisect import bisect_left
 from collections.abc import Iterable
 from pathlib import Path
 from statistics import median
 
 NANO = 1e-9
+# After so many seconds nothing is on its way any more that a leader sent before it died.
+LATE = 1.0
 
 
 def lines_of(path: Path) -> list[dict]:
@@ -32,6 +35,13 @@ def handover_waits(events: Iterable[dict]) -> list[float]:
         elif kind == "seal" and shard in passing:
             waits.append((event["t"] - passing.pop(shard)) * NANO)
     return waits
+
+
+def order_waits(events: Iterable[dict], deaths: Iterable[int]) -> list[float]:
+    """From each death of a leader until the next one's first order begins at a server, in seconds."""
+    begins = sorted(it["t"] for it in events if it["kind"] == "begin")
+    places = [(death, bisect_left(begins, death + LATE / NANO)) for death in deaths]
+    return [(begins[place] - death) * NANO for death, place in places if place < len(begins)]
 
 
 def unacknowledged(lines: Iterable[dict], forsaken: set[str]) -> int:

@@ -8,7 +8,7 @@ from collections import Counter
 from cluster.faults.__main__ import release, sending
 from cluster.faults.dice import Dice, Rates
 from cluster.faults.proxies import RELAYS, Link, open_proxy
-from cluster.launch.figures import handover_waits, unacknowledged
+from cluster.launch.figures import handover_waits, order_waits, unacknowledged
 from cluster.launch.moving import Mover
 from cluster.launch.processes import Ports
 from cluster.launch.shape import Shape, document_of
@@ -217,6 +217,10 @@ class SituationsTest(unittest.TestCase):
         self.assertEqual((found["a repetition while work runs"], found["a repetition while a copy runs"]), (2, 1))
         self.assertLessEqual(set(found), set(SITUATIONS))
         self.assertEqual(handover_waits([{**it, "t": it["t"] * 1e9} for it in events]), [3.0])
+
+    def test_orders_after_a_death(self):
+        events = [{"kind": "begin", "t": it * 10**9} for it in (1, 3, 8)]
+        self.assertEqual(order_waits(events, [25 * 10**8, 9 * 10**9]), [5.5])
 
     def test_requests_without_a_reply(self):
         lines = [{"shard": "s0", "reply": 1}, {"shard": "s0"}, {"shard": "s1"}]
