@@ -288,10 +288,9 @@ impl<A: Ledger> Lists<A> {
     }
 }
 
-/// Makes all steps of the runners' streams, each in a thread of its own. The thread keeps the link in its runner's
-/// place until its last step. If there is no link in that place the stream loses no call. The answer is as that of
-/// `run`.
-pub fn run_over<
+/// Makes all steps of the runners' streams, each in a thread of its own, over the link in its runner's place. If there is
+/// no link in that place the stream loses no call. The answer is as that of `run`.
+fn run_lent<
     A: Ledger + Send + Sync,
     B: Ledger + Send + Sync,
     C: Ledger + Send + Sync,
@@ -319,6 +318,54 @@ pub fn run_over<
     lists.answer(rt, board, runners, ran)
 }
 
+/// Puts each link behind a lock of its own, since a scope can lend its threads only one list that they change.
+fn behind_locks<L: Drop>(alloc: Global, links: Vec<L>) -> Result<Vec<Mutex<L>>, AllocError>
+    ensures { IfOk result (λ locked. vec_len locked ≡ vec_len links) }
+{
+    links
+        .into_iter()
+        .map(|link| Mutex::new(link))
+        .collect(alloc)
+}
+
+/// Makes all steps of the runners' streams, each in a thread of its own, over the link in its runner's place. It gives
+/// the links up at its end. The answer is as that of `run`.
+///
+/// A link is asked under the board's lock, so it must not call the board: it would wait for itself.
+pub fn run_over<
+    A: Ledger + Send + Sync,
+    B: Ledger + Send + Sync,
+    C: Ledger + Send + Sync,
+    N: Naming + Send + Sync,
+    L: Link + Send + Drop,
+    R: Threads + Wait + Sync,
+    G: Gate + Sync,
+>(
+    rt: &R,
+    alloc: Global,
+    board: &Board<A, B, C, N>,
+    runners: Vec<Runner<A>>,
+    gate: &G,
+    links: Vec<L>,
+) -> Result<Vec<Ended<A>>, NotRun<A>>
+    requires { vec_len links ≡ vec_len runners }
+    ensures ended { IfOk result (λ ended. streams_ended ended.items ≡ streams_run runners.items) }
+    ensures at { IfOk result (λ ended. All (HasEnded N.setup N.opened) ended.items) }
+    ensures back_at { IfErr result (λ back. All (HasEnded N.setup N.opened) back.ended.items) }
+    ensures unfinished { IfErr result (λ back. may_have_stepped back.fault ≡ true → All (HasNotEnded N.setup N.opened) back.runners.items) }
+    ensures back { IfErr result (ComesBack (vec_len runners)) }
+    ensures memory { IfErr result (λ back. back.fault ≡ NoMemory → back.runners.items ≡ runners.items) }
+{
+    let Ok(links) = behind_locks(alloc, links) else {
+        return Err(NotRun {
+            fault: RunFault::NoMemory,
+            runners,
+            ended: Vec::new(alloc),
+        });
+    };
+    run_lent(rt, alloc, board, runners, links.as_slice(), gate)
+}
+
 /// Makes all steps of the runners' streams, each in a thread of its own. With Ok there is an end for each runner, in
 /// their order. Otherwise the runners and ends that come back are together as many as there were runners. With NoMemory
 /// they are the runners as they were. If streams may have stepped, the runners that come back are of streams that have
@@ -344,5 +391,5 @@ pub fn run<
     ensures back { IfErr result (ComesBack (vec_len runners)) }
     ensures memory { IfErr result (λ back. back.fault ≡ NoMemory → back.runners.items ≡ runners.items) }
 {
-    run_over::<A, B, C, N, Sure, R, G>(rt, alloc, board, runners, &[], gate)
+    run_lent::<A, B, C, N, Sure, R, G>(rt, alloc, board, runners, &[], gate)
 }

@@ -6,11 +6,11 @@ use sm_executor::{
     Board, Caller, Ended, Gate, Naming, NotRun, Open, RunFault, Runner, run, run_over,
 };
 use sm_fixtures::{Loses, LosesEverySecond};
-use sm_machine::{Link, Step};
+use sm_machine::Step;
 use std::alloc::Global;
 use std::process::Abort;
+use std::sync::Wait;
 use std::sync::ledger::Ledger;
-use std::sync::{Mutex, Wait};
 use std::thread::Threads;
 
 /// A way to run a plan.
@@ -173,18 +173,16 @@ fn run_losing<
             next: first,
             lost: 0,
         };
-        put(rt, &mut links, Mutex::new(link));
+        put(rt, &mut links, link);
     }
+    assert!(rt; links.len() == runners.len());
     let gate = Counting::new();
-    let ended = match run_over(rt, alloc, board, runners, links.as_slice(), &gate) {
+    let ended = match run_over(rt, alloc, board, runners, &gate, links) {
         Ok(ended) => ended,
         Err(_) => panic!(rt; "a run over links does not come to the ends of its streams"),
     };
     let recorded = board.hold(rt).machine().log().len() as u64;
     assert_calls(rt, gate.calls(), recorded);
-    for link in &links {
-        assert!(rt; link.lock(rt).lost().saturating_add(4) == tries);
-    }
     for end in &ended {
         assert!(rt; end.calls() == tries && end.budget() == 8);
     }
