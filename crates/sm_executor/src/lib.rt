@@ -12,6 +12,7 @@ mod guard_law;
 mod held;
 mod limits;
 mod names;
+mod requests;
 mod runner;
 mod shares;
 mod signals;
