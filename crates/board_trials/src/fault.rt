@@ -17,6 +17,9 @@ pub(crate) enum Fault {
     /// A restart was not made that had to be.
     #[error("a restart was denied, or did not end")]
     NoRestart,
+    /// Most requests were not executed.
+    #[error("most requests were not executed")]
+    NotExecuted,
     /// The placement at the end is not that of the plan.
     #[error("the placement at the end is another one")]
     OtherEnd,

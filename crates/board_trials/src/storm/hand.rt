@@ -6,7 +6,7 @@ use crate::storm::world::{RESTED, RESTING};
 use board_runs::{Finish, Worker};
 use sm_executor::{Board, Caller, Naming};
 use sm_machine::Permit;
-use sm_router::ask;
+use sm_router::{Asked, ask};
 use sm_server::{ServerId, ShardId};
 use std::rt::Clock;
 use std::sync::Wait;
@@ -15,7 +15,7 @@ use std::sync::ledger::Ledger;
 use std::thread;
 
 /// The number of asks of each who asks in a run.
-const ASKS: u32 = 64;
+pub(crate) const ASKS: u64 = 64;
 
 /// The number of restarts of servers that no stream mentions, and that of tries with any server.
 pub(crate) const RESTARTS: u64 = 32;
@@ -23,8 +23,8 @@ pub(crate) const RESTARTS: u64 = 32;
 /// One of those who work beside the streams.
 #[derive(Drop)]
 pub(crate) enum Hand {
-    /// Asks for shards at random.
-    Asks { seed: u64 },
+    /// Asks for shards at random, and counts the requests that were executed.
+    Asks { seed: u64, executed: AtomicU64 },
     /// Restarts servers at random, each approved and ended by a guard, and counts those that no stream mentions.
     Restarts { seed: u64, made: AtomicU64 },
 }
@@ -40,19 +40,22 @@ fn picked(number: u64, count: u32) -> Option<u32>
     }
 }
 
-/// Asks as often as a run has it.
+/// Asks as often as a run has it, and counts the requests that were executed.
 fn ask_often<A: Ledger, B: Ledger, C: Ledger, N: Naming, R: Wait>(
     rt: &R,
     board: &Board<A, B, C, N>,
     caller: &mut Caller<B, C, N>,
     seed: u64,
+    executed: &AtomicU64,
 ) {
     let shards = board.config().shard_count();
     let mut number = seed;
     for _ in 0..ASKS {
         number = scattered(number);
         if let Some(shard) = picked(number, shards) {
-            let _asked = ask(rt, board, &mut *caller, ShardId::new(shard));
+            if let Asked::Executed { .. } = ask(rt, board, &mut *caller, ShardId::new(shard)) {
+                executed.fetch_add(1, Ordering::SeqCst);
+            }
         }
     }
 }
@@ -138,8 +141,8 @@ impl Worker for Hand {
         _finish: &Finish,
     ) -> Option<Permit> {
         match self {
-            Hand::Asks { seed } => {
-                ask_often(rt, board, caller, *seed);
+            Hand::Asks { seed, executed } => {
+                ask_often(rt, board, caller, *seed, executed);
                 None
             }
             Hand::Restarts { seed, made } => restart_all(rt, board, *seed, made).err(),
@@ -153,6 +156,14 @@ impl Hand {
         match self {
             Hand::Asks { .. } => 0,
             Hand::Restarts { made, .. } => made.load(Ordering::SeqCst),
+        }
+    }
+
+    /// Returns the number of its requests that were executed.
+    pub fn executed(&self) -> u64 {
+        match self {
+            Hand::Asks { executed, .. } => executed.load(Ordering::SeqCst),
+            Hand::Restarts { .. } => 0,
         }
     }
 }

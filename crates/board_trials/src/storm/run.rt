@@ -1,7 +1,7 @@
 //! One run: a board is opened, the storm goes over it, and it is closed.
 use crate::fault::Fault;
 use crate::storm::gusts::{Gusts, scattered};
-use crate::storm::hand::{Hand, RESTARTS};
+use crate::storm::hand::{ASKS, Hand, RESTARTS};
 use crate::storm::world::{SHAPE, World, is_same};
 use board_runs::run_at;
 use board_streams::plan_of;
@@ -24,6 +24,7 @@ fn hands_of(alloc: Global, seed: u64) -> Result<Vec<Hand>, AllocError> {
     for number in 0..ASKERS {
         hands.push(Hand::Asks {
             seed: scattered(seed.wrapping_add(number)),
+            executed: AtomicU64::new(0),
         })?;
     }
     hands.push(Hand::Restarts {
@@ -58,18 +59,31 @@ fn has_restarted(hands: &[Hand]) -> bool {
     made == RESTARTS
 }
 
-/// Checks that a run ended at the placement of the plan, and each restart was made that had to be.
+/// Tells whether at least half of all requests were executed. Some come to a server that is down.
+fn has_executed(hands: &[Hand]) -> bool {
+    let mut executed = 0_u64;
+    for hand in hands {
+        executed = executed.wrapping_add(hand.executed());
+    }
+    executed >= ASKERS * ASKS / 2
+}
+
+/// Checks that a run ended at the placement of the plan, each restart was made that had to be, and requests were
+/// executed.
 fn judge(ended: &Placement, hands: &[Hand], world: &World) -> Result<(), Fault> {
     if !is_same(ended, &world.after) {
         Err(Fault::OtherEnd)
     } else if !has_restarted(hands) {
         Err(Fault::NoRestart)
+    } else if !has_executed(hands) {
+        Err(Fault::NotExecuted)
     } else {
         Ok(())
     }
 }
 
-/// Makes one run, which has to end at the placement of the plan, with each restart made that had to be.
+/// Makes one run, which has to end at the placement of the plan, with each restart made that had to be, and with
+/// requests executed.
 pub(crate) fn run_once<R: Threads + Wait + Clock + Sync>(
     rt: &R,
     alloc: Global,
