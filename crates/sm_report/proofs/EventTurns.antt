@@ -28,7 +28,8 @@ use Rattle.sm_machine.proofs.FirstPlaces.{left_there}
 use Rattle.sm_machine.proofs.HandPlays.{sizes_are}
 use Rattle.sm_machine.proofs.HandStarts.{plan_there, number_fits}
 use Rattle.sm_report.specs.declared.player.Player.{Player}
-use Rattle.sm_report.specs.PlayLines.{stream_text, progress_line_of, progress_line, event_front, played_line, outcome_line}
+use Rattle.sm_report_text.specs.EventLines.{stream_text, event_front}
+use Rattle.sm_report.specs.PlayLines.{progress_line_of, progress_line, played_line, outcome_line}
 use Rattle.sm_report.specs.Playing.{Scene, asked_by, event_named, named_stream, after_event, event_turn, event_turn_by}
 use Rattle.sm_report.specs.Player.{scene_of, IsSetUp, IsEventPlayed, IsNoBegin}
 

@@ -4,7 +4,7 @@ use Rattle.std.proofs.lemmas.List.{length-replicate}
 use Rattle.sm_plan_text.specs.Documents.{DocumentModel}
 use Rattle.sm_report.specs.declared.command.Command.{Command}
 use Rattle.sm_report.specs.declared.early.Early.{Early}
-use Rattle.sm_report.specs.BadInput.{too_long_line}
+use Rattle.sm_report_text.specs.BadInput.{too_long_line}
 use Rattle.sm_report.specs.declared.early.Early.TheVariants.{NoMemory, ReadFailed, Report}
 use Rattle.sm_report.specs.Early.{IfMade, IfReadEnded, IfReadMade}
 use Rattle.sm_report.specs.Report.{Output, bad_input}

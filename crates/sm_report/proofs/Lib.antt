@@ -1,6 +1,5 @@
 pub mod Onward
 pub mod Inputs
-pub mod Texts
 pub mod PlanAnswers
 pub mod OneReport
 pub mod SomeReport

@@ -18,9 +18,9 @@ use Rattle.sm_plan_text.specs.Documents.{DocumentModel}
 use Rattle.sm_report.specs.declared.command.Command.{Command}
 use Rattle.sm_report.specs.declared.command.Command.TheVariants.{Calls, Check, Play, Plan}
 use Rattle.sm_report.specs.Report.{Output, refused}
-use Rattle.sm_report.specs.Checking.{stuck_line, fault_line, holding_line, accepted_line}
+use Rattle.sm_report_text.specs.Checking.{stuck_line, fault_line, holding_line, accepted_line}
 use Rattle.sm_report.specs.Playing.{Scene}
-use Rattle.sm_report.specs.PlayLines.{plan_front}
+use Rattle.sm_report_text.specs.EventLines.{plan_front}
 use Rattle.sm_plan_text.specs.declared.event.EventText.{EventText}
 use Rattle.sm_report.specs.Stages.{Then, read_stage, member_stage, alone_stage, placement_stage, log_stage, begin_stage, IsFaultReport, AtCheck, AtChecks, AtStart}
 use Rattle.sm_report.specs.Output.{IsCalled, IsOpenedForCalls, IsAcceptedReport, IsPlanReport, IsOpenedForCheck, plans_of, has_list, IsPlayedOutput, IsBegunForPlay, IsLoggedForPlay, IsPlacedForPlay, IsOpenedForPlay, IsAloneForPlay, IsPlayReport, IsLoggedForPlan, IsPlacedForPlan, IsOpenedForPlan, IsPlanningReport, IsDocumentReport, IsReport}

@@ -13,8 +13,8 @@ use Rattle.sm_plan_text.specs.Documents.{DocumentModel}
 use Rattle.sm_executor.specs.Clients.{ClientModel}
 use Rattle.sm_executor.proofs.Leading.{sizes_stay, opening_stays}
 use Rattle.sm_report.specs.declared.status.Status.TheVariants as status
-use Rattle.sm_report.specs.Checking.{accepted_line}
-use Rattle.sm_report.specs.Ending.{ending}
+use Rattle.sm_report_text.specs.Checking.{accepted_line}
+use Rattle.sm_report_text.specs.Ending.{ending}
 use Rattle.sm_report.specs.Report.{Output, done}
 use Rattle.sm_report.specs.RunLines.{run_lines, client_lines}
 use Rattle.sm_report.specs.Running.{WasRun, WasRunOrNot, IsStartedForRun, IsLoggedForRun, IsPlacedForRun, IsOpenedForRun, IsRunReport}

@@ -10,7 +10,7 @@ use Rattle.sm_plan_text.specs.declared.member.Member.{Member}
 use Rattle.sm_report.specs.declared.early.Early.{Early}
 use Rattle.sm_report.specs.declared.early.Early.TheVariants.{NoMemory, ReadFailed, Report}
 use Rattle.sm_report.specs.Report.{Output, done}
-use Rattle.sm_report.specs.Checking.{accepted_line}
+use Rattle.sm_report_text.specs.Checking.{accepted_line}
 use Rattle.sm_report.specs.Early.{IfEnded, IfMade}
 use Rattle.sm_report.specs.Stages.{Then, member_stage, IsFaultReport, IsHoldingReport}
 use Rattle.sm_report.specs.Output.{IsPlanReport}

@@ -17,7 +17,8 @@ use Rattle.sm_planner.specs.Laws.{RuleAnswersOnce}
 use Rattle.sm_planner.proofs.Answering.{same_leaving}
 use Rattle.sm_planner.proofs.law.Unrefused.{few_have_plan}
 use Rattle.sm_report.specs.Report.{Output, refused, done}
-use Rattle.sm_report.specs.Planning.{Aim, Moving, Emptying, IsPlanFor, IsRefusedFor, made_line, no_plan_line, IsAnswered}
+use Rattle.sm_report.specs.Planning.{Aim, Moving, Emptying, IsPlanFor, IsRefusedFor, IsAnswered, made_line}
+use Rattle.sm_report_text.specs.PlanLines.{no_plan_line}
 
 -- ---- the targets of a drain
 

@@ -13,9 +13,9 @@ use Rattle.sm_plan_code.specs.Plan.{PlanModel}
 use Rattle.sm_verifier.specs.Plan.{IsSound}
 use Rattle.sm_report.specs.declared.early.Early.{Early}
 use Rattle.sm_report.specs.Early.{IfEnded, IfMade}
-use Rattle.sm_report.specs.Checking.{accepted_line}
+use Rattle.sm_report_text.specs.Checking.{accepted_line}
 use Rattle.sm_report.specs.Playing.{Scene, opened_scene}
-use Rattle.sm_report.specs.PlayLines.{plan_front}
+use Rattle.sm_report_text.specs.EventLines.{plan_front}
 use Rattle.sm_report.specs.Report.{Output}
 use Rattle.sm_report.specs.Stages.{Then, begin_stage, AtChecks, IsFaultReport}
 use Rattle.sm_report.specs.Output.{played_output, IsPlayedOutput}

@@ -24,11 +24,11 @@ use Rattle.sm_report.specs.declared.early.Early.{Early}
 use Rattle.sm_report.specs.declared.early.Early.TheVariants as early
 use Rattle.sm_report.specs.declared.unmade.Unmade.{Unmade}
 use Rattle.sm_report.specs.declared.unmade.Unmade.TheVariants as unmade
-use Rattle.sm_report.specs.Checking.{accepted_line}
+use Rattle.sm_report_text.specs.Checking.{accepted_line}
 use Rattle.sm_report.specs.Early.{IfReadEnded}
-use Rattle.sm_report.specs.Ending.{ending}
+use Rattle.sm_report_text.specs.Ending.{ending}
 use Rattle.sm_report.specs.Output.{IsReadAs}
-use Rattle.sm_report.specs.PlayLines.{not_begun_line}
+use Rattle.sm_report_text.specs.EventLines.{not_begun_line}
 use Rattle.sm_report.specs.Report.{Output, done, refused}
 use Rattle.sm_report.specs.RunLines.{end_lines, run_lines, client_line, client_lines}
 use Rattle.sm_report.specs.Running.{HasRun, WasRunOrNot, IsStartedForRun, IsRunReport, IsRunReportOf, first_streams, are_steps_and_requests}

@@ -20,8 +20,8 @@ use Rattle.sm_report.specs.declared.command.Command.TheVariants.{Calls, Check, P
 use Rattle.sm_report.specs.Report.{Output, refused, done}
 use Rattle.sm_report.specs.Playing.{Scene}
 use Rattle.sm_plan_text.specs.declared.event.EventText.{EventText}
-use Rattle.sm_report.specs.Checking.{fault_line, holding_line, accepted_line}
-use Rattle.sm_report.specs.PlayLines.{plan_front}
+use Rattle.sm_report_text.specs.Checking.{fault_line, holding_line, accepted_line}
+use Rattle.sm_report_text.specs.EventLines.{plan_front}
 use Rattle.sm_report.specs.Stages.{Then, read_or_bad, read_stage, member_stage, alone_stage, placement_stage, log_stage, begin_stage, AtCheck, AtChecks, AtStart}
 use Rattle.sm_report.specs.Output.{calls_output, IsCalled, IsOpenedForCalls, IsAcceptedReport, IsPlanReport, IsOpenedForCheck, plans_of, has_list, played_output, IsPlayedOutput, IsBegunForPlay, IsLoggedForPlay, IsPlacedForPlay, IsOpenedForPlay, IsAloneForPlay, IsPlayReport, IsLoggedForPlan, IsPlacedForPlan, IsOpenedForPlan, IsPlanningReport, IsDocumentReport, IsReport}
 use Rattle.sm_report.specs.Planning.{aim_stage, opened_basis}

@@ -8,7 +8,7 @@ use Rattle.sm_placement.specs.Setup.{Setup, Sizes}
 use Rattle.sm_placement.specs.Rows.{IsKnownCall}
 use Rattle.sm_placement.specs.Place.{Place, called}
 use Rattle.sm_plan_text.specs.Calls.{NamedCall}
-use Rattle.sm_report.specs.Lines.{line}
+use Rattle.sm_report_text.specs.AnswerLines.{answer_line}
 
 -- the call's shard and servers are known
 abbrev pub IsKnownNamed : Setup → NamedCall → Type 0
@@ -40,27 +40,6 @@ refusal_at c p named = refusal_in (result_of c p named)
 abbrev pub place_after_all : Sizes → Place → List NamedCall → Place
 place_after_all c p [] = p
 place_after_all c p (named ∷ rest) = place_after_all c (place_after c p named) rest
-
--- the number of a refusal: of those that apply, the one of the lowest number is answered
-abbrev pub refusal_number : Refusal → ℕ
-refusal_number Down = 1
-refusal_number AlreadyHeld = 2
-refusal_number NotHeld = 3
-refusal_number WrongRole = 4
-refusal_number NoRoom = 5
-
--- the name of a refusal, as the line of an answer has it
-abbrev pub refusal_name : Refusal → List ℕ
-refusal_name Down = codes "Down"
-refusal_name AlreadyHeld = codes "AlreadyHeld"
-refusal_name NotHeld = codes "NotHeld"
-refusal_name WrongRole = codes "WrongRole"
-refusal_name NoRoom = codes "NoRoom"
-
--- the answer to the call of this number: it was made, or it was refused
-abbrev pub answer_line : ℕ → Option Refusal → List ℕ
-answer_line i None = line (codes "call " ∷ decimal i ∷ codes ": ok" ∷ [])
-answer_line i (Some why) = line (codes "call " ∷ decimal i ∷ codes ": refused " ∷ decimal (refusal_number why) ∷ codes " " ∷ refusal_name why ∷ [])
 
 -- the lines of the answers to calls made one after the other, numbered from i
 abbrev pub answer_lines : Sizes → Place → ℕ → List NamedCall → List ℕ

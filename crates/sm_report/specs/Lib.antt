@@ -1,10 +1,5 @@
 pub mod Status
-pub mod Lines
-pub mod Ending
 pub mod Answers
-pub mod Opening
-pub mod BadInput
-pub mod Checking
 pub mod Report
 pub mod Early
 pub mod Playing

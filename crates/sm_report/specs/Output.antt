@@ -10,8 +10,8 @@ use Rattle.sm_plan_text.specs.Documents.{DocumentModel}
 use Rattle.sm_report.specs.declared.command.Command.{Command}
 use Rattle.sm_report.specs.declared.command.Command.TheVariants.{Calls, Check, Play, Plan}
 use Rattle.sm_report.specs.Answers.{answer_lines, place_after_all}
-use Rattle.sm_report.specs.Checking.{accepted_line}
-use Rattle.sm_report.specs.Ending.{ending}
+use Rattle.sm_report_text.specs.Checking.{accepted_line}
+use Rattle.sm_report_text.specs.Ending.{ending}
 use Rattle.sm_report.specs.Report.{Output, done}
 use Rattle.sm_report.specs.Stages.{Then, read_stage, member_stage, alone_stage, placement_stage, log_stage, begin_stage, AtCheck, AtChecks, AtStart}
 use Rattle.sm_report.specs.Playing.{Scene, opened_scene, scene_after}

@@ -14,12 +14,12 @@ use Rattle.sm_planner.specs.Drain.{IsDrainPlan, IsDrainRefused}
 use Rattle.sm_plan_text.specs.declared.fault.TextFault.TheVariants.{Shape}
 use Rattle.sm_plan_text.specs.declared.member.Member.TheVariants as members
 use Rattle.sm_plan_text.specs.PlanTexts.{plan_text}
+use Rattle.sm_report_text.specs.PlanLines.{no_plan_line}
 use Rattle.sm_report.specs.declared.planning.Wanted.{Wanted}
 use Rattle.sm_report.specs.declared.planning.Wanted.TheVariants as wanted
 use Rattle.sm_report.specs.Report.{Output, bad_input, refused, done}
-use Rattle.sm_report.specs.BadInput.{text_fault_line}
-use Rattle.sm_report.specs.Ending.{server_name, shard_name}
-use Rattle.sm_report.specs.Lines.{line}
+use Rattle.sm_report_text.specs.BadInput.{text_fault_line}
+use Rattle.sm_report_text.specs.Lines.{line}
 
 -- ---- what is asked for
 
@@ -66,33 +66,6 @@ IsRefusedFor b (Emptying server) = IsDrainRefused b server
 -- a plan on a line of its own
 abbrev pub made_line : Setup → PlanModel → List ℕ
 made_line setup plan = line (plan_text (names_of_shards setup) (names_of_servers setup) plan ∷ [])
-
--- the line of a reason that lies in no single shard or server
-abbrev pub no_plan_line_of : List ℕ → List ℕ
-no_plan_line_of what = line (codes "no plan: " ∷ what ∷ [])
-
--- the line of a reason that lies in a shard at a server
-abbrev pub no_cell_line : List ℕ → List ℕ → List ℕ → List ℕ
-no_cell_line what shard server = line (codes "no plan: " ∷ what ∷ codes " shard " ∷ shard ∷ codes " server " ∷ server ∷ [])
-
--- the line of a reason that lies in a server
-abbrev pub no_server_line : List ℕ → List ℕ → List ℕ
-no_server_line what server = line (codes "no plan: " ∷ what ∷ codes " server " ∷ server ∷ [])
-
--- the line of a reason that lies in a shard
-abbrev pub no_shard_line : List ℕ → List ℕ → List ℕ
-no_shard_line what shard = line (codes "no plan: " ∷ what ∷ codes " shard " ∷ shard ∷ [])
-
--- Why there is no plan. The line of NoMemory is in no report: if memory is short, nothing is written.
-abbrev pub no_plan_line : Setup → NoPlan → List ℕ
-no_plan_line setup no_plan.NoMemory = no_plan_line_of (codes "1 NoMemory")
-no_plan_line setup (no_plan.NotThere s v) = no_cell_line (codes "2 NotThere") (shard_name setup s) (server_name setup v)
-no_plan_line setup (no_plan.Held s v) = no_cell_line (codes "3 Held") (shard_name setup s) (server_name setup v)
-no_plan_line setup (no_plan.ServerDown v) = no_server_line (codes "4 ServerDown") (server_name setup v)
-no_plan_line setup (no_plan.NoRoom v) = no_server_line (codes "5 NoRoom") (server_name setup v)
-no_plan_line setup (no_plan.NoPlace s) = no_shard_line (codes "6 NoPlace") (shard_name setup s)
-no_plan_line setup (no_plan.Spread s) = no_shard_line (codes "7 Spread") (shard_name setup s)
-no_plan_line setup no_plan.TooMany = no_plan_line_of (codes "8 TooMany")
 
 -- the rule's plan is told
 abbrev pub IsPlanTold : Setup → Basis → Aim → Output → Type 0

@@ -13,9 +13,9 @@ use Rattle.sm_machine.specs.Retired.{steps_at_end}
 use Rattle.sm_router.specs.declared.asking.Asked.{Asked}
 use Rattle.sm_router.specs.declared.asking.Asked.TheVariants as asked
 use Rattle.sm_executor.specs.Clients.{ClientModel}
-use Rattle.sm_report.specs.Lines.{line}
-use Rattle.sm_report.specs.Ending.{server_name}
-use Rattle.sm_report.specs.PlayLines.{word_line, executed_line}
+use Rattle.sm_report_text.specs.Lines.{line}
+use Rattle.sm_report_text.specs.Ending.{server_name}
+use Rattle.sm_report_text.specs.EventLines.{word_line, executed_line}
 
 -- ---- streams
 

@@ -15,8 +15,8 @@ use Rattle.sm_executor.specs.Closed.{IsClosed}
 use Rattle.sm_executor.specs.Views.{EndedModel, streams_ended}
 use Rattle.sm_plan_text.specs.declared.member.Member.TheVariants as member
 use Rattle.sm_plan_text.specs.Documents.{DocumentModel}
-use Rattle.sm_report.specs.Checking.{accepted_line}
-use Rattle.sm_report.specs.Ending.{ending}
+use Rattle.sm_report_text.specs.Checking.{accepted_line}
+use Rattle.sm_report_text.specs.Ending.{ending}
 use Rattle.sm_report.specs.Output.{IsInput}
 use Rattle.sm_report.specs.Report.{Output, done}
 use Rattle.sm_report.specs.RunLines.{run_lines, client_lines}

@@ -22,12 +22,12 @@ use Rattle.sm_plan_text.specs.Documents.{DocumentModel}
 use Rattle.sm_plan_text.specs.Opened.{opening_of}
 use Rattle.sm_plan_text.specs.Reading.{read}
 use Rattle.sm_report.specs.Report.{Output, bad_input, refused}
-use Rattle.sm_report.specs.BadInput.{text_fault_line, too_long_line}
-use Rattle.sm_report.specs.Opening.{open_fault_line}
-use Rattle.sm_report.specs.Checking.{fault_line, holding_line}
-use Rattle.sm_report.specs.Lines.{line}
+use Rattle.sm_report_text.specs.BadInput.{text_fault_line, too_long_line}
+use Rattle.sm_report_text.specs.Opening.{open_fault_line}
+use Rattle.sm_report_text.specs.Checking.{fault_line, holding_line}
+use Rattle.sm_report_text.specs.Lines.{line}
 use Rattle.sm_report.specs.Playing.{Scene, event_turn}
-use Rattle.sm_report.specs.PlayLines.{plan_front, not_begun_line}
+use Rattle.sm_report_text.specs.EventLines.{plan_front, not_begun_line}
 use Rattle.sm_plan_text.specs.declared.event.EventText.TheVariants.{Begin}
 use Rattle.sm_protocol.specs.declared.event.Played.TheVariants.{NotBegun}
 use Rattle.sm_protocol.specs.State.{State}

@@ -8,7 +8,7 @@ use Rattle.sm_report.specs.declared.unmade.Unrun.TheVariants.{NoThread, Halted, 
 use Rattle.sm_report.specs.declared.unmade.Unmade.{Unmade}
 use Rattle.sm_report.specs.declared.unmade.Unmade.TheVariants as unmade
 use Rattle.sm_report.specs.Early.{IfEnded, IfReadEnded}
-use Rattle.sm_report.specs.Lines.{line}
+use Rattle.sm_report_text.specs.Lines.{line}
 use Rattle.sm_report.specs.Report.{Output}
 
 -- The text that is written if a plan has begun and was not run to its end. None of the texts behind the first is wanted: nothing halts the

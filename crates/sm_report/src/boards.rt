@@ -9,9 +9,9 @@ ghost use Rattle.sm_executor.specs.Tied.{IsMapOf};
 ghost use Rattle.sm_executor.specs.Views.{AreRunners};
 ghost use Rattle.sm_protocol.specs.State.{State, plan_at, stream_count};
 ghost use Rattle.sm_protocol.specs.declared.event.BeginFault.TheVariants as begin_fault;
-ghost use Rattle.sm_report.specs.Checking.{accepted_line};
-ghost use Rattle.sm_report.specs.Ending.{ending};
-ghost use Rattle.sm_report.specs.PlayLines.{not_begun_line};
+ghost use Rattle.sm_report_text.specs.Checking.{accepted_line};
+ghost use Rattle.sm_report_text.specs.Ending.{ending};
+ghost use Rattle.sm_report_text.specs.EventLines.{not_begun_line};
 ghost use Rattle.sm_report.specs.Report.{done, refused};
 ghost use Rattle.sm_report.specs.RunLines.{end_lines, client_lines};
 ghost use Rattle.sm_report.specs.Running.{HasRun, WasRunOrNot, IsStartedForRun, is_step_or_request, are_steps_and_requests};
@@ -20,7 +20,6 @@ ghost use Rattle.sm_plan_code.specs.declared.limits.TheConstants.{MOST_STREAMS};
 
 use crate::begun::Begun;
 use crate::early::Early;
-use crate::ending::push_ending;
 use crate::given::{Given, keep_back, keep_ends, take_callers};
 use crate::made::Made;
 use crate::run_lines::{push_clients, push_ends};
@@ -31,6 +30,7 @@ use sm_executor::{
 use sm_machine::{BeginFault, Machine, Permit, StreamToken};
 use sm_placement::Config;
 use sm_protocol::{Event, Logged};
+use sm_report_text::push_ending;
 use sm_server::ShardId;
 use sm_verifier::Checked;
 use std::alloc::{AllocError, Global};

@@ -9,11 +9,11 @@ ghost use Rattle.sm_report.specs.Output.{calls_output, IsCallsReport};
 
 use crate::answers::make_calls;
 use crate::early::Early;
-use crate::ending::push_ending;
 use crate::made::Made;
 use crate::stages::{member, placement};
 use sm_placement::Placement;
 use sm_plan_text::{Document, Member};
+use sm_report_text::push_ending;
 use sm_server::{Call, ServerId, ShardId};
 use std::alloc::{AllocError, Global};
 

@@ -2,7 +2,6 @@
 #![tactic(auto)]
 
 mod answers;
-mod bad_input;
 mod begun;
 mod boards;
 mod calls;
@@ -10,16 +9,11 @@ mod checks;
 mod command;
 mod delivery;
 mod early;
-mod ending;
 mod given;
 mod input;
 mod limits;
 mod made;
-mod names;
-mod opening;
-mod plan_lines;
 mod planning;
-mod play_lines;
 mod player;
 mod playing;
 mod plays;
@@ -29,7 +23,6 @@ mod running;
 mod stages;
 mod status;
 mod unmade;
-mod verdict;
 
 pub use command::Command;
 pub use input::{InputFault, take_input};

@@ -1,28 +1,28 @@
 //! A report that is made and not yet written.
 ghost use Rattle.std.specs.Prelude.{◌≡◌, ◌≢◌, ◌<◌, ◌++◌, ℕ, length, take, IfOk, string_bytes};
 ghost use Rattle.std.specs.Io.KnownBytes.{Appends};
-ghost use Rattle.sm_report.specs.BadInput.{text_fault_line, too_long_line};
-ghost use Rattle.sm_report.specs.Opening.{open_fault_line};
-ghost use Rattle.sm_report.specs.Checking.{accepted_line, fault_line, holding_line};
+ghost use Rattle.sm_report_text.specs.BadInput.{text_fault_line, too_long_line};
+ghost use Rattle.sm_report_text.specs.Opening.{open_fault_line};
+ghost use Rattle.sm_report_text.specs.Checking.{accepted_line, fault_line, holding_line};
 ghost use Rattle.sm_report.specs.Stages.{log_refused_line};
-ghost use Rattle.sm_report.specs.PlayLines.{not_begun_line};
+ghost use Rattle.sm_report_text.specs.EventLines.{not_begun_line};
 ghost use Rattle.sm_plan_code.specs.Plan.{IsKnownPlan};
-ghost use Rattle.sm_report.specs.Planning.{made_line, no_plan_line};
+ghost use Rattle.sm_report.specs.Planning.{made_line};
+ghost use Rattle.sm_report_text.specs.PlanLines.{no_plan_line};
 ghost use Rattle.sm_report.specs.Report.{bad_input, refused, done};
 ghost use Rattle.sm_report.specs.Status.{code_of};
 
-use crate::bad_input::{push_text_fault, push_too_long};
 use crate::delivery::deliver;
-use crate::opening::push_open_fault;
-use crate::plan_lines::push_no_plan;
-use crate::play_lines::{push_not_begun, push_word};
 use crate::status::Status;
-use crate::verdict::{push_accepted, push_fault, push_holding};
 use sm_placement::{Config, OpenFault};
 use sm_plan_code::Plan;
 use sm_plan_text::{TextFault, write_plan};
 use sm_planner::NoPlan;
 use sm_protocol::BeginFault;
+use sm_report_text::{
+    push_accepted, push_fault, push_holding, push_no_plan, push_not_begun, push_open_fault,
+    push_text_fault, push_too_long, push_word,
+};
 use sm_verifier::{Fault, Holding};
 use std::alloc::{AllocError, Global};
 use std::io::Write;

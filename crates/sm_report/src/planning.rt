@@ -11,7 +11,7 @@ ghost use Rattle.sm_planner.specs.Basis.{basis_at};
 ghost use Rattle.sm_report.specs.Early.{IfEnded, IfMade};
 ghost use Rattle.sm_report.specs.Planning.{aim_of, aim_stage, IsAimOf, IsPlanFor, IsRefusedFor, IsAnswered};
 ghost use Rattle.sm_report.specs.Report.{bad_input, refused};
-ghost use Rattle.sm_report.specs.BadInput.{text_fault_line};
+ghost use Rattle.sm_report_text.specs.BadInput.{text_fault_line};
 ghost use Rattle.sm_report.specs.Output.{IsLoggedForPlan, IsPlacedForPlan, IsOpenedForPlan, IsPlanningReport};
 
 use crate::early::Early;

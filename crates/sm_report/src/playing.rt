@@ -5,20 +5,20 @@ ghost use Rattle.sm_protocol.specs.declared.event.Played.TheVariants as played;
 ghost use Rattle.sm_protocol.specs.State.{is_begun, progress_of};
 ghost use Rattle.sm_machine.specs.State.{state_of};
 ghost use Rattle.sm_report.specs.Playing.{event_turn, scene_after};
-ghost use Rattle.sm_report.specs.PlayLines.{begun_line, played_line, outcome_line, event_lines, stream_text, progress_line_of, progress_lines, plan_lines, all_plan_lines};
+ghost use Rattle.sm_report.specs.PlayLines.{begun_line, progress_line_of, progress_lines, played_line, outcome_line, event_lines, plan_lines, all_plan_lines};
+ghost use Rattle.sm_report_text.specs.EventLines.{stream_text};
 ghost use Rattle.sm_report.specs.Player.{scene_of, IsSetUp, IsBegunThere};
 
-use crate::names::server_name;
-use crate::play_lines::{
-    push_at, push_begun, push_blocked, push_denied, push_done, push_event_front, push_executed,
-    push_not_begun, push_passed, push_refill_fault, push_stream_text, push_waiting, push_word,
-};
 use crate::player::Player;
-use crate::verdict::call_count;
 use sm_placement::Config;
 use sm_plan_code::{Plan, Stream};
 use sm_plan_text::EventText;
 use sm_protocol::Played;
+use sm_report_text::{
+    call_count, push_at, push_begun, push_blocked, push_denied, push_done, push_event_front,
+    push_executed, push_not_begun, push_passed, push_refill_fault, push_stream_text, push_waiting,
+    push_word, server_name,
+};
 use sm_reservation::StreamId;
 use std::alloc::{AllocError, Global};
 

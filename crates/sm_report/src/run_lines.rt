@@ -5,11 +5,10 @@ ghost use Rattle.sm_executor.specs.Clients.{IsClient};
 ghost use Rattle.sm_machine.specs.State.{state_of};
 ghost use Rattle.sm_report.specs.RunLines.{stream_end_line, end_line, end_lines, ask_front, asked_line, ask_line, client_line, client_lines};
 
-use crate::names::server_name;
-use crate::play_lines::{push_executed, push_word};
 use sm_executor::{Client, Naming};
 use sm_machine::Machine;
 use sm_placement::Config;
+use sm_report_text::{push_executed, push_word, server_name};
 use sm_reservation::StreamId;
 use sm_router::Asked;
 use std::alloc::AllocError;

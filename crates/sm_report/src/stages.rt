@@ -13,7 +13,7 @@ ghost use Rattle.sm_verifier.specs.Admission.{IsAdmitted};
 ghost use Rattle.sm_protocol.specs.State.{opened};
 ghost use Rattle.sm_machine.specs.State.{state_of};
 ghost use Rattle.sm_plan_text.specs.Reading.{rows_of};
-ghost use Rattle.sm_report.specs.Checking.{fault_line};
+ghost use Rattle.sm_report_text.specs.Checking.{fault_line};
 ghost use Rattle.sm_report.specs.Early.{IfEnded};
 ghost use Rattle.sm_report.specs.Report.{refused};
 ghost use Rattle.sm_report.specs.Stages.{member_stage, alone_stage, placement_stage, log_stage, IsFaultReport, IsHoldingReport};

@@ -2,8 +2,8 @@
 use Rattle.std.proofs.Common.{◌≡◌, ◌≢◌, ◌∙◌, ap, subst, sym}
 use Rattle.sm_protocol.specs.declared.event.BeginFault.TheVariants.{NoMemory}
 use Rattle.sm_machine.specs.State.{state_of}
-use Rattle.sm_report.specs.Checking.{accepted_line}
-use Rattle.sm_report.specs.PlayLines.{not_begun_line}
+use Rattle.sm_report_text.specs.Checking.{accepted_line}
+use Rattle.sm_report_text.specs.EventLines.{not_begun_line}
 use Rattle.sm_report.specs.Report.{refused}
 use Rattle.sm_executor.proofs.Starting.{begun_is}
 use Rattle.sm_report.proofs.RunStages.{one_begun, first_begun, first_tokens, start_refused}

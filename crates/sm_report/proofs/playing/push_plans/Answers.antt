@@ -3,7 +3,7 @@ use Rattle.std.proofs.lemmas.List.{length-map}
 use Rattle.sm_machine.specs.Hand.{hand_plan}
 use Rattle.sm_report.specs.PlayLines.{plan_lines}
 use Rattle.sm_report.specs.Player.{scene_of}
-use Rattle.sm_report.proofs.Texts.{text_of_next}
+use Rattle.sm_report_text.proofs.Texts.{text_of_next}
 use Rattle.sm_report.proofs.playing.push_plans.Goals as goal
 
 pub loop-place-preserved : goal.loop-place-preserved

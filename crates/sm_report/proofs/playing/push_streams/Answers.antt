@@ -8,7 +8,7 @@ use Rattle.sm_machine.specs.Machine.{MachineModel}
 use Rattle.sm_machine.specs.State.{state_of}
 use Rattle.sm_report.specs.PlayLines.{progress_line}
 use Rattle.sm_report.proofs.EventTurns.{stream_added}
-use Rattle.sm_report.proofs.Texts.{text_of_next}
+use Rattle.sm_report_text.proofs.Texts.{text_of_next}
 use Rattle.sm_report.proofs.playing.push_streams.Goals as goal
 
 pub loop-i-preserved : goal.loop-i-preserved

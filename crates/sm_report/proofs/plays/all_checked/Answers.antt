@@ -5,7 +5,7 @@ use Rattle.std.proofs.lemmas.List.{length-append}
 use Rattle.sm_placement.specs.Setup.{sizes_of}
 use Rattle.sm_machine.specs.Hand.{AreFor}
 use Rattle.sm_plan_code.specs.Plan.{PlanModel, IsKnownPlan}
-use Rattle.sm_report.specs.PlayLines.{plan_front}
+use Rattle.sm_report_text.specs.EventLines.{plan_front}
 use Rattle.sm_report.specs.Stages.{IsFaultReport, AtChecks}
 use Rattle.sm_report.proofs.Onward.{ended_weaker}
 use Rattle.sm_report.proofs.PlayStages.{first_of_left, left_after, rest_more, stopped_here, waits_more, for_more, all_passed, ended_so}

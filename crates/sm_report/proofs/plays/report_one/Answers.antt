@@ -2,7 +2,7 @@ use Rattle.std.proofs.Common.{◌≡◌, ◌∙◌, ◌++◌, ◌∷◌, [], ℕ
 use Rattle.sm_placement.specs.Setup.{sizes_of}
 use Rattle.sm_placement.specs.Layout.{place_of}
 use Rattle.sm_plan_code.specs.Plan.{PlanModel}
-use Rattle.sm_report.specs.Checking.{accepted_line}
+use Rattle.sm_report_text.specs.Checking.{accepted_line}
 use Rattle.sm_report.specs.Player.{scene_of}
 use Rattle.sm_report.proofs.PlayStages.{one_at}
 use Rattle.sm_report.proofs.plays.report_one.Goals as goal

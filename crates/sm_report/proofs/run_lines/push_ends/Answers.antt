@@ -3,7 +3,7 @@ use Rattle.sm_plan_code.specs.Plan.{PlanModel}
 use Rattle.sm_protocol.specs.State.{plan_at, stream_id, stream_count}
 use Rattle.sm_machine.specs.State.{state_of}
 use Rattle.sm_report.specs.RunLines.{end_line}
-use Rattle.sm_report.proofs.Texts.{text_of_next}
+use Rattle.sm_report_text.proofs.Texts.{text_of_next}
 use Rattle.sm_report.proofs.run_lines.push_ends.Goals as goal
 
 pub loop-i-preserved : goal.loop-i-preserved
