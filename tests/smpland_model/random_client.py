@@ -46,9 +46,11 @@ PROFILES = [
 class Client:
     """A client of one session. `spoils` says how often a line comes spoilt before it comes as it is."""
 
-    def __init__(self, seed: int, program: str | None = None, plans_often: float = 0.1, spoils: float = 0.1) -> None:
+    def __init__(
+        self, seed: int, program: str | None = None, plans_often: float = 0.1, spoils: float = 0.1, session: Session | None = None,
+    ) -> None:
         self.dice = random.Random(seed)
-        self.session = Session(program)
+        self.session = session or Session(program)
         self.profile, self.spoils = PROFILES[seed % len(PROFILES)], spoils
         self.documents = Documents(self.dice, self.profile.is_wide)
         self.slots = Slots(self.session, self.dice)

@@ -31,8 +31,8 @@ class Divergence(Exception):
 class Pair:
     """The model and a session that are given the same commands."""
 
-    def __init__(self, coverage: Counter[str]) -> None:
-        self.model, self.session, self.coverage = Controller(), Session(), coverage
+    def __init__(self, coverage: Counter[str], session: Session | None = None) -> None:
+        self.model, self.session, self.coverage = Controller(), session or Session(), coverage
         self.permits: dict[int, int] = {}
 
     def do(self, case: unittest.TestCase, command: commands.Command) -> None:
