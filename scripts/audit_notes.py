@@ -124,6 +124,8 @@ NOTES = {
     "lines_determine_exchanges": "that a state and a line determine the rest",
     "Driver::order": NOTHING,
     "Driver::publication": NOTHING,
+    "Driver::is_advanced": NOTHING,
+    "drivers_go_alike": "want of memory, which may come to one of them alone",
     "Driver::begin": NOTHING,
     "Driver::answered": "that the server has done what it answers",
     "Driver::approve": "that the server goes down",

@@ -1,3 +1,4 @@
+mod Alike
 mod AtRest
 mod Beside
 mod Driving

@@ -1,4 +1,5 @@
 pub mod Advance
+pub mod Alike
 pub mod Carried
 pub mod Driver
 pub mod Epochs

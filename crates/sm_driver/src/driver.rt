@@ -2,14 +2,16 @@
 ghost use Rattle.std.specs.Prelude.{◌≡◌, ◌≢◌, ◌<◌, ◌↔◌, ◌⊎◌, ◌+◌, IfOk, OnOk, IfErr, OnErr, Some, None, option_map, not, slice_get, true, false};
 ghost use Rattle.std.specs.Option.{option_copied};
 ghost use Rattle.sm_placement.specs.Layout.{place_of};
+ghost use Rattle.sm_protocol.specs.declared.event.BeginFault.TheVariants as begin_fault;
 ghost use Rattle.sm_protocol.specs.declared.event.Played.TheVariants as played;
 ghost use Rattle.sm_protocol.specs.State.{free_places, is_begun, pool};
 ghost use Rattle.sm_protocol.specs.Next.{unfinished_plans};
 ghost use Rattle.sm_protocol.specs.Steps.{Answered};
-ghost use Rattle.sm_protocol.specs.Happens.{Approve, engaged, happens};
+ghost use Rattle.sm_protocol.specs.Happens.{Approve, Begin, engaged, happens};
 ghost use Rattle.sm_task_controller.specs.Decision.{denial};
 ghost use Rattle.sm_network.specs.Net.{order_of};
 ghost use Rattle.sm_network.specs.World.{publication_of};
+ghost use Rattle.sm_driver.specs.Advance.{next_free};
 ghost use Rattle.sm_driver.specs.Orders.{awaiting_of, bases_end, epoch_base, message_of, net_message, net_order, net_publication};
 ghost use Rattle.sm_driver.specs.Carried.{AreCarriedDown};
 ghost use Rattle.sm_driver.specs.Permits.{AreEarlierPermits, ArePermitsOfDown, restart_effect, server_permitted};
@@ -142,11 +144,20 @@ impl Driver {
         awaiting(self.machine(), list)
     }
 
+    /// States that no stream stands before a step that needs nobody.
+    pub fn is_advanced(&self)
+        ensures { next_free (record_of self.now) ≡ None }
+    {
+        let _ = &self.director;
+    }
+
     /// Begins a plan that is ready and was checked for the configuration, and makes every step that needs nobody. Returns the plan's
     /// number. If the plan does not begin, it comes back ready, and nothing changes.
     pub fn begin(&mut self, ready: ReadyPlan) -> Result<u32, (ReadyPlan, BeginFault)>
         requires { ready.setup ≡ self.old.machine.placement.setup }
         ensures begun { IfOk result (λ number. HasBegunPlan ready.plan number self.old self.new) }
+        ensures refused { IfErr result (λ e. (happens (record_of self.old) (Begin ready.plan)).0 ≡ Answered (played.NotBegun e.1)) }
+        ensures memory { IfErr result (λ e. e.1 ≢ begin_fault.NoMemory) }
         ensures back { IfErr result (λ e. e.0 ≡ ready) }
         ensures unchanged { OnErr result (self.new ≡ self.old) }
     {

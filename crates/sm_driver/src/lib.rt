@@ -5,6 +5,7 @@
 mod carried;
 mod driver;
 mod epoch;
+mod law;
 mod order;
 mod ordering;
 mod own_steps;
@@ -14,6 +15,7 @@ mod restores;
 
 pub use driver::{AnswerEffect, Driver, EPOCH_STEP};
 pub use epoch::EpochFault;
+pub use law::drivers_go_alike;
 pub use order::{StreamMessage, StreamOrder, StreamPublication};
 pub use ordering::{awaiting, awaits, message_of, order_of, publication_of};
 pub use own_steps::is_free;

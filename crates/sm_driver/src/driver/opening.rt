@@ -1,5 +1,5 @@
 //! Openings of drivers: the first one of a journal, and the one that a reopening comes to.
-ghost use Rattle.std.specs.Prelude.{◌≡◌, ◌<◌, ◌↔◌, ◌⊎◌, IfOk, IfErr, None, [], length, replicate, false};
+ghost use Rattle.std.specs.Prelude.{◌≡◌, ◌≤◌, ◌<◌, ◌↔◌, ◌⊎◌, IfOk, OnOk, IfErr, None, [], length, replicate, false};
 ghost use Rattle.sm_placement.specs.Setup.{sizes_of};
 ghost use Rattle.sm_placement.specs.Place.{down_count};
 ghost use Rattle.sm_placement.specs.Layout.{place_of};
@@ -43,6 +43,7 @@ impl Driver {
         ensures permits { IfOk result (λ d. d.permits ≡ opening_permits (base d) permits.now (length placement.setup.servers) (place_of placement).down) }
         ensures carried { IfOk result (λ d. d.carried ≡ carried_down carried.now (length placement.setup.servers) (place_of placement).down) }
         ensures restores { IfOk result (λ d. d.restores ≡ replicate (length placement.setup.servers) None) }
+        ensures fits { OnOk result ((log_room ≤ MOST_PLACES) × (down_count (sizes_of placement.setup) (place_of placement) ≤ log_room)) }
         ensures back { IfErr result (λ e. e.0 ≡ placement) }
         ensures full { IfErr result (λ e. (e.1 ≡ LogFull) ↔ ((MOST_PLACES < log_room) ⊎ (log_room < down_count (sizes_of placement.setup) (place_of placement)))) }
     {
@@ -90,6 +91,7 @@ impl Driver {
         ensures permits { IfOk result (λ d. d.permits ≡ opening_permits (base d) [] (length placement.setup.servers) (place_of placement).down) }
         ensures carried { IfOk result (λ d. d.carried ≡ replicate (length placement.setup.servers) false) }
         ensures restores { IfOk result (λ d. d.restores ≡ replicate (length placement.setup.servers) None) }
+        ensures fits { OnOk result ((log_room ≤ MOST_PLACES) × (down_count (sizes_of placement.setup) (place_of placement) ≤ log_room)) }
         ensures back { IfErr result (λ e. e.0 ≡ placement) }
         ensures full { IfErr result (λ e. (e.1 ≡ LogFull) ↔ ((MOST_PLACES < log_room) ⊎ (log_room < down_count (sizes_of placement.setup) (place_of placement)))) }
     {
@@ -118,6 +120,7 @@ impl Driver {
         ensures permits { IfOk result (λ d. d.permits ≡ opening_permits (base d) permits.now (length placement.setup.servers) (place_of placement).down) }
         ensures carried { IfOk result (λ d. d.carried ≡ carried_down carried.now (length placement.setup.servers) (place_of placement).down) }
         ensures restores { IfOk result (λ d. d.restores ≡ replicate (length placement.setup.servers) None) }
+        ensures fits { OnOk result ((log_room ≤ MOST_PLACES) × (down_count (sizes_of placement.setup) (place_of placement) ≤ log_room)) }
         ensures back { IfErr result (λ e. e.0 ≡ placement) }
         ensures full { IfErr result (λ e. (e.1 ≡ LogFull) ↔ ((MOST_PLACES < log_room) ⊎ (log_room < down_count (sizes_of placement.setup) (place_of placement)))) }
     {
