@@ -1,0 +1,2 @@
+pub mod Controlled
+pub mod ControlledLaws

@@ -1,0 +1,74 @@
+//! The laws of a driver and its service.
+ghost use Rattle.sm_service_laws.specs.Controlled.{EachControlled};
+ghost use Rattle.sm_service_laws.specs.ControlledLaws.{ControlledOpens, DriverCanOpen, DriverCanReopen, IsControlledSafely, IsServiceControlled, VersionsStayBelow};
+
+use sm_driver_laws::{
+    commands_are_events, driven_is_controlled, driven_is_safe, drivers_open, reopened_drivers_open,
+};
+use sm_network::{fleet_can_reopen, fleet_is_reached, fleet_opens_in_force};
+use sm_reopening_laws::{
+    fleet_is_there, laws_hold, old_orders_rest, order_acts_once, permit_ends_once, service_is_safe,
+};
+
+/// States that whatever commands come, reopenings among them, and whatever else happens to servers and network, the
+/// service is one that its laws are about, and the driver is its controller.
+pub fn service_is_controlled()
+    ensures { EachControlled IsServiceControlled }
+{
+    commands_are_events();
+    driven_is_controlled();
+    fleet_is_reached();
+    fleet_opens_in_force();
+    laws_hold();
+}
+
+/// States that all laws of the service hold of the driver's service, and between reopenings all laws of the fleet hold
+/// of its fleet.
+pub fn controlled_is_safe()
+    ensures { EachControlled IsControlledSafely }
+{
+    service_is_controlled();
+    driven_is_safe();
+    service_is_safe();
+    permit_ends_once();
+    order_acts_once();
+    old_orders_rest();
+}
+
+/// States that the versions of an epoch stay below the base of the next one, so that a later publication has the higher
+/// version.
+pub fn versions_stay_below()
+    ensures { EachControlled VersionsStayBelow }
+{
+    commands_are_events();
+    driven_is_controlled();
+    fleet_is_reached();
+    fleet_opens_in_force();
+    laws_hold();
+}
+
+/// States that the first driver of a journal has a service.
+pub fn controlled_opens()
+    ensures { ControlledOpens }
+{
+    drivers_open();
+}
+
+/// States that a driver that runs plans can reopen.
+pub fn driver_can_reopen()
+    ensures { EachControlled DriverCanReopen }
+{
+    service_is_controlled();
+    fleet_can_reopen();
+    laws_hold();
+}
+
+/// States that once all have taken a settlement, a driver that opens on it has a fleet.
+pub fn driver_can_open()
+    ensures { EachControlled DriverCanOpen }
+{
+    service_is_controlled();
+    laws_hold();
+    fleet_is_there();
+    reopened_drivers_open();
+}
