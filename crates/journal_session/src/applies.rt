@@ -29,4 +29,13 @@ pub trait Applies {
             × takes self.old (exchange line.now applied text) self.new) }
         // A line that changed something is one object: a journal can take it as an entry.
         ensures object { IfOk result (λ applied. applied ≡ Changed → IsObject line.now) };
+
+    /// Applies an entry of a journal again: it does what `apply` does, and writes no reply.
+    fn replay(&mut self, alloc: Global, entry: &[u8]) -> Result<Applied, AllocError>
+        requires { IsObject entry.now }
+        ensures { IfOk result (λ applied. (reply : List ℕ) × takes self.old (exchange entry.now applied reply) self.new) }
+    {
+        let mut reply = Vec::new(alloc);
+        self.apply(alloc, entry, &mut reply)
+    }
 }

@@ -28,11 +28,9 @@ fn apply_batch<A: Applies>(
         → (other : ℕ) → result ≡ Err (RecoverFault.Unfit other) → (other ≡ number) × HasUnchanged A.takes state.old [] commands }
     ensures no_other { result ≡ Err RecoverFault.Foreign → ⊥ }
 {
-    let mut reply = Vec::new(alloc);
     let mut rest = body;
     while let Some(length) = object_length(rest) {
-        reply.clear();
-        match state.apply(alloc, &rest[..length], &mut reply)? {
+        match state.replay(alloc, &rest[..length])? {
             Applied::Changed => {}
             Applied::Unchanged => return Err(RecoverFault::Unfit(number)),
         }
