@@ -142,6 +142,7 @@ NOTES = {
     "OngoingReopening::fenced": NOTHING,
     "OngoingReopening::confirm": NOTHING,
     "Session::apply": "how a line is read, and which text a reply is",
+    "Session::replay": "how an entry is read",
 }
 
 WRONG = {
@@ -163,6 +164,7 @@ WRONG = {
     "journal_session::serve": "journal_session/end_turn_writes_before_it_keeps",
     "resume": "journal_session/resume_serves_before_it_recovers",
     "recover": "journal_session/recover_goes_on_without_a_sync",
+    "Session::replay": "sm_session/an_old_answer_is_replayed_as_a_change",
     "Driver::order": "sm_driver/order_under_a_number_of_its_own",
     "Driver::begin": "sm_driver/advance_without_an_answer_to_a_publication",
     "Driver::answered": "sm_driver/answered_takes_an_answer_twice",

@@ -17,6 +17,23 @@ pub fn write_ignored(writer: &mut Writer, why: &str) -> Result<(), AllocError> {
     write_text(writer, "ignored", why)
 }
 
+/// Notes at a place that a message was answered, if there was one.
+fn note(
+    opened: &mut Opened,
+    place: u64,
+    message: Option<StreamMessage>,
+    sinces: &[u32],
+) -> Result<(), AllocError>
+    ensures driver { opened.new.driver ≡ opened.old.driver }
+{
+    match message {
+        Some(message) => {
+            note_answered(&mut opened.history, &opened.driver, place, message, sinces)
+        }
+        None => Ok(()),
+    }
+}
+
 /// Notes at a place that a message was answered, and writes the reply.
 fn take_answer(
     opened: &mut Opened,
@@ -29,9 +46,7 @@ fn take_answer(
     ensures driver { opened.new.driver ≡ opened.old.driver }
     ensures told { OnOk result (writer.new.tokens ≡ writer.old.tokens ++ taken_members (string_bytes opened.new.journal) opened.new.driver id sinces.now) }
 {
-    if let Some(message) = message {
-        note_answered(&mut opened.history, &opened.driver, place, message, sinces)?;
-    }
+    note(opened, place, message, sinces)?;
     opened.write_taken(writer, id, sinces)
 }
 
@@ -70,4 +85,29 @@ pub fn answered(
             Ok(false)
         }
     }
+}
+
+/// Takes the answer to an order or a publication at a place again: it does what `answered` does, and writes no reply.
+pub fn answered_again(
+    opened: &mut Opened,
+    at: Standing,
+    alloc: Global,
+    id: StreamId,
+    number: u64,
+) -> Result<bool, AllocError>
+    ensures moved { IfOk result (λ moved. moved ≡ true → TakesAnswer opened.old.driver opened.new.driver) }
+    ensures unchanged { IfOk result (λ moved. moved ≡ false → opened.new ≡ opened.old) }
+    ensures in_force { IfOk result (λ moved. moved ≡ true → at.is_reopening ≡ false) }
+{
+    if at.is_reopening {
+        return Ok(false);
+    }
+    let sinces = opened.messages().sinces(alloc, id.plan)?;
+    let message = opened.driver.message(id);
+    match opened.driver.answered(id, number) {
+        AnswerEffect::Moved => {}
+        AnswerEffect::Old | AnswerEffect::Unknown => return Ok(false),
+    }
+    note(opened, at.place, message, sinces.as_slice())?;
+    Ok(true)
 }

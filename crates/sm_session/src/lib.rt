@@ -9,6 +9,7 @@ mod next_epoch;
 mod opening;
 mod planning;
 mod reopening;
+mod replaying;
 mod restarting;
 mod restoring;
 mod session;

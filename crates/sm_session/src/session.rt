@@ -142,7 +142,7 @@ impl Session {
     }
 
     /// Returns the servers and shards of the document in force, if there is one.
-    fn config(&self) -> Option<&Config> {
+    pub(crate) fn config(&self) -> Option<&Config> {
         match &self.opened {
             Some(opened) => Some(opened.driver.machine().config()),
             None => None,
@@ -160,7 +160,7 @@ impl Session {
     }
 
     /// Carries out a command.
-    fn carry_out(
+    pub(crate) fn carry_out(
         &mut self,
         alloc: Global,
         command: LineCommand<'_, '_>,

@@ -43,4 +43,11 @@ impl Applies for Keeper {
             LineEffect::Unchanged => Ok(Applied::Unchanged),
         }
     }
+
+    fn replay(&mut self, alloc: Global, entry: &[u8]) -> Result<Applied, AllocError> {
+        Ok(match self.session.replay(alloc, entry)? {
+            LineEffect::Changed => Applied::Changed,
+            LineEffect::Unchanged => Applied::Unchanged,
+        })
+    }
 }

@@ -1,0 +1,77 @@
+//! The entries of a journal, applied again.
+ghost use Rattle.std.specs.Prelude.{◌≡◌, IfOk, false, true};
+ghost use Rattle.journal_lines.specs.Objects.{IsObject};
+ghost use Rattle.sm_session.specs.declared.session.LineEffect.TheVariants as did;
+ghost use Rattle.sm_session.specs.Changes.{SessionChanges};
+
+use crate::answering::answered_again;
+use crate::session::{LineEffect, Session};
+use json::{Scratch, Writer};
+use sm_commands::{LineCommand, parse_line, read_command};
+use sm_reservation::StreamId;
+use std::alloc::{AllocError, Global};
+
+impl Session {
+    /// Applies an entry of a journal again: it does what `apply` does, and writes no reply. If memory is short, the
+    /// session is to end.
+    pub fn replay(&mut self, alloc: Global, entry: &[u8]) -> Result<LineEffect, AllocError>
+        requires { IsObject entry.now }
+        ensures changed { IfOk result (λ applied. applied ≡ did.Changed → SessionChanges self.old self.new) }
+        ensures unchanged { IfOk result (λ applied. applied ≡ did.Unchanged → self.new ≡ self.old) }
+    {
+        if !self.take_entry(alloc, entry)? {
+            return Ok(LineEffect::Unchanged);
+        }
+        self.place = self.place.saturating_add(1);
+        Ok(LineEffect::Changed)
+    }
+
+    /// Applies an entry, and tells whether something has changed.
+    fn take_entry(&mut self, alloc: Global, entry: &[u8]) -> Result<bool, AllocError>
+        ensures changed { IfOk result (λ changed. changed ≡ true → SessionChanges self.old self.new) }
+        ensures unchanged { IfOk result (λ changed. changed ≡ false → self.new ≡ self.old) }
+    {
+        let mut scratch = Scratch::new(alloc);
+        let Some(tree) = parse_line(alloc, entry, &mut scratch)? else {
+            return Ok(false);
+        };
+        match read_command(alloc, &tree, self.config())? {
+            Ok(command) => self.carry_out_again(alloc, command),
+            Err(_) => Ok(false),
+        }
+    }
+
+    /// Carries out a command. Only the reply to an answer is not even made: there are as many as all others together.
+    fn carry_out_again(
+        &mut self,
+        alloc: Global,
+        command: LineCommand<'_, '_>,
+    ) -> Result<bool, AllocError>
+        ensures changed { IfOk result (λ changed. changed ≡ true → SessionChanges self.old self.new) }
+        ensures unchanged { IfOk result (λ changed. changed ≡ false → self.new ≡ self.old) }
+    {
+        if let LineCommand::Answered {
+            plan,
+            stream,
+            number,
+        } = command
+        {
+            return self.take_answer(alloc, StreamId { plan, stream }, number);
+        }
+        let mut unread = Writer::new(Vec::new(alloc));
+        unread.begin_object()?;
+        self.carry_out(alloc, command, &mut unread)
+    }
+
+    /// Takes an answer, if a journal is open.
+    fn take_answer(&mut self, alloc: Global, id: StreamId, number: u64) -> Result<bool, AllocError>
+        ensures changed { IfOk result (λ changed. changed ≡ true → SessionChanges self.old self.new) }
+        ensures unchanged { IfOk result (λ changed. changed ≡ false → self.new ≡ self.old) }
+    {
+        let at = self.standing();
+        match &mut self.opened {
+            Some(opened) => answered_again(opened, at, alloc, id, number),
+            None => Ok(false),
+        }
+    }
+}
