@@ -6,7 +6,13 @@ mod answers;
 #[cfg(test)]
 mod epochs;
 #[cfg(test)]
+mod logs;
+#[cfg(test)]
+mod memory;
+#[cfg(test)]
 mod names;
+#[cfg(test)]
+mod refusals;
 #[cfg(test)]
 mod restarts;
 #[cfg(test)]

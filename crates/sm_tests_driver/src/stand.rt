@@ -2,8 +2,8 @@
 use sm_driver::{
     AnswerEffect, Driver, RestoreFault, StreamOrder, StreamPublication, are_earlier_permits,
 };
-use sm_fixtures::{S_TO_B, World, handover_plan, is_for, signalled_plan};
-use sm_machine::make_ready;
+use sm_fixtures::{S_TO_B, World, handover_plan, idle_plan, is_for, signalled_plan};
+use sm_machine::{BeginFault, make_ready};
 use sm_reservation::StreamId;
 use sm_server::ServerId;
 use sm_task_controller::Denied;
@@ -85,20 +85,42 @@ pub(crate) fn restore(
     driver.restore(alloc, ServerId::new(number), nonce)
 }
 
-/// Begins a checked plan, which is the first.
-fn must_begin(rt: &impl Abort, alloc: Global, driver: &mut Driver, checked: Checked) {
+/// Begins a checked plan.
+pub(crate) fn begin(
+    rt: &impl Abort,
+    alloc: Global,
+    driver: &mut Driver,
+    checked: Checked,
+) -> Result<u32, BeginFault> {
     match make_ready(alloc, checked) {
         Err(_) => panic!(rt; "there is no memory for a plan's room"),
         Ok(ready) => {
             assert!(rt; is_for(driver.machine().config(), ready.checked()));
             match driver.begin(ready) {
-                Ok(number) => assert!(rt; number == 0),
+                Ok(number) => Ok(number),
                 Err((ready, why)) => {
                     let _checked = ready.back();
-                    panic!(rt; "a plan does not begin: {why}")
+                    Err(why)
                 }
             }
         }
+    }
+}
+
+/// Begins a checked plan, which is the first.
+fn must_begin(rt: &impl Abort, alloc: Global, driver: &mut Driver, checked: Checked) {
+    assert!(rt; begin(rt, alloc, driver, checked) == Ok(0));
+}
+
+/// Begins a plan whose one stream has nothing to do: it ends at once, and takes one place of the log.
+pub(crate) fn begin_idle(
+    rt: &impl Abort,
+    alloc: Global,
+    driver: &mut Driver,
+) -> Result<u32, BeginFault> {
+    match idle_plan(alloc, World::Base, 1) {
+        Ok(checked) => begin(rt, alloc, driver, checked),
+        Err(_) => panic!(rt; "there is no memory for a plan"),
     }
 }
 
