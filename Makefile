@@ -91,7 +91,6 @@ check-program:
 	scripts/check-dist
 	scripts/page-test --or-leave-out
 	python3 tests/cluster/checker_cases.py
-	scripts/check-cluster
 	scripts/check-memory
 	scripts/check-threads
 	scripts/check-storm 20
@@ -100,7 +99,7 @@ check-program:
 check-tests:
 	$(MAKE) agent vectors
 	scripts/check-agent
-	scripts/check-memory-tests sm_tests_json sm_tests_placement sm_tests_rights sm_tests_text sm_tests sm_tests_machine sm_tests_plans sm_tests_play sm_tests_board sm_tests_planner sm_map
+	scripts/check-memory-tests sm_tests_json sm_tests_placement sm_tests_rights sm_tests_text sm_tests sm_tests_machine sm_tests_plans sm_tests_play sm_tests_board sm_tests_planner sm_tests_driver sm_map
 	scripts/check-refused-programs
 
 edits: ## tries all wrong versions, over what make test has proved: hours of a processor
