@@ -8,7 +8,7 @@ from pathlib import Path
 from statistics import median
 
 NANO = 1e-9
-# After so many seconds nothing is on its way any more that a leader sent before it died.
+# Messages of a leader that died are no longer on their way after this time, in seconds.
 LATE = 1.0
 
 
