@@ -1,4 +1,4 @@
--- What holds of a driver and its service is kept by every event.
+-- Every event keeps what holds of a driver and its service.
 use Rattle.std.proofs.Common.{◌≡◌, ◌≤◌, ◌<◌, ◌+◌, ◌∙◌, ℕ, Bool, true, false, Option, Some, List, [], ◌∷◌, length, map, refl, sym, ap, subst, arith, inl, inr}
 use Rattle.std.specs.Prelude.{◌==◌, ◌&&◌, is_some, if◌then◌else◌}
 use Rattle.sm_placement.specs.Setup.{Sizes, sizes_of}

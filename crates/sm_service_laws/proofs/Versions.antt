@@ -26,7 +26,7 @@ use Rattle.sm_protocol.proofs.LogRoom.{begun_parts, has_room, length_logged, of_
 use Rattle.sm_protocol.proofs.Reached.{by_events, of_opening}
 use Rattle.sm_protocol.proofs.Whole.{reached_keeps}
 
--- versions, of so many shards, are as far above the first ones as that many events allow
+-- this many events raise the versions of this many shards by no more than their number
 record AreRaised (shards recorded : ℕ) (first version : ℕ → ℕ) : Type 0 where
   pub raised : (s : ℕ) → version s ≤ first s + recorded
   pub unknown : (s : ℕ) → shards ≤ s → version s ≡ first s

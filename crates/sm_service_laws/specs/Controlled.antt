@@ -20,7 +20,7 @@ pub data Controlled : Type 0 where
   -- its plans have ended, and a reopening is under way over the fleet: as its controller keeps it, and as it is over the network
   Settles : (x : Driven) (ongoing : OngoingReopening) (settling : Settling) → Controlled
 
--- What may happen: something to servers and network, or the driver takes a command.
+-- An event: something happens to servers and network, or the driver takes a command.
 pub data ControlledEvent : Type 0 where
   -- a turn of the driver and its fleet
   Turns : (turn : Turn) → ControlledEvent
