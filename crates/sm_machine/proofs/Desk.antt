@@ -1,5 +1,5 @@
 -- A plan that lies on the desk: what the code reads of it is the whole's.
-use Rattle.std.proofs.Common.{◌≡◌, ◌<◌, ◌∙◌, ℕ, None, true, List, length, set, get_or, map, sym, ap, subst, arith}
+use Rattle.std.proofs.Common.{◌≡◌, ◌<◌, ◌∙◌, ◌∷◌, [], ℕ, zero, suc, refl, None, true, List, length, set, get_or, map, sym, ap, subst, arith}
 use Rattle.std.proofs.lemmas.Bool.{and_parts, ltb-true}
 use Rattle.std.proofs.Math.ListN.{get_or-map, length-set}
 use Rattle.sm_reservation.specs.Hold.{minus, plus}
@@ -20,6 +20,15 @@ pub still_there : (xs ys : List BegunModel) (k : ℕ) (d : BegunModel) → ys �
 still_there xs ys k d e l =
     let f : length ys ≡ length xs = ap length e ∙ simp length-set in
     omega (arith, f)
+
+-- the plan of nothing that was laid into the place of one comes back to the desk
+pub cleared : (xs ys : List BegunModel) (k : ℕ) (laid back : BegunModel) → ys ≡ set xs k laid → back ≡ get_or ys k no_begun → laid ≡ no_begun → back ≡ no_begun
+cleared xs ys k laid back e f blank = f ∙ ap (λ ws. get_or ws k no_begun) e ∙ ap (λ n. get_or (set xs k n) k no_begun) blank ∙ blank_at xs k
+  where
+    blank_at : (xs : List BegunModel) (k : ℕ) → get_or (set xs k no_begun) k no_begun ≡ no_begun
+    blank_at [] k = refl
+    blank_at (x ∷ xs) zero = refl
+    blank_at (x ∷ xs) (suc k) = blank_at xs k
 
 module _ (b w : MachineModel) (id : StreamId) (z : b ≡ w) (n : BegunModel) (v : n ≡ begun_at b.plans id.plan) where
   here : n ≡ begun_at w.plans id.plan

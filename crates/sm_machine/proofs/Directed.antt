@@ -1,4 +1,4 @@
--- What happens to a machine that nobody halts: what steps are answered, and which events begin a plan.
+-- Events at a machine that nobody halts: the answers to steps, and the events that begin a plan.
 use Rattle.std.proofs.Common.{◌≡◌, ◌≢◌, ◌<◌, ◌+◌, ◌∙◌, inl, inr, ◌∷◌, [], ℕ, Bool, true, false, Option, Some, None, length, Result, Ok, Err, refl, ap, sym, subst, arith, length-append}
 use Rattle.std.specs.Prelude.{◌==◌, ◌&&◌, nat_lt, if◌then◌else◌}
 use Rattle.std.proofs.lemmas.Bool.{cases_Bool}

@@ -1,4 +1,4 @@
--- What holds a plan up, seen by the whole.
+-- The reason why a plan may not start, seen by the whole.
 use Rattle.std.proofs.Common.{◌≡◌, length, sym, ap, ◌∙◌, subst, Some, None}
 use Rattle.sm_placement.specs.Setup.{sizes_of}
 use Rattle.sm_placement.specs.Layout.{place_of}

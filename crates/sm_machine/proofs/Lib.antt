@@ -17,6 +17,7 @@ pub mod Readied
 pub mod Added
 pub mod TruePool
 pub mod Held
+pub mod Returns
 pub mod Begins
 pub mod SeenStart
 pub mod KnownPasses

@@ -1,4 +1,4 @@
--- What each kind of step asks for is there, in a machine that keeps what every machine keeps.
+-- The conditions of each kind of step are met, in a machine that keeps what every machine keeps.
 use Rattle.std.proofs.Common.{◌≡◌, ℕ, ◌-◌, ◌^◌, ◌<◌, Bool, true, false, not, Option, Some, None, Result, Ok, Err, IsOk, refl, sym, ap, ◌∙◌, subst, arith}
 use Rattle.std.specs.Prelude.{is_some}
 use Rattle.std.proofs.lemmas.Bool.{and_from}

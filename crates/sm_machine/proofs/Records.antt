@@ -1,4 +1,4 @@
--- What stands beside a log: what it tells of tickets, and what it is once one more event is recorded.
+-- The records beside a log: what it tells of tickets, and what it is once one more event is recorded.
 use Rattle.std.proofs.Common.{◌≡◌, ◌<◌, ◌∙◌, ℕ, Bool, true, false, not, List, [], ◌∷◌, ◌++◌, length, length-append, Option, Some, None, get_or, sym, ap, arith}
 use Rattle.std.specs.Prelude.{◌||◌, slice_index_or}
 use Rattle.std.proofs.Math.Bool.{or-false}

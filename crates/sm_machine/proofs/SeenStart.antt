@@ -1,4 +1,4 @@
--- What a start needs, as its call sees it.
+-- The needs of a start, as its call sees it.
 use Rattle.std.proofs.Common.{◌≡◌, ◌≤◌, ◌<◌, ◌+◌, ◌-◌, ℕ, length, sym, ap, ◌∙◌, subst, Option, None}
 use Rattle.std.specs.Prelude.{nat_lt, Result, Ok, Err, IfOk, OnErr}
 use Rattle.sm_placement.specs.Sums.{bit}

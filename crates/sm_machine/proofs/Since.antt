@@ -1,4 +1,4 @@
--- What streams keep of their last steps is kept with the plans and the log.
+-- The notes of streams' last steps are kept with the plans and the log.
 use Rattle.std.proofs.Common.{◌≡◌, ◌≢◌, ◌<◌, ◌+◌, ◌++◌, ◌∷◌, [], ℕ, false, sym, ap, ◌∙◌, subst, arith, inl, inr, Option, Some, None, List, length, get_or, set, map}
 use Rattle.std.proofs.lemmas.Bool.{cases_eq}
 use Rattle.std.proofs.lemmas.List.{get_or-set_same, get_or-set_other}

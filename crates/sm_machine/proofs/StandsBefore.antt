@@ -1,4 +1,4 @@
--- What streams stand before, and which plans are unfinished, as a machine reads it.
+-- The next acts of streams, and which plans are unfinished, as a machine reads it.
 use Rattle.std.proofs.Common.{◌≡◌, ◌<◌, ◌+◌, ◌++◌, ◌∷◌, [], ℕ, zero, suc, Bool, true, false, not, refl, sym, ap, ◌∙◌, arith, Some, None, length, inl, inr}
 use Rattle.std.specs.Prelude.{◌==◌, IfSome, nat_lt, if◌then◌else◌}
 use Rattle.std.specs.List.{filter, range_with_len}

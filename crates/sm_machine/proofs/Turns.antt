@@ -1,4 +1,4 @@
--- What the code of each kind of step asks for and leaves.
+-- The needs and the results of the code of each kind of step.
 use Rattle.std.proofs.Common.{◌≡◌, ℕ, ◌+◌, ◌-◌, ◌^◌, ◌<◌, ◌≤◌, Bool, true, false, not, Option, Some, None, Ok, refl, sym, ap, ◌∙◌, subst, arith}
 use Rattle.std.specs.Prelude.{is_some, IfSome, ◌==◌}
 use Rattle.sm_placement.specs.Sums.{put2}

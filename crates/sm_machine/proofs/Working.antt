@@ -1,4 +1,4 @@
--- What every machine keeps is kept by each kind of step.
+-- The facts that every machine keeps are kept by each kind of step.
 use Rattle.std.proofs.Common.{◌≡◌, ℕ, ◌+◌, ◌-◌, ◌<◌, ◌≤◌, Bool, true, false, not, Option, Some, None, Ok, refl, sym, ap, ◌∙◌, subst, inl, inr, length}
 use Rattle.std.specs.Prelude.{is_some, ◌==◌, if◌then◌else◌}
 use Rattle.std.proofs.Math.Path.{fun_ext}

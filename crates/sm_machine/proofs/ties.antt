@@ -13,6 +13,7 @@ pub mod Starting
 pub mod Restarting
 pub mod Freeing
 pub mod Finishing
+pub mod Ending
 pub mod Stepping
 pub mod Counters
 pub mod Events

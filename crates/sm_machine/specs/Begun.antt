@@ -23,7 +23,7 @@ pub record BegunModel : Type 0 where
   pub since : ℕ
   pub courses : List CourseModel
   pub signals : List CarriedModel
-  -- how many streams have not made their ends
+  -- how many streams have not finished
   pub unfinished : ℕ
 
 -- the default if no plan was begun

@@ -11,6 +11,7 @@ pub mod Machine
 pub mod State
 pub mod Trade
 pub mod Tied
+pub mod Returns
 pub mod SpareReplicas
 pub mod Steps
 pub mod Ready

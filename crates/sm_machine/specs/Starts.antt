@@ -96,7 +96,7 @@ pub record IsGranted (p : Rights) (n : ℕ) (grant : Option HoldModel) : Type 0 
   pub hold : hold_in grant ≡ plus no_hold p
   pub capacity : capacity_in grant ≡ n
 
--- The plan is begun, its streams have what they declare, and of its signals none was posted. All else is as it was.
+-- The plan is begun, its streams have what they declare, and none of its signals was posted. Nothing else has changed.
 pub record IsBegunIn (x : Whole) (p : CheckedModel) (y : Whole) : Type 0 where
   pub state : y.state ≡ started x.state p.plan
   pub setup : y.setup ≡ x.setup

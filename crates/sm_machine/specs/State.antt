@@ -26,7 +26,7 @@ pub record Whole : Type 0 where
   pub grants : ℕ → ℕ → Option HoldModel
   -- what each signal carries; none once it was awaited
   pub parcels : ℕ → ℕ → Option HoldModel
-  -- how many streams of each plan have not made their ends, and how many plans are unfinished
+  -- how many streams of each plan have not finished, and how many plans are unfinished
   pub unfinished : ℕ → ℕ
   pub running : ℕ
   -- how many places of the log are neither used nor set aside

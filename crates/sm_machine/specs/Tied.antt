@@ -15,7 +15,7 @@ use Rattle.sm_protocol.specs.State as state
 abbrev pub carried : State → ℕ → ℕ → Hold
 carried w k q = if is_under_way (w.marks k q) then hold_of (parcel_at w k q) else no_hold
 
--- The pool is the state's. The grant of each stream that was begun and has not made its end is what the stream holds, by
+-- The pool is the state's. The grant of each stream that was begun and has not finished is what the stream holds, by
 -- the plan's number and by the stream's; and by the plan's number and by the signal's, each parcel is what is under way.
 pub record IsTied (w : State) (free : Hold) (granted : ℕ → ℕ → Hold) (sent : ℕ → ℕ → Hold) : Type 0 where
   pub pool : free ≡ state.pool w
@@ -41,7 +41,7 @@ get_live h live (suc n) = if live n then get_spare (get_live h live n) n 1 else 
 
 -- ---- what is counted
 
--- how many streams of a plan have not made their ends
+-- how many streams of a plan have not finished
 abbrev pub unfinished_count : State → ℕ → ℕ
 unfinished_count w k = count_below (stream_count w k) (λ i. not (w.progress k i).done)
 

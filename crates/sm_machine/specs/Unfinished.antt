@@ -3,12 +3,12 @@
 use Rattle.std.specs.Prelude.{◌≡◌, ℕ, zero, suc, ◌==◌, ◌++◌, ◌∷◌, [], List, length, slice_index_or, if◌then◌else◌}
 use Rattle.sm_machine.specs.Begun.{BegunModel, no_begun}
 
--- of the first n plans, those of which some stream has not made its end, by how many of each have not
+-- of the first n plans, those of which some stream has not finished, by how many of each have not
 abbrev pub unfinished_below : (ℕ → ℕ) → ℕ → List ℕ
 unfinished_below counts zero = []
 unfinished_below counts (suc n) = if counts n == 0 then unfinished_below counts n else unfinished_below counts n ++ n ∷ []
 
--- how many streams of a plan have not made their ends
+-- how many streams of a plan have not finished
 abbrev pub unfinished_of : List BegunModel → ℕ → ℕ
 unfinished_of plans k = (slice_index_or plans k no_begun).unfinished
 

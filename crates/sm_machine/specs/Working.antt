@@ -35,7 +35,7 @@ pub record IsWorking (x : Whole) : Type 0 where
   pub unsent : (k q : ℕ) → k < length x.state.plans → q < signal_count x.state k → (x.state.marks k q).posted ≡ false → IsUnsent (x.parcels k q) (parcel_at x.state k q)
   pub counted : HasCounters x.state x.unfinished x.running x.free
 
--- A machine whose stream makes this next, or its end: it was begun, and hasn't made its end.
+-- A machine whose stream makes this next, or its end: it was begun, and hasn't finished.
 pub record IsAt (x : Whole) (id : StreamId) (next : Option Instr) : Type 0 where
   pub working : IsWorking x
   pub awake : x.state.halted ≡ false

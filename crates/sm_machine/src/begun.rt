@@ -1,5 +1,5 @@
 //! A plan that was begun.
-ghost use Rattle.std.specs.Prelude.{◌≡◌, ◌<◌, ◌≤◌, ◌^◌, ◌+◌, ◌-◌, ◌==◌, count_by, not, is_some, IfSome, Some, None, true, false, length, slice_get, slice_index_or};
+ghost use Rattle.std.specs.Prelude.{◌≡◌, ◌<◌, ◌≤◌, ◌^◌, ◌+◌, ◌-◌, ◌==◌, count_by, not, is_some, IfSome, Some, None, true, false, length, slice_get, slice_index_or, sum_by};
 ghost use Rattle.sm_reservation.specs.Hold.{minus, plus};
 ghost use Rattle.sm_reservation.specs.HoldOf.{hold_of};
 ghost use Rattle.sm_reservation.specs.CanJoin.{CanJoin};
@@ -20,15 +20,16 @@ ghost use Rattle.sm_machine.specs.Tied.{pool_left};
 ghost use Rattle.sm_machine.specs.Starts.{CanFillAll, AreFilled};
 ghost use Rattle.sm_machine.specs.Course.{hold_in, rights_in, capacity_in, HasCapacityIn, IsCourse, IsGrantInOrder};
 ghost use Rattle.sm_machine.specs.Since.{since_by};
-ghost use Rattle.sm_machine.specs.Begun.{course_at, carried_at, with_course, with_carried, IsBegunParts};
+ghost use Rattle.sm_machine.specs.Begun.{course_at, carried_at, no_begun, with_course, with_carried, IsBegunParts};
+ghost use Rattle.sm_machine.specs.Returns.{held_in_course, held_in_signal, held_in_plan, CanTakeBack, HasTakenBack};
 
 use crate::places::count_no_calls;
 use crate::progress::Progress;
 use crate::servers::MentionedServers;
-use crate::stream::Course;
+use crate::stream::{Course, give_back};
 use sm_placement::Config;
 use sm_plan_code::{Instr, Parts, Plan};
-use sm_reservation::{Change, ClosedPool, Grant, Parcel, Pool};
+use sm_reservation::{Change, Grant, Parcel, Pool};
 use sm_server::ServerId;
 use std::alloc::Global;
 use std::marker::Model;
@@ -126,18 +127,21 @@ impl Carried {
         }
     }
 
-    /// Ends the signal with the pool, and with what it carries. Takes no memory.
-    fn close(self, pool: &ClosedPool) {
+    /// Ends the signal: what it carries goes back to the pool. Takes no memory.
+    fn close(self, pool: &mut Pool)
+        requires { CanTakeBack pool.old (λ r. held_in_signal r self) }
+        ensures { HasTakenBack pool.old pool.new (λ r. held_in_signal r self) }
+    {
         let Carried { posted: _, grant } = self;
-        match grant {
-            Some(grant) => pool.end(grant),
-            None => {}
-        }
+        give_back(grant, pool);
     }
 }
 
-/// Streams end with the pool.
-fn close_courses(courses: Vec<Course>, pool: &ClosedPool) {
+/// Ends streams: what they hold goes back to the pool. Takes no memory.
+fn close_courses(courses: Vec<Course>, pool: &mut Pool)
+    requires { CanTakeBack pool.old (λ r. sum_by (held_in_course r) courses.items) }
+    ensures { HasTakenBack pool.old pool.new (λ r. sum_by (held_in_course r) courses.items) }
+{
     let mut courses = courses;
     for _ in 0..courses.len() {
         match courses.pop() {
@@ -148,8 +152,11 @@ fn close_courses(courses: Vec<Course>, pool: &ClosedPool) {
     courses.destroy_empty();
 }
 
-/// Ends signals with the pool.
-fn close_signals(signals: Vec<Carried>, pool: &ClosedPool) {
+/// Ends signals: what they carry goes back to the pool. Takes no memory.
+fn close_signals(signals: Vec<Carried>, pool: &mut Pool)
+    requires { CanTakeBack pool.old (λ r. sum_by (held_in_signal r) signals.items) }
+    ensures { HasTakenBack pool.old pool.new (λ r. sum_by (held_in_signal r) signals.items) }
+{
     let mut signals = signals;
     for _ in 0..signals.len() {
         match signals.pop() {
@@ -187,7 +194,9 @@ impl Model for Begun {
 
 impl Begun {
     /// Makes a plan of nothing. Takes no memory.
-    pub fn blank(alloc: Global) -> Begun {
+    pub fn blank(alloc: Global) -> Begun
+        ensures { result ≡ no_begun }
+    {
         let parts = Parts {
             budget: 0,
             streams: Vec::new(alloc),
@@ -441,8 +450,11 @@ impl Begun {
         }
     }
 
-    /// Ends the plan with the pool, and with what its streams hold and its signals carry. Takes no memory.
-    pub fn close(self, pool: &ClosedPool) {
+    /// Ends the plan: what its streams hold and its signals carry goes back to the pool. Takes no memory.
+    pub fn close(self, pool: &mut Pool)
+        requires { CanTakeBack pool.old (λ r. held_in_plan r self) }
+        ensures { HasTakenBack pool.old pool.new (λ r. held_in_plan r self) }
+    {
         let Begun {
             plan: _,
             since: _,

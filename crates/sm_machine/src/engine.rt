@@ -32,6 +32,7 @@ ghost use Rattle.sm_reservation.specs.declared.stream_id.StreamId.{StreamId};
 ghost use Rattle.sm_protocol.specs.Ticket.{passes, is_open_ticket};
 ghost use Rattle.sm_machine.specs.Retired.{steps_at_end};
 ghost use Rattle.sm_machine.specs.Unfinished.{unfinished_below};
+ghost use Rattle.sm_machine.specs.Working.{IsWorking};
 ghost use Rattle.sm_placement.specs.declared.limits.TheConstants.{VERSIONS_END};
 
 mod restart_fields;
@@ -89,6 +90,7 @@ impl Model for Engine {
     ghost use Rattle.std.specs.Prelude.{◌≡◌, ◌≤◌, length, vec_capacity};
     ghost use Rattle.sm_machine.specs.Machine.{MachineModel};
     ghost use Rattle.sm_plan_code.specs.declared.limits.TheConstants.{MOST_PLANS};
+    ghost use Rattle.sm_machine.specs.Begun.{no_begun};
     ghost use Rattle.sm_machine.specs.Since.{KeepsSince};
     ghost use Rattle.sm_machine.specs.Unfinished.{AreUnfinished};
 
@@ -96,7 +98,7 @@ impl Model for Engine {
 
     ghost view = { λ m. record { opening = m.opening; placement = m.placement; pool = m.pool; entries = m.entries.items; numbers = m.numbers.items; next_number = m.next_number; plans = m.plans; journal = m.journal; free = m.free; running = m.running; halted = m.halted } };
 
-    ghost invariant = { λ m. (length m.entries.items ≤ length m.journal.log) × (length m.journal.log ≤ m.journal.room) × (m.journal.room ≤ vec_capacity m.entries) × (length m.numbers.items ≡ length m.placement.setup.shards) × (m.pool.shards ≡ length m.placement.setup.shards) × (m.pool.servers ≡ length m.placement.setup.servers) × AreUnfinished m.plans m.unfinished.items × (MOST_PLANS ≤ vec_capacity m.unfinished) × KeepsSince m.plans m.journal.log };
+    ghost invariant = { λ m. (length m.entries.items ≤ length m.journal.log) × (length m.journal.log ≤ m.journal.room) × (m.journal.room ≤ vec_capacity m.entries) × (length m.numbers.items ≡ length m.placement.setup.shards) × (m.pool.shards ≡ length m.placement.setup.shards) × (m.pool.servers ≡ length m.placement.setup.servers) × AreUnfinished m.plans m.unfinished.items × (MOST_PLANS ≤ vec_capacity m.unfinished) × KeepsSince m.plans m.journal.log × (m.desk ≡ no_begun) };
 }
 
 impl Engine {
@@ -295,7 +297,8 @@ impl Engine {
         self.journal.record(event, answer);
     }
 
-    /// Gives up what an instruction needs of a stream's rights, for what it gives.
+    /// Trades a stream's rights for an instruction: gives up those that it needs, gets those that it gives, and returns
+    /// both.
     pub fn trade(&mut self, id: StreamId, instr: &Instr) -> Change
         requires { IsReadyToTrade (whole_of self.old) id instr.now }
         ensures whole { whole_of self.new ≡ record (whole_of self.old) { grants = put2 (whole_of self.old).grants id.plan id.stream (grant_of self.new id) } }
@@ -446,7 +449,7 @@ impl Engine {
         self.plans.swap(plan, &mut self.desk);
     }
 
-    /// Gives back what a stream holds, which finishes.
+    /// Gives back what a finishing stream holds.
     pub fn give_back(&mut self, id: StreamId)
         requires begun { is_begun (state_of self.old) id ≡ true }
         requires running { (progress_of (state_of self.old) id).done ≡ false }
@@ -520,7 +523,7 @@ impl Engine {
         self.running = running;
     }
 
-    /// Returns the thing that holds a plan up that was checked for the machine's configuration.
+    /// Returns what holds up a plan that was checked for the machine's configuration.
     pub fn holding(&self, checked: &Checked) -> Option<Holding>
         requires setup { checked.now.setup ≡ self.now.placement.setup }
         requires true_pool { (key : Key) → IsIn (whole_of self.now).pool (true_rights (state_of self.now).sizes (state_of self.now).place) key }
@@ -577,9 +580,10 @@ impl Engine {
         self.journal.pass_at(place)
     }
 
-    /// Closes the machine, and returns the placement as it stands. The pool ends, with all that streams hold and
-    /// signals carry. Takes no memory.
+    /// Ends the machine, and returns the placement as it stands. All that streams hold and signals carry goes back to
+    /// the pool, which ends with all rights. Takes no memory.
     pub fn into_placement(self) -> Placement
+        requires { IsWorking (whole_of self) }
         ensures place { place_of result ≡ (state_of self).place }
         ensures sizes { sizes_of result.setup ≡ (state_of self).sizes }
         ensures setup { result.setup ≡ self.placement.setup }
@@ -599,9 +603,9 @@ impl Engine {
             running: _,
             halted: _,
         } = self;
-        let closed = pool.close();
-        plans.close(&closed);
-        desk.close(&closed);
+        let mut pool = pool;
+        plans.close(&mut pool);
+        desk.close(&mut pool);
         placement
     }
 }

@@ -9,7 +9,7 @@ ghost use Rattle.sm_machine.specs.Losses.{is_lost};
 use sm_protocol::Passage;
 use sm_reservation::StreamId;
 
-/// The way of streams' calls to their servers, on which calls or their answers may be lost.
+/// A carrier of streams' calls to their servers. It may lose a call, or the answer to one.
 pub trait Link {
     /// The number of tries that it has lost.
     ghost losses: { Self → ℕ };

@@ -539,7 +539,7 @@ impl Machine {
     }
 
     /// Ends the machine, with the rights to go on, and answers its placement as it stands. All that streams hold and
-    /// signals carry ends with the machine's pool. Takes no memory.
+    /// signals carry goes back to the machine's pool, which ends with all rights. Takes no memory.
     pub fn give_up(
         self,
         tokens: Vec<StreamToken>,

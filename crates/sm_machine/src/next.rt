@@ -1,4 +1,4 @@
-//! The things that streams stand before: a call, an entry of the published map, or a signal that is not posted.
+//! Next acts of streams: a call, an entry of the published map, or a signal that is not posted.
 ghost use Rattle.std.specs.Prelude.{◌≡◌, ◌<◌, ℕ, IfSome, Some, true};
 ghost use Rattle.sm_plan_code.specs.declared.instruction.Instr.TheVariants.{Wait};
 ghost use Rattle.sm_placement.specs.declared.limits.TheConstants.{VERSIONS_END};

@@ -64,7 +64,7 @@ pub(crate) fn permits_of(mut permits: Vec<Permit>, placement: &Placement) -> Vec
     permits
 }
 
-/// Permits end with their machine. Takes no memory.
+/// Ends permits with their machine. Takes no memory.
 pub(crate) fn close_permits(mut permits: Vec<Permit>) {
     while let Some(permit) = permits.pop() {
         permit.close();

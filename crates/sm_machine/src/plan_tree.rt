@@ -1,10 +1,11 @@
 //! Plans in a tree, by their numbers: each comes with the room that it takes, so that one more takes no memory.
 ghost use Rattle.std.specs.Prelude.{◌≡◌, ◌<◌, ◌++◌, ◌∷◌, [], length, slice_index_or, slice_set};
 ghost use Rattle.sm_machine.specs.Begun.{no_begun};
+ghost use Rattle.sm_machine.specs.Returns.{held_in_plans, CanTakeBack, HasTakenBack};
 
 use crate::begun::Begun;
 use crate::plan_room::PlanRoom;
-use sm_reservation::ClosedPool;
+use sm_reservation::Pool;
 use std::marker::Model;
 use std::mem;
 
@@ -119,8 +120,11 @@ impl PlanTree {
         }
     }
 
-    /// Ends all plans with the pool, and with what their streams hold and their signals carry. Takes no memory.
-    pub fn close(self, pool: &ClosedPool) {
+    /// Ends all plans: what their streams hold and their signals carry goes back to the pool. Takes no memory.
+    pub fn close(self, pool: &mut Pool)
+        requires { CanTakeBack pool.old (held_in_plans self) }
+        ensures { HasTakenBack pool.old pool.new (held_in_plans self) }
+    {
         let PlanTree { node } = self;
         match node {
             Node::Empty => {}

@@ -2,11 +2,12 @@
 ghost use Rattle.std.specs.Prelude.{◌≡◌, ◌<◌, ◌≤◌, ◌++◌, ◌∷◌, [], length, slice_index_or, slice_set};
 ghost use Rattle.sm_plan_code.specs.declared.limits.TheConstants.{MOST_NUMBER};
 ghost use Rattle.sm_machine.specs.Begun.{no_begun};
+ghost use Rattle.sm_machine.specs.Returns.{held_in_plans, CanTakeBack, HasTakenBack};
 
 use crate::begun::Begun;
 use crate::plan_room::PlanRoom;
 use crate::plan_tree::PlanTree;
-use sm_reservation::ClosedPool;
+use sm_reservation::Pool;
 use std::marker::Model;
 
 /// The plans that were begun, by their numbers. One more takes no memory but its own.
@@ -70,8 +71,11 @@ impl Plans {
         self.count += 1;
     }
 
-    /// Ends all plans with the pool, and with what their streams hold and their signals carry. Takes no memory.
-    pub fn close(self, pool: &ClosedPool) {
+    /// Ends all plans: what their streams hold and their signals carry goes back to the pool. Takes no memory.
+    pub fn close(self, pool: &mut Pool)
+        requires { CanTakeBack pool.old (held_in_plans self) }
+        ensures { HasTakenBack pool.old pool.new (held_in_plans self) }
+    {
         let Plans { tree, count: _ } = self;
         tree.close(pool);
     }

@@ -7,6 +7,7 @@ ghost use Rattle.sm_reservation.specs.CanJoin.{CanJoin};
 ghost use Rattle.sm_reservation.specs.Short.{first_short};
 ghost use Rattle.sm_reservation.specs.Change.{portion_rights};
 ghost use Rattle.sm_reservation.specs.Rights.{no_rights};
+ghost use Rattle.sm_reservation.specs.Amounts.{count};
 ghost use Rattle.sm_reservation.specs.Pool.{pool_hold, SameSize};
 ghost use Rattle.sm_placement.specs.Setup.{sizes_of};
 ghost use Rattle.sm_plan_code.specs.Instr.{shard_of, IsOwn};
@@ -14,13 +15,25 @@ ghost use Rattle.sm_plan_code.specs.Table.{exchange_of};
 ghost use Rattle.sm_protocol.specs.State.{fresh};
 ghost use Rattle.sm_machine.specs.Trade.{CanTrade, IsTradedBy};
 ghost use Rattle.sm_machine.specs.Starts.{CanFillAt, IsFilledBy};
+ghost use Rattle.sm_machine.specs.Returns.{held_in_course, CanTakeBack, HasTakenBack};
 ghost use Rattle.sm_machine.specs.Course.{hold_in, rights_in, capacity_in, HasCapacityIn, HasCapacityAfterIn, IsCourse, IsGrantInOrder};
 
 use crate::progress::Progress;
 use sm_placement::Config;
 use sm_plan_code::{Instr, change_of};
-use sm_reservation::{Change, ClosedPool, Grant, Parcel, Pool};
+use sm_reservation::{Change, Grant, Parcel, Pool};
 use std::marker::Model;
+
+/// Gives a grant back to the pool, if there is one. Takes no memory.
+pub(crate) fn give_back(grant: Option<Grant>, pool: &mut Pool)
+    requires { CanTakeBack pool.old (count (hold_in grant)) }
+    ensures { HasTakenBack pool.old pool.new (count (hold_in grant)) }
+{
+    match grant {
+        Some(grant) => pool.give_back(grant),
+        None => {}
+    }
+}
 
 /// A stream that was begun.
 pub(crate) struct Course {
@@ -222,16 +235,16 @@ impl Course {
         }
     }
 
-    /// Ends the stream with the pool, and with what it holds. Takes no memory.
-    pub fn close(self, pool: &ClosedPool) {
+    /// Ends the stream: what it holds goes back to the pool. Takes no memory.
+    pub fn close(self, pool: &mut Pool)
+        requires { CanTakeBack pool.old (λ r. held_in_course r self) }
+        ensures { HasTakenBack pool.old pool.new (λ r. held_in_course r self) }
+    {
         let Course {
             progress: _,
             since: _,
             grant,
         } = self;
-        match grant {
-            Some(grant) => pool.end(grant),
-            None => {}
-        }
+        give_back(grant, pool);
     }
 }

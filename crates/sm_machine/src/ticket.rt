@@ -74,7 +74,7 @@ impl Ticket {
     }
 }
 
-/// Tickets end with their machine. Takes no memory.
+/// Ends tickets with their machine. Takes no memory.
 pub(crate) fn close_tickets(mut tickets: Vec<Ticket>) {
     while let Some(ticket) = tickets.pop() {
         ticket.abandon();

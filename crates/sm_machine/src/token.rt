@@ -41,7 +41,7 @@ impl StreamToken {
     }
 }
 
-/// Tokens end with their machine. Takes no memory.
+/// Ends tokens with their machine. Takes no memory.
 pub(crate) fn close_tokens(mut tokens: Vec<StreamToken>) {
     while let Some(token) = tokens.pop() {
         let _ = token.into_id();

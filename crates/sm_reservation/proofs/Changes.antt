@@ -35,7 +35,7 @@ unchanged f k = record { here = refl; apart = λ q e. refl }
 pub mapped2 : {A B : Type 0} (m : A → B) (f g : ℕ → ℕ → A) (s v : ℕ) (x : A) → Changed2 f g s v x → Changed2 (λ r q. m (f r q)) (λ r q. m (g r q)) s v (m x)
 mapped2 m f g s v x ch = record { here = ap m ch.here; row = λ q e. ap m (ch.row q e); apart = λ r q e. ap m (ch.apart r q e) }
 
--- Where two functions agree at the place before and after, a count of the one moves as the same count of the other.
+-- If two functions agree at the place before and after, a count of the one moves as the same count of the other.
 pub count_moves : {A : Type 0} (t : A → Bool) (f f' g g' : ℕ → ℕ → A) (s v : ℕ) (x : A) → f s v ≡ g s v → Changed2 f f' s v x → Changed2 g g' s v x →
     (r q : ℕ) → bit (t (g' r q)) + bit (t (f r q)) ≡ bit (t (g r q)) + bit (t (f' r q))
 count_moves t f f' g g' s v x same cf cg r q = elim (cases_eq r s) [

@@ -1,4 +1,4 @@
--- What each call keeps: an amount that moves with the rights.
+-- The fact that each call keeps: an amount that moves with the rights.
 use Rattle.std.proofs.Common.{◌≡◌, ◌≢◌, ℕ, ◌+◌, ◌≤◌, Option, Some, None, is_some, IsSome, List, [], ◌∷◌, refl, ◌∙◌, ap, arith}
 use Rattle.std.specs.Option.{option_or}
 use Rattle.sm_placement.specs.Sums.{put, bit, sum_below}

@@ -60,7 +60,7 @@ pub record Stands (c : Sizes) (p : Place) (leads : ℕ → Lead) (s v n : ℕ) :
   pub was : Describes (leads s) n (p.cells s)
   pub no_server : (q : ℕ) → c.servers ≤ q → p.cells s q ≡ Absent
 
--- What a call changes in one shard, from the hold h to the hold h': the cell of s at v becomes y, and the lead of s
+-- The change of a call in one shard, from the hold h to the hold h': the cell of s at v becomes y, and the lead of s
 -- becomes lead'.
 pub record Moves (c : Sizes) (p : Place) (leads : ℕ → Lead) (h h' : Hold) (s v : ℕ) (y : Cell) (lead' : Lead) (n n' : ℕ) : Type 0 where
   pub stands : Stands c p leads s v n

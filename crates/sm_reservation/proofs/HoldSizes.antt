@@ -1,4 +1,4 @@
--- How many keys the lists of a hold have, from the hold itself: whatever lists in order say that hold have as many.
+-- The number of keys in the lists of a hold, from the hold itself: whatever lists in order say that hold have as many.
 use Rattle.std.proofs.Common.{◌≡◌, ℕ, ◌+◌, ◌≤◌, None, max, length, sym, ◌∙◌, ap, subst, arith}
 use Rattle.sm_reservation.specs.Rights.{Rights}
 use Rattle.sm_reservation.specs.Key.{key_of_cell, key_of_crown, key_of_room, key_of_spare, IsOrdered, IsPositive}

@@ -1,4 +1,4 @@
--- Where no key is short, each right of a parcel is there.
+-- If no key is short, each right of a parcel is there.
 use Rattle.std.proofs.Common.{◌≡◌, Bool, true, false, cond, leb, Option, Some, None, List, [], ◌∷◌, refl}
 use Rattle.std.proofs.lemmas.Bool.{leb-true}
 use Rattle.std.specs.Option.{option_or}

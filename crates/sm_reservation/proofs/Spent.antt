@@ -1,4 +1,4 @@
--- What a hold has left where all that it has was taken out.
+-- The rest of a hold if all that it has was taken out.
 use Rattle.std.proofs.Common.{◌≡◌, ℕ, ◌-◌, ◌≤◌, Option, Some, None, List, [], ◌∷◌, refl, ap, ◌∙◌, arith, inl, inr}
 use Rattle.std.proofs.lemmas.Bool.{cases_Bool}
 use Rattle.sm_reservation.specs.declared.right.Room.{Room}

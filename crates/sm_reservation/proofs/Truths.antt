@@ -1,4 +1,4 @@
--- What is said of a placement by a hold whose rights are all true of it.
+-- The statement of a hold about a placement, if its rights are all true of it.
 use Rattle.std.proofs.Common.{◌≡◌, ◌≢◌, ℕ, ◌+◌, ◌≤◌, Bool, true, false, eqb, ◌&&◌, refl, sym, ap, ◌∙◌, arith, inl, inr, Option, Some, None}
 use Rattle.std.proofs.lemmas.Bool.{cases_eq, eqb-true, eq-eqb, and_parts}
 use Rattle.sm_server.specs.declared.call.Cell.{Cell}

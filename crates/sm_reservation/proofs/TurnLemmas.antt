@@ -1,4 +1,4 @@
--- What one kind of rights leaves as it is, and keys that are apart.
+-- The lists that one kind of rights leaves as they are, and keys that are apart.
 use Rattle.std.proofs.Common.{◌≡◌, ℕ, ◌+◌, ◌-◌, ◌&&◌, nat_lt, ◌==◌, true, false, eqb, Some, None, is_some, is_none, List, refl, ◌∙◌, ap, arith}
 use Rattle.std.specs.List.{count_by, AllByRecursion}
 use Rattle.std.proofs.lemmas.Bool.Decides.{nat_tests}

@@ -1,7 +1,6 @@
 -- The holders of rights, and the calls that move rights about or give them up for others.
 -- One holder is the pool, and each other holder is a grant: a grant that isn't made yet, or that is spent, has nothing (`SpentIsNothing` of
--- specs/Laws.antt says so of one that was given back or joined to another one). A closed pool's `end` is none of these calls: it ends a
--- grant with what it holds.
+-- specs/Laws.antt says so of one that was given back or joined to another one).
 use Rattle.std.specs.Prelude.{◌≡◌, ◌≢◌, ℕ, ◌+◌, ◌≤◌, ◌<◌, is_some, IsSome, None, List, [], ◌∷◌}
 use Rattle.sm_placement.specs.Sums.{put, bit, sum_below}
 use Rattle.sm_reservation.specs.Rights.{Rights}

@@ -1,5 +1,4 @@
-//! Laws of all calls of a pool and its grants, whatever their order, but for `ClosedPool::end`: it ends grants with
-//! what they hold.
+//! Laws of all calls of a pool and its grants, whatever their order.
 ghost use Rattle.sm_reservation.specs.Conservation.{RightsAddUp, RightsKeepOneHolder};
 
 /// States that the pool and all grants have together, of each right, what they had, less what trades gave up and with

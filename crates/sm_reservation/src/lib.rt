@@ -2,7 +2,6 @@
 #![tactic(auto)]
 
 pub mod change;
-mod closed;
 pub mod conservation;
 mod edits;
 mod fits;
@@ -23,7 +22,6 @@ pub mod stream_id;
 mod trades;
 
 pub use crate::change::{Change, Portion};
-pub use crate::closed::ClosedPool;
 pub use crate::conservation::{rights_add_up, rights_keep_one_holder};
 pub use crate::grant::Grant;
 pub use crate::hold::Hold;

@@ -55,7 +55,8 @@ pub struct Spare {
     pub amount: u64,
 }
 
-/// The thing that a right is to. Keys go by their kind in this order, then by shard, then by server.
+/// The object of a right, without its state or amount. Keys go by their kind in this order, then by shard, then by
+/// server.
 #[derive(Clone, Copy, Debug, PartialEq, Eq, PartialOrd, Ord)]
 pub enum Key {
     /// A right to a cell.
@@ -82,7 +83,7 @@ pub enum Key {
     },
 }
 
-/// The thing that the right is to, as an error text names it.
+/// The object of the right, as an error text names it.
 impl fmt::Display for Key {
     ghost use Rattle.std.specs.Prelude.{Some};
     ghost use Rattle.sm_reservation.specs.Key.{shown_key};

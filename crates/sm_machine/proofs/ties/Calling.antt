@@ -1,4 +1,4 @@
--- What a numbered call asks for and what it is answered, where a stream tries the call at which it stands.
+-- The needs of a numbered call and its answer, if a stream tries the call at which it stands.
 use Rattle.std.proofs.Common.{◌≡◌, ◌≤◌, ◌<◌, ◌+◌, ℕ, Bool, true, false, refl, sym, ap, ◌∙◌, arith, inl, inr, subst, Option, Some, Ok, Err}
 use Rattle.std.specs.Prelude.{if◌then◌else◌}
 use Rattle.std.proofs.lemmas.Bool.{cases_eq, cases_Bool, eq-eqb, ne_eqb}
@@ -84,7 +84,7 @@ call_shard (Wait k) e = cc
 
 -- ---- a try
 
--- What a try's call asks for, and what it is answered: it is served; its effect is now where the call was not ahead, and was
+-- The needs of a try's call, and its answer: it is served; its effect is now where the call was not ahead, and was
 -- before where it was.
 pub record CanCall (w : State) (id : StreamId) (x : ServerCall) : Type 0 where
   pub shard : x.shard < w.sizes.shards

@@ -1,4 +1,4 @@
--- What the grants ask for where a stream posts a signal, waits for one, or makes its end.
+-- The needs of the grants if a stream posts a signal, waits for one, or finishes.
 use Rattle.std.proofs.Common.{◌≡◌, ◌≤◌, ◌<◌, ◌+◌, ℕ, true, false, refl, sym, ap, ◌∙◌, arith, subst, Some, None, length}
 use Rattle.std.proofs.lemmas.List.Elements.{All-get_or}
 use Rattle.std.proofs.lemmas.Option.{slice_get_within}

@@ -1,4 +1,4 @@
--- What a machine counts is what the state says, event by event.
+-- A machine counts what the state says, event by event.
 use Rattle.std.proofs.Common.{◌≡◌, ◌≤◌, ◌<◌, ◌+◌, ◌-◌, ℕ, Bool, true, false, refl, sym, ap, ◌∙◌, arith, inl, inr, Option, Some, None, Ok, length}
 use Rattle.std.specs.Prelude.{◌==◌, nat_lt, not, if◌then◌else◌}
 use Rattle.std.proofs.lemmas.Bool.{cases_eq, cases_lt, and_parts}

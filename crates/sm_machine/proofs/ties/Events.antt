@@ -1,4 +1,4 @@
--- What every machine keeps is kept by requests, refills and restarts, and by the halt flag.
+-- The facts that every machine keeps are kept by requests, refills and restarts, and by the halt flag.
 use Rattle.std.proofs.Common.{◌≡◌, ◌<◌, ◌≤◌, ◌+◌, ◌-◌, ℕ, Bool, true, false, arith, subst, None}
 use Rattle.std.specs.Prelude.{if◌then◌else◌}
 use Rattle.sm_placement.specs.Place.{set_down, is_live_at}

@@ -1,4 +1,4 @@
--- What a grant's exchange asks for, where a stream makes an instruction that is neither a signal nor a wait.
+-- The needs of a grant's exchange, if a stream makes an instruction that is neither a signal nor a wait.
 use Rattle.std.proofs.Common.{◌≡◌, ◌≤◌, ◌<◌, ◌+◌, ℕ, false, sym, ap, ◌∙◌, arith, subst, Some, None, Ok}
 use Rattle.std.specs.Prelude.{IfSome}
 use Rattle.sm_placement.specs.Setup.{Setup, Sizes}

@@ -1,4 +1,4 @@
--- How many streams of a plan, and how many plans, are unfinished: what a machine counts is what the state says.
+-- The numbers of unfinished streams of a plan, and of unfinished plans: a machine counts what the state says.
 use Rattle.std.proofs.Common.{◌≡◌, ◌≢◌, ◌<◌, ◌+◌, ◌-◌, ℕ, zero, suc, Bool, true, false, not, refl, sym, ap, ◌∙◌, arith, inl, inr, subst, length}
 use Rattle.std.specs.Prelude.{◌==◌, nat_lt, if◌then◌else◌}
 use Rattle.std.proofs.lemmas.Bool.{cases_eq, eq-eqb, ne_eqb, lt-ltb, le-ltb}

@@ -1,4 +1,4 @@
--- How many places of the log are free after each event: what a machine counts is what the state says.
+-- The number of free places of the log after each event: a machine counts what the state says.
 use Rattle.std.proofs.Common.{◌≡◌, ◌≤◌, ◌<◌, ◌+◌, ◌-◌, ℕ, true, false, not, refl, sym, ap, ◌∙◌, arith, inl, inr, ◌⊎◌, Option, Some, None, Ok, List, length}
 use Rattle.std.specs.Prelude.{count_by}
 use Rattle.std.proofs.lemmas.Bool.{and_parts, eqb-false, not-true}

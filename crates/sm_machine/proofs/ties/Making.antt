@@ -1,4 +1,4 @@
--- What each kind of step makes keeps what holds of every state.
+-- The state after each kind of step keeps what holds of every state.
 use Rattle.std.proofs.Common.{◌≡◌, ℕ, Bool, true, refl, ap, ◌∙◌, subst, Option, Some, None, Result, Ok}
 use Rattle.std.specs.Prelude.{if◌then◌else◌}
 use Rattle.sm_server.specs.declared.call.Refusal.{Refusal}

@@ -1,4 +1,4 @@
--- What a publication asks for, and whom it lists.
+-- The needs of a publication, and the server that it lists.
 use Rattle.std.proofs.Common.{◌≡◌, ◌<◌, ℕ, false, refl, sym, ap, ◌∙◌, inl, inr, subst, Option, Some, None, Ok}
 use Rattle.std.specs.Option.{ForSome}
 use Rattle.std.proofs.lemmas.Bool.{cases_lt}
@@ -31,7 +31,7 @@ use Rattle.sm_protocol.proofs.SmallNumbers.{numbers_stay_small}
 use Rattle.sm_machine.proofs.ties.Before.{hold_behind, kept, known, own_scene, can_reach}
 use Rattle.sm_machine.proofs.ties.Exchanging.{leaves_behind}
 
--- What a publication of a server, or of none, asks for.
+-- The needs of a publication of a server, or of none.
 pub record CanPublish (w : State) (s : ℕ) (server : Option ℕ) : Type 0 where
   pub shard : s < w.sizes.shards
   pub known : ForSome server (λ u. u < w.sizes.servers)

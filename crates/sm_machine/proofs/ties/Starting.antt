@@ -76,7 +76,7 @@ module _ (h : Hold) (streams : List StreamModel) (enough : AreWithin h streams) 
 
 -- ---- a plan that starts
 
--- What a pool's fill asks for, of a grant that is empty: the pool has what the stream declares, the grant has the capacity, and
+-- The needs of a pool's fill, for a grant that is empty: the pool has what the stream declares, the grant has the capacity, and
 -- has just that then.
 pub record CanFill (free : Hold) (g : HoldModel) (p : Rights) : Type 0 where
   pub enough : first_short free p ≡ None

@@ -1,4 +1,4 @@
--- What a step does and is answered, by the kind of it, where streams are not stopped.
+-- The effect of a step and its answer, by its kind, if streams are not stopped.
 use Rattle.std.proofs.Common.{◌≡◌, Bool, true, false, ap, ◌∙◌, Option, Some}
 use Rattle.std.specs.Prelude.{◌==◌, if◌then◌else◌}
 use Rattle.sm_reservation.specs.declared.stream_id.StreamId.{StreamId}

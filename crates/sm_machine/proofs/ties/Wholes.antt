@@ -1,4 +1,4 @@
--- Of each right, what is in the pool, what is held and what nobody may use are together what there is.
+-- The parts of each right that are in the pool, that are held and that nobody may use are together what there is.
 use Rattle.std.proofs.Common.{◌≡◌, ℕ, ◌+◌, ◌<◌, ◌≤◌, Option, Some, None, refl, sym, ap, ◌∙◌, arith, inl, inr}
 use Rattle.std.specs.Prelude.{if◌then◌else◌}
 use Rattle.std.proofs.lemmas.Bool.{cases_Bool, cases_eq, cases_lt, eq-eqb, lt-ltb, le-ltb}

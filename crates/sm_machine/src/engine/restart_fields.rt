@@ -61,7 +61,7 @@ impl Engine {
         self.plans.at(plan as usize).engaged(plan, server)
     }
 
-    /// Tells whether a server may be restarted now, as its lowest engaging stream is this one.
+    /// Decides whether a server may be restarted now, if its lowest engaging stream is this one.
     pub fn decide(&self, server: ServerId, engaged: Option<StreamId>) -> Result<Approved, Denied>
         requires server { server < (state_of self.now).sizes.servers }
         requires free { (whole_of self.now).free < 2 ^ 32 }

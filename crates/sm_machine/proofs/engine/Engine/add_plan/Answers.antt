@@ -33,4 +33,4 @@ invariant_of-self c =
     let more = c.add_number.ensures.capacity in
     let since = since_more c.self.inside.plans c.push.new.self c.fill.new.self (the_view c.self.inside).journal.log c.push.ensures
     (filled_unstepped c.args.ready c.into_begun-begun.result.0 c.fill.new.self c.len-since.result c.into_begun-begun.ensures.begun c.fill.ensures.filled) c.self.invariant.8 in
-    (c.self.invariant.0, c.self.invariant.1, c.self.invariant.2, c.self.invariant.3, c.fill.ensures.size.shards ∙ c.self.invariant.4, c.fill.ensures.size.servers ∙ c.self.invariant.5, plans, omega arith, since)
+    (c.self.invariant.0, c.self.invariant.1, c.self.invariant.2, c.self.invariant.3, c.fill.ensures.size.shards ∙ c.self.invariant.4, c.fill.ensures.size.servers ∙ c.self.invariant.5, plans, omega arith, since, c.self.invariant.9)

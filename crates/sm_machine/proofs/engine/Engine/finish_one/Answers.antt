@@ -3,6 +3,7 @@ use Rattle.std.proofs.Common.{ap, arith, true, false, sym, ◌∙◌}
 use Rattle.sm_machine.specs.Begun.{BegunModel, no_begun}
 use Rattle.sm_machine.specs.contracts.engine.Engine.{the_view}
 use Rattle.sm_machine.proofs.Writes.{read_here, laid_back, finished-last, plan_known}
+use Rattle.sm_machine.proofs.Desk.{cleared}
 use Rattle.sm_machine.proofs.Unfinished.{swapped, swapped_last, one_less_of}
 use Rattle.sm_machine.proofs.Since.{same_courses, since_swapped}
 use Rattle.sm_machine.proofs.engine.Engine.finish_one.Goals as goal
@@ -27,7 +28,7 @@ invariant_of-self c =
     let since = since_swapped c.self.inside.plans c.swap.new.self c.swap-2.new.self c.args.id.plan _ c.swap.new.other c.finish_one-last.new.self (the_view c.self.inside).journal.log
     (plan_known (the_view c.self.inside) c.args.self.now c.args.id c.self.view_is c.requires.begun) c.swap-2.ensures.others c.swap.ensures.others c.swap.ensures.here
     (same_courses c.swap.new.other c.finish_one-last.new.self (ap (λ (x : BegunModel). x.courses) c.finish_one-last.ensures.left)) c.self.invariant.8 in
-    (c.self.invariant.0, c.self.invariant.1, c.self.invariant.2, c.self.invariant.3, c.self.invariant.4, c.self.invariant.5, plans, omega arith, since)
+    (c.self.invariant.0, c.self.invariant.1, c.self.invariant.2, c.self.invariant.3, c.self.invariant.4, c.self.invariant.5, plans, omega arith, since, cleared c.self.inside.plans _ c.args.id.plan _ _ c.swap.ensures.others c.swap-2.ensures.here c.self.invariant.9)
 
 pub invariant_of-self-else-last : goal.invariant_of-self-else-last
 invariant_of-self-else-last c =
@@ -37,4 +38,4 @@ invariant_of-self-else-last c =
     let since = since_swapped c.self.inside.plans c.swap.new.self c.swap-2.new.self c.args.id.plan _ c.swap.new.other c.finish_one-last.new.self (the_view c.self.inside).journal.log
     (plan_known (the_view c.self.inside) c.args.self.now c.args.id c.self.view_is c.requires.begun) c.swap-2.ensures.others c.swap.ensures.others c.swap.ensures.here
     (same_courses c.swap.new.other c.finish_one-last.new.self (ap (λ (x : BegunModel). x.courses) c.finish_one-last.ensures.left)) c.self.invariant.8 in
-    (c.self.invariant.0, c.self.invariant.1, c.self.invariant.2, c.self.invariant.3, c.self.invariant.4, c.self.invariant.5, plans, c.self.invariant.7, since)
+    (c.self.invariant.0, c.self.invariant.1, c.self.invariant.2, c.self.invariant.3, c.self.invariant.4, c.self.invariant.5, plans, c.self.invariant.7, since, cleared c.self.inside.plans _ c.args.id.plan _ _ c.swap.ensures.others c.swap-2.ensures.here c.self.invariant.9)

@@ -4,7 +4,7 @@ use Rattle.sm_machine.specs.Begun.{BegunModel, no_begun}
 use Rattle.sm_machine.specs.contracts.engine.Engine.{the_view}
 use Rattle.sm_machine.proofs.Writes.{read_here, laid_back, given-back, plan_known}
 use Rattle.sm_protocol.specs.State.{Progress}
-use Rattle.sm_machine.proofs.Desk.{still_there, progress_here, stream_here}
+use Rattle.sm_machine.proofs.Desk.{cleared, still_there, progress_here, stream_here}
 use Rattle.sm_machine.proofs.Unfinished.{swapped}
 use Rattle.sm_machine.proofs.Since.{same_since, since_swapped}
 use Rattle.std.specs.Prelude.{◌==◌}
@@ -23,7 +23,7 @@ invariant_of-self c =
     let since = since_swapped c.self.inside.plans c.swap.new.self c.swap-2.new.self c.args.id.plan _ c.swap.new.other c.end-grant.new.self (the_view c.self.inside).journal.log
     (plan_known (the_view c.self.inside) c.args.self.now c.args.id c.self.view_is c.requires.begun) c.swap-2.ensures.others c.swap.ensures.others c.swap.ensures.here
     (same_since c.swap.new.other c.end-grant.new.self c.args.id.stream _ (ap (λ (x : BegunModel). x.courses) c.end-grant.ensures.after) refl) c.self.invariant.8 in
-    (c.self.invariant.0, c.self.invariant.1, c.self.invariant.2, c.self.invariant.3, c.give_back.ensures.size.shards ∙ c.self.invariant.4, c.give_back.ensures.size.servers ∙ c.self.invariant.5, plans, c.self.invariant.7, since)
+    (c.self.invariant.0, c.self.invariant.1, c.self.invariant.2, c.self.invariant.3, c.give_back.ensures.size.shards ∙ c.self.invariant.4, c.give_back.ensures.size.servers ∙ c.self.invariant.5, plans, c.self.invariant.7, since, cleared c.self.inside.plans _ c.args.id.plan _ _ c.swap.ensures.others c.swap-2.ensures.here c.self.invariant.9)
 
 pub swap-requires : goal.swap-requires
 swap-requires c = plan_known (the_view c.self.inside) c.args.self.now c.args.id c.self.view_is c.requires.begun

@@ -1,4 +1,4 @@
--- What holds a plan up.
+-- The reason why a plan may not start.
 use Rattle.std.proofs.Common.{sym, subst, length}
 use Rattle.sm_plan_code.specs.Plan.{IsKnownPlan}
 use Rattle.sm_machine.specs.contracts.engine.Engine.{the_view}

@@ -19,4 +19,4 @@ invariant_of-self c =
     let entries = c.self.invariant.0 in
     let places = c.self.invariant.2 in
     let since = subst (KeepsSince c.self.inside.plans) (sym log) (since_logged c.self.inside.plans old line c.requires.other c.self.invariant.8) in
-    (omega arith, omega arith, omega arith, c.self.invariant.3, c.self.invariant.4, c.self.invariant.5, c.self.invariant.6, c.self.invariant.7, since)
+    (omega arith, omega arith, omega arith, c.self.invariant.3, c.self.invariant.4, c.self.invariant.5, c.self.invariant.6, c.self.invariant.7, since, c.self.invariant.9)

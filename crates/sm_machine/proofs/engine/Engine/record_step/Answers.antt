@@ -8,7 +8,7 @@ use Rattle.sm_machine.specs.Begun.{BegunModel, no_begun}
 use Rattle.sm_machine.specs.Since.{KeepsSince}
 use Rattle.sm_machine.specs.contracts.engine.Engine.{the_view}
 use Rattle.sm_machine.proofs.Writes.{read_here, laid_back, place_left, plan_known, courses_there, step-recorded}
-use Rattle.sm_machine.proofs.Desk.{still_there, stream_here}
+use Rattle.sm_machine.proofs.Desk.{cleared, still_there, stream_here}
 use Rattle.sm_machine.proofs.Unfinished.{swapped}
 use Rattle.sm_machine.proofs.Since.{since_on}
 use Rattle.sm_machine.proofs.engine.Engine.record_step.Goals as goal
@@ -36,7 +36,7 @@ invariant_of-self c =
     (since_on c.self.inside.plans c.swap.new.self c.swap-2.new.self c.args.id _ c.swap.new.other c.set_since.new.self old _ c.args.answer known there
     c.swap-2.ensures.others c.swap.ensures.others c.swap.ensures.here (ap (λ (x : BegunModel). x.courses) c.set_since.ensures.value)
     (ap (λ n. n + 1) c.next_place-since.ensures) c.self.invariant.8) in
-    (omega arith, omega arith, omega arith, c.self.invariant.3, c.self.invariant.4, c.self.invariant.5, plans, c.self.invariant.7, since)
+    (omega arith, omega arith, omega arith, c.self.invariant.3, c.self.invariant.4, c.self.invariant.5, plans, c.self.invariant.7, since, cleared c.self.inside.plans _ c.args.id.plan _ _ c.swap.ensures.others c.swap-2.ensures.here c.self.invariant.9)
 
 pub swap-requires : goal.swap-requires
 swap-requires c = plan_known (the_view c.self.inside) c.args.self.now c.args.id c.self.view_is c.requires.known

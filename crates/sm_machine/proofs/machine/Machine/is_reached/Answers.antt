@@ -1,4 +1,4 @@
--- What every machine keeps has the events that led to its state.
+-- The facts that every machine keeps have the events that led to its state.
 use Rattle.std.proofs.Common.{subst}
 use Rattle.sm_machine.specs.State.{whole_of}
 use Rattle.sm_machine.specs.Working.{IsWorking}

@@ -1,4 +1,4 @@
--- What the laws of the protocol say of each front of the list.
+-- The laws of the protocol, said of each front of the list.
 use Rattle.std.proofs.Common.{◌≡◌, ℕ, Some, None, subst}
 use Rattle.std.specs.Prelude.{slice_index_or}
 use Rattle.sm_placement.specs.Setup.{sizes_of}

@@ -1,4 +1,4 @@
--- What the pool is filled with is true of a settled placement.
+-- The rights that the pool is filled with are true of a settled placement.
 use Rattle.std.proofs.Common.{◌≡◌, ◌+◌, length, refl, sym, ap, ◌∙◌, subst}
 use Rattle.sm_server.specs.declared.call.Cell.TheVariants.{Absent}
 use Rattle.sm_placement.specs.Setup.{sizes_of}

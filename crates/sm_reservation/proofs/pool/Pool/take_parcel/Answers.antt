@@ -1,4 +1,4 @@
--- What is taken out is what the parcel says.
+-- The rights that are taken out are those of the parcel.
 use Rattle.std.proofs.Common.{◌≡◌, ◌+◌, ◌∙◌, ap, refl, sym, subst}
 use Rattle.sm_reservation.specs.Hold.{Hold, minus}
 use Rattle.sm_reservation.specs.HoldOf.{hold_of}
