@@ -137,6 +137,7 @@ opens d e is new next x y = record {
   restores = y.restores ∙ is.restores ∙ sym x.restores;
 }
 
+-- Drivers that are alike go on alike.
 pub go_alike : (d e : DriverModel) → AreAlike d e → GoAlike d e
 go_alike d e is = record {
   replies = replies d e is;
