@@ -40,7 +40,7 @@ impl<S: Store> Journal<S> {
         ensures any_moment { S.keeps_word self.old.store → (batches : List (List (List ℕ))) (commands : List (List ℕ))
             → IsOnDisk S.moment S.written_at S.left_at self.old batches → IsBatch commands → body.now ≡ listed commands
             → EachLeft S.moment S.left_at self.old.store self.new.store (RecoversToOneOf batches commands) }
-        // What was before stays as it was.
+        // The old content stays as it was.
         ensures time { S.keeps_word self.old.store → (batches : List (List (List ℕ))) (commands : List (List ℕ))
             → IsOnDisk S.moment S.written_at S.left_at self.old batches → IsBatch commands → body.now ≡ listed commands
             → Passes S.moment S.written_at S.left_at self.old.store self.new.store (journal_of (batches ++ commands ∷ [])) (RecoversToOneOf batches commands) }

@@ -1,4 +1,4 @@
--- What stays while answers come.
+-- Parts that stay while answers come.
 use Rattle.std.proofs.Common.{◌≡◌, ◌∙◌, ◌&&◌, ◌==◌, ℕ, List, Bool, true, false, Some, is_some, sym, ap, refl, subst, ◌⊎◌, inl, inr}
 use Rattle.std.specs.Option.{unwrap_or}
 use Rattle.sm_placement.specs.Layout.{PlacementModel}

@@ -1,7 +1,7 @@
 -- The rule of the words, and what each step tells.
--- Of a publisher and of a pass contracts see `publisher_of` and `pass_model`, and come to nothing else of this. The
--- others are what the words, the publisher and a pass keep (`HasWords`, `IsPublisherSeat`, `IsPassSeat`), and internal
--- ones, which the table's rule and its steps cite: you need not read them for the public contracts.
+-- Contracts see `publisher_of` of a publisher and `pass_model` of a pass, and nothing else of this module. The others
+-- are what the words, the publisher and a pass keep (`HasWords`, `IsPublisherSeat`, `IsPassSeat`), and internal ones,
+-- which the table's rule and its steps cite: you need not read them for the public contracts.
 use Rattle.std.specs.Prelude.{◌≡◌, ℕ, ◌<◌, ◌≤◌, List, [], ◌∷◌, ◌++◌, true, false, Some, All, length, slice_index}
 use mathlib.Core.Option.{some}
 use lib.ListN.{get_elem?}

@@ -1,4 +1,4 @@
--- What a name stands for, by the entries of the map.
+-- The value that a name stands for, by the entries of the map.
 use Rattle.std.proofs.Common.{◌≡◌, ℕ, Bool, cond, Option, Some, None, List, [], ◌∷◌, ◌++◌, string_bytes, String, refl, ap}
 use Rattle.std.specs.Map.{lookup}
 use Rattle.std.specs.Option.{option_or}

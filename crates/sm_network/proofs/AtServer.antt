@@ -1,4 +1,4 @@
--- What a server makes of an order, case by case.
+-- A server's verdict on an order, case by case.
 use Rattle.std.proofs.Common.{◌≡◌, ℕ, ◌≤◌, ◌<◌, ◌⊎◌, refl, sym, ap, ◌∙◌, inl, inr, subst, arith, Bool, true, false, Option, Some, None, Result, Ok, Err}
 use Rattle.std.specs.Prelude.{◌-◌, ◌==◌, ◌||◌, not, is_none, nat_le, nat_lt, option_map, unwrap_or, if◌then◌else◌}
 use Rattle.std.proofs.lemmas.Bool.{and_parts, cases_Bool, eq-eqb, eqb-false, eqb-true, leb-true, leb-false, ltb-false, ltb-true}

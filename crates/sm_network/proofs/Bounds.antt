@@ -1,4 +1,4 @@
--- How far numbers and cells go, wherever events lead: what a reopening has to know of the epoch that it ends.
+-- Bounds of numbers and cells, wherever events lead: what a reopening has to know of the epoch that it ends.
 use Rattle.std.proofs.Common.{◌≡◌, ℕ, ◌+◌, ◌≤◌, refl, sym, ap, ◌∙◌, inl, inr, subst, arith, true, Ok, List, [], ◌∷◌, length}
 use Rattle.std.specs.Prelude.{◌-◌, not}
 use Rattle.std.specs.List.{AllByRecursion}
@@ -112,7 +112,7 @@ module _ (setup : Setup) (n : traced.Net) (sound : IsSound setup n) where
 
 -- ---- with the base
 
--- What is known of a network wherever events lead.
+-- Facts that are known of a network wherever events lead.
 pub record IsBounded (n : Net) : Type 0 where
   pub log : length n.w.log ≤ MOST_PLACES
   pub sent : AllByRecursion (λ o. o.number ≤ n.base + length n.w.log + 1) n.sent

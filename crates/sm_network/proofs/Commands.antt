@@ -1,4 +1,4 @@
--- What the controller records keeps the fleet as its shade.
+-- The controller's records keep the fleet as its shade.
 use Rattle.std.proofs.Common.{◌≡◌, ℕ, ◌+◌, ◌≤◌, ◌<◌, refl, sym, ap, ◌∙◌, inl, inr, subst, arith, not, Bool, true, false, Option, Some, None, [], ◌∷◌, ◌++◌, length}
 use Rattle.std.specs.Prelude.{◌&&◌, if◌then◌else◌, is_none, is_some, nat_lt, slice_get}
 use Rattle.std.specs.List.{AllByRecursion}

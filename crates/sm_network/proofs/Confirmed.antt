@@ -1,4 +1,4 @@
--- What is confirmed keeps what holds: whoever has its slots is told to keep its primaries, and no older settle is taken any more.
+-- A confirmed settlement keeps what holds: whoever has its slots is told to keep its primaries, and no older settle is taken any more.
 use Rattle.std.proofs.Common.{◌≡◌, ◌<◌, ◌⊎◌, ℕ, refl, sym, ap, ◌∙◌, inl, inr, subst, arith, not, Bool, true, false, Option, Some, None, List, ◌++◌}
 use Rattle.std.specs.Prelude.{◌&&◌, ◌||◌, is_none, is_some, nat_lt}
 use Rattle.std.specs.List.{AllByRecursion}

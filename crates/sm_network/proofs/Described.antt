@@ -1,4 +1,4 @@
--- What real servers have of a shard is described by a lead.
+-- A lead describes what real servers have of a shard.
 use Rattle.std.proofs.Common.{ℕ, ◌+◌, ap}
 use Rattle.sm_server.specs.declared.call.Cell.{Cell}
 use Rattle.sm_server.specs.declared.call.Cell.TheVariants as cell

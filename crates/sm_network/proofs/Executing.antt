@@ -1,4 +1,4 @@
--- Who executes requests, what they have room for, and what the map shows, while a reopening is under way.
+-- The servers that execute requests, what they have room for, and what the map shows, while a reopening is under way.
 use Rattle.std.proofs.Common.{◌≢◌, ◌≡◌, ◌⊎◌, ℕ, refl, sym, ap, ◌∙◌, inl, inr, subst, Bool, true, false, Option, Some, None}
 use Rattle.std.specs.Prelude.{◌==◌, ◌&&◌, option_map, if◌then◌else◌, slice_get}
 use Rattle.std.proofs.lemmas.Bool.{cases_Bool, cases_lt}

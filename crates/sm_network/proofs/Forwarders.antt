@@ -1,4 +1,4 @@
--- What a new owner waits for that is to take over: the old one forwards to it, and knows the cut.
+-- The wait of a new owner that is to take over: the old one forwards to it, and knows the cut.
 use Rattle.std.proofs.Common.{◌≡◌, ◌≢◌, ℕ, zero, ◌<◌, ◌⊎◌, refl, sym, ap, ◌∙◌, inl, inr, subst, true, false, Option, Some, None, [], ◌∷◌, ◌++◌}
 use Rattle.std.specs.Prelude.{IsSome, if◌then◌else◌}
 use Rattle.std.proofs.lemmas.Bool.{cases_eq}

@@ -86,7 +86,7 @@ module _ (test : Order → Bool) (Passed : Net → Type 0) (Known : Net → NetE
 
 -- ---- deliveries
 
--- What comes of an order at its server.
+-- The outcome of an order at its server.
 pub record IsDelivered (n : Net) (o : Order) (r : NetOutcome × Net) : Type 0 where
   pub w : r.1.w ≡ n.w
   pub since : r.1.since ≡ n.since

@@ -1,4 +1,4 @@
--- Of each plan that isn't done some stream can go on.
+-- Some stream of each plan that isn't done can go on.
 use Rattle.std.proofs.Common.{◌≡◌, ◌+◌, refl, sym, ap, ◌∙◌, inl, inr, subst, arith, not, Bool, true, false, Option, Some, None, List, [], ◌∷◌, ◌++◌, length}
 use Rattle.std.specs.Prelude.{◌==◌, ◌&&◌, nat_lt, is_none, is_some, if◌then◌else◌, slice_get}
 use Rattle.std.specs.Option.{option_to_list}

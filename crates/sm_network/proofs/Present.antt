@@ -1,4 +1,4 @@
--- What numbers say wherever events lead: the present order of a stream is no lower than the last one of its cell, and every other one
+-- Facts about numbers wherever events lead: the present order of a stream is no lower than the last one of its cell, and every other one
 -- is past.
 use Rattle.std.proofs.Common.{◌≡◌, ℕ, ◌+◌, ◌≤◌, ◌⊎◌, refl, sym, ap, ◌∙◌, inl, inr, subst, arith, not, false, Option, Some, None, List, [], ◌∷◌, length}
 use Rattle.std.specs.Prelude.{option_map, if◌then◌else◌}

@@ -1,4 +1,4 @@
--- What holds of all parties and messages while a reopening is under way, and that what comes to one of them keeps it.
+-- Facts that hold of all parties and messages while a reopening is under way, and that what comes to one of them keeps it.
 use Rattle.std.proofs.Common.{◌≡◌, ◌≢◌, ◌≤◌, ◌<◌, ℕ, suc, refl, sym, ap, ◌∙◌, inl, inr, subst, arith, not, Bool, true, false, Option, Some, None, List, [], ◌∷◌, ◌++◌}
 use Rattle.std.specs.Prelude.{◌==◌, ◌&&◌, is_none, is_some, nat_lt, if◌then◌else◌}
 use Rattle.std.specs.List.{AllByRecursion}

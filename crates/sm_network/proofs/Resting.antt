@@ -1,4 +1,4 @@
--- Where all plans are done, the placement is settled, and a new epoch can open on it.
+-- If all plans are done, the placement is settled, and a new epoch can open on it.
 use Rattle.std.proofs.Common.{◌≡◌, ℕ, zero, suc, ◌≤◌, ◌<◌, refl, sym, ap, ◌∙◌, inl, inr, subst, Bool, true, false, Option, Some, None, List, [], ◌∷◌, length}
 use Rattle.std.specs.Prelude.{◌==◌, if◌then◌else◌, map}
 use Rattle.std.proofs.lemmas.Bool.{cases_eq, cases_lt}

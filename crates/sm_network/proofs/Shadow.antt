@@ -1,4 +1,4 @@
--- What holds wherever events of the fleet lead: it is as its shade, and its servers turn away only what the shade turns away, or what is
+-- Facts that hold wherever events of the fleet lead: it is as its shade, and its servers turn away only what the shade turns away, or what is
 -- past.
 use Rattle.std.proofs.Common.{◌≡◌, ℕ, zero, suc, ◌+◌, ◌≤◌, ◌<◌, ◌⊎◌, refl, sym, ap, ◌∙◌, inl, subst, arith, false, Option, Some, None, List, length}
 use Rattle.std.specs.Prelude.{option_map}
@@ -93,7 +93,7 @@ pub record IsShadow (setup : Setup) (low : ℕ → ℕ → ℕ) (f : Fleet) : Ty
 
 -- ---- the controller goes on
 
--- What has to be shown of a controller that goes on.
+-- The proof obligations for a controller that goes on.
 pub record IsGoing (c new : Controller) : Type 0 where
   pub journal : new.journal ≡ c.journal
   pub fence : new.fence ≡ c.fence

@@ -1,4 +1,4 @@
--- What holds of the map wherever events lead: each entry is as it is recorded, or the publication of a stream is one step ahead of it.
+-- Facts that hold of the map wherever events lead: each entry is as it is recorded, or the publication of a stream is one step ahead of it.
 use Rattle.std.proofs.Common.{◌≡◌, ◌≢◌, ℕ, suc, ◌+◌, ◌≤◌, ◌<◌, ◌⊎◌, refl, sym, ap, ◌∙◌, inl, inr, subst, arith, not, Bool, true, false, Option, Some, None, List, [], ◌∷◌, ◌++◌}
 use Rattle.std.specs.Prelude.{◌==◌, is_none, is_some, nat_lt, if◌then◌else◌, slice_get}
 use Rattle.std.specs.List.{AllByRecursion}

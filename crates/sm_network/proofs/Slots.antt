@@ -1,4 +1,4 @@
--- What servers do keeps the fleet as its shade: changes of a slot that nothing else sees, lost memory, and restores.
+-- Acts of servers keep the fleet as its shade: changes of a slot that nothing else sees, lost memory, and restores.
 use Rattle.std.proofs.Common.{◌≡◌, ◌≢◌, ℕ, zero, suc, ◌≤◌, ◌<◌, ◌⊎◌, refl, sym, ap, ◌∙◌, inl, inr, subst, arith, not, Bool, true, false, Option, Some, None, List, [], ◌∷◌, ◌++◌, length}
 use Rattle.std.specs.Prelude.{◌==◌, ◌&&◌, if◌then◌else◌, nat_lt, slice_get}
 use Rattle.std.proofs.Math.Path.{fun_ext}

@@ -1,4 +1,4 @@
--- What holds wherever events lead: what the servers have is what is recorded, with the calls made whose answers are outstanding;
+-- Facts that hold wherever events lead: what the servers have is what is recorded, with the calls made whose answers are outstanding;
 -- and numbers keep old orders from having an effect.
 use Rattle.std.proofs.Common.{◌≡◌, ◌≢◌, ℕ, ◌+◌, ◌≤◌, ◌⊎◌, refl, sym, ap, ◌∙◌, inl, inr, subst, arith, true, List, length}
 use Rattle.std.specs.List.{AllByRecursion}
@@ -78,7 +78,7 @@ last_had {setup} {n} sound s u h = subst (λ a. n.last a u ≡ n.since h.stream 
 
 -- ---- the controller goes on
 
--- What has to be shown where the controller goes on from one state to another, while some of the streams whose answers were
+-- The proof obligations if the controller goes on from one state to another, while some of the streams whose answers were
 -- outstanding, if any, have moved on with them.
 pub record GoesOn (n : Net) (new : State) (had : List StreamId) (Moves : StreamId → Type 0) : Type 0 where
   pub log : length n.w.log ≤ length new.log

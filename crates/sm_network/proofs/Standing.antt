@@ -1,4 +1,4 @@
--- What holds of each party while a reopening is under way, and that whatever comes to it keeps it.
+-- Facts that hold of each party while a reopening is under way, and that whatever comes to it keeps it.
 use Rattle.std.proofs.Common.{◌≡◌, ◌≢◌, ◌≤◌, ◌<◌, ◌⊎◌, ℕ, suc, ◌+◌, ◌*◌, refl, sym, ap, ◌∙◌, inl, inr, subst, arith, true, false, Option, Some, None, List, length}
 use Rattle.std.specs.Prelude.{◌==◌, is_some, option_map}
 use Rattle.std.specs.List.{AllByRecursion}
@@ -22,7 +22,7 @@ pub record Last : Type 0 where
   -- how many nonces were made then
   pub nonces : ℕ
 
--- What all that holds is seen from: what is recorded of the epoch before, with its base and orders; the reopening; how many nonces were made
+-- The parts from which all that holds is seen: what is recorded of the epoch before, with its base and orders; the reopening; how many nonces were made
 -- before the first reopening, before this one, and so far; and what was confirmed last.
 pub record Frame : Type 0 where
   pub w : State

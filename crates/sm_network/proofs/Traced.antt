@@ -4,7 +4,7 @@ use Rattle.std.specs.Prelude.{ℕ, ◌+◌, ◌==◌, ◌&&◌, ◌++◌, ◌-�
 pub use Rattle.sm_network.specs.Words.{Cell, Delivery, Happening, Instr, Logged, Outcome, Place, Played, Refusal, ServerCall, Sizes, State, StreamId, Ticket, Step, Lose, Refill, Arrive, PassOn, Approve, Done, Begin, delivery_of, happens, is_begun, is_running, is_step_of, is_token, load_of, next_call, next_instruction, no_start, opened, option_to_list, progress_of, put2, reply_of}
 pub use Rattle.sm_network.specs.Net.{Order, instruction_call, call_now, since_in, since_of, NetEvent, Control, Send, Deliver, Answer, Ask, Pass, NetOutcome, Refused, Served, Made, Replied, Quiet, is_own, pass_by}
 
--- What has become of the controller, the servers and the network between them.
+-- The states of the controller, the servers and the network between them.
 pub record Net : Type 0 where
   -- what the controller has recorded
   pub w : State
@@ -96,7 +96,7 @@ abbrev pub at_place : Net → (Net → Order → NetOutcome × Net) → Option O
 at_place n f None = (Quiet, n)
 at_place n f (Some o) = f n o
 
--- What a server replies to a request, by what it has: the controller has no part in it, and it may be up although it is recorded as
+-- A server's reply to a request, by what it has: the controller has no part in it, and it may be up although it is recorded as
 -- down. One that is really down does not reply.
 abbrev pub real_reply : Net → ℕ → ℕ → Option Ticket → Played
 real_reply n s v sent = reply_of (record n.w { place = record (real n) { down = λ u. false }; log = [] }) s v sent

@@ -1,6 +1,6 @@
--- The protocol over a network. The controller holds no lock while a call is under way: it sends orders, which may come to their
--- servers late, in any order, many times or never, and so may the answers. What it has recorded is a state of the protocol, in
--- which a call has its effect only once its answer has come; what the servers have is beside it.
+-- The protocol over a network. The controller holds no lock while a call is under way: it sends orders, which may come
+-- to their servers late, in any order, many times or never, and so may the answers. Its record is a state of the
+-- protocol, in which a call has its effect only once its answer has come; what the servers have is beside it.
 use Rattle.std.specs.Prelude.{ℕ, ◌+◌, ◌==◌, ◌&&◌, ◌++◌, ◌-◌, Bool, true, false, Option, Some, None, List, [], ◌∷◌, is_some, is_none, slice_get, if◌then◌else◌}
 use Rattle.sm_server.specs.declared.call.Cell.TheVariants as cell
 use Rattle.sm_server.specs.declared.call.Call.{Call}
@@ -64,8 +64,8 @@ order_for base w id None = None
 order_for base w id (Some x) =
     Some (record { stream = id; at = (progress_of w id).at; call = record x { call = call_above base x.call }; number = base + since_of w id + 1 })
 
--- The order of a running stream that stands before a call. What is recorded tells it: so a controller that has lost all but its
--- records sends the very same one again.
+-- The order of a running stream that stands before a call. It follows from what is recorded: so a controller that has
+-- lost all but its records sends the very same one again.
 abbrev pub order_of : ℕ → State → StreamId → Option Order
 order_of base w id = if is_running w id then order_for base w id (call_now w id) else None
 

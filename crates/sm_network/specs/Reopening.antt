@@ -202,7 +202,7 @@ abbrev pub takes : {A : Type 0} → (A → Bool) → Option A → Bool
 takes test None = false
 takes test (Some a) = test a
 
--- What comes is looked at. No plan goes on: the controller records, sends and takes nothing of them.
+-- Each message that comes is looked at. No plan goes on: the controller records, sends and takes nothing of them.
 abbrev pub is_taken : Settling → WorldEvent → Bool
 is_taken x (Inner (Deliver k)) = takes (λ o. takes_number (x.bases (Server o.call.server)) o.number) (slice_get x.world.net.sent k)
 is_taken x (Inner (Ask s v)) = takes_request x s v

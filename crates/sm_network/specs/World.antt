@@ -40,7 +40,7 @@ abbrev pub publication_for : ℕ → State → StreamId → Option (ℕ × Optio
 publication_for base w id None = None
 publication_for base w id (Some x) = Some (record { stream = id; shard = x.0; entry = record { server = x.1; version = base + suc (w.place.version x.0) } })
 
--- The publication of a running stream that stands before one. What is recorded tells it.
+-- The publication of a running stream that stands before one. It follows from what is recorded.
 abbrev pub publication_of : ℕ → State → StreamId → Option Publication
 publication_of base w id = if is_running w id then publication_for base w id (publication_now w id) else None
 

@@ -9,7 +9,7 @@ use Rattle.sm_placement.specs.Layout.{PlacementModel, place_of, entries_of, IsPl
 use Rattle.sm_placement.proofs.Sums.{put-here, put-apart}
 use Rattle.sm_placement.proofs.GridLemmas.{entries_of-read, entries_of-set}
 
--- What a reader finds in the lists is what the placement says. `now` is the placement as its callers see it.
+-- A reader finds in the lists what the placement says. `now` is the placement as its callers see it.
 pub version_read : {l now : PlacementModel} (s x : ℕ) → length l.versions ≡ length l.setup.shards → l ≡ now → s < length now.setup.shards → x ≡ get_or l.versions s x → x ≡ (place_of now).version s
 version_read {l} {now} s x len e = subst (λ (n : PlacementModel). s < length n.setup.shards → x ≡ get_or l.versions s x → x ≡ (place_of n).version s) e
     (λ m r. entries_of-read 0 l.versions s (length l.setup.shards) x len m r)

@@ -1,4 +1,4 @@
--- How many replicas are live, once a server has gone down or come up.
+-- The number of live replicas, once a server has gone down or come up.
 use Rattle.std.proofs.Common.{◌≡◌, ℕ, ◌+◌, ◌<◌, true, false, not, ◌&&◌, refl, ap, arith}
 use Rattle.sm_placement.specs.Setup.{Sizes}
 use Rattle.sm_placement.specs.Sums.{put, bit}

@@ -168,7 +168,7 @@ pub some_found : {A : Type 0} (o : Option A) (b : Bool) → b ≡ is_some o → 
 some_found None b e f g = cc
 some_found (Some x) b e f g = cc
 
--- What holds of the lists holds of the placement as its callers see it.
+-- Facts about the lists are facts about the placement as its callers see it.
 pub settled_read : {l now : PlacementModel} → l ≡ now → IsSettled (sizes_of now.setup) (place_of now) → IsSettled (sizes_of l.setup) (place_of l)
 settled_read {l} {now} e = subst (λ (n : PlacementModel). IsSettled (sizes_of n.setup) (place_of n) → IsSettled (sizes_of l.setup) (place_of l)) e (λ is. is)
 

@@ -98,7 +98,7 @@ IsCounted-empty setup h = record {
   down = rw (down_of-empty setup) (sym (sum_zero (length setup.servers) (λ v. 0) (λ v. refl)));
 }
 
--- What a reader finds in the lists is what the table says. `now` is the table as its callers see it.
+-- A reader finds in the lists what the table says. `now` is the table as its callers see it.
 pub cells_of-read : {g now : TableModel} {t : Totals} (s v : ℕ) (x : Cell) → IsCounted g t → g ≡ now → s < length now.setup.shards → v < length now.setup.servers →
     x ≡ entries_of Absent g.cells (s * length now.setup.servers + v) → x ≡ cells_of now s v
 cells_of-read {g} {now} {t} s v x h e = subst (λ (n : TableModel). s < length n.setup.shards → v < length n.setup.servers → x ≡ entries_of Absent g.cells (s * length n.setup.servers + v) → x ≡ cells_of n s v) e

@@ -1,4 +1,4 @@
--- What `all` answers, where its test decides a property of each element.
+-- The answer of `all`, if its test decides a property of each element.
 use Rattle.std.proofs.Common.{◌↔◌, ◌<◌, ℕ, IsTrue, Bool, true, false, List, length, All, refl}
 use Rattle.std.specs.Bool.{MatchBool}
 use Rattle.std.specs.List.{AllWithin, HoldsAt}

@@ -1,4 +1,4 @@
--- What is held stays of known shards and servers along a code that fits, and its instructions stay reachable.
+-- Holds stay of known shards and servers along a code that fits, and its instructions stay reachable.
 use Rattle.std.proofs.Common.{◌≡◌, ◌<◌, ℕ, zero, suc, Bool, true, false, List, All, length, get_or, refl, sym, subst, ◌∙◌, inl, inr, Option, Some, None, Result, Ok, Err}
 use Rattle.std.specs.Prelude.{IfSome, slice_get, slice_index_or, if◌then◌else◌}
 use Rattle.std.specs.List.{AllByRecursion}

@@ -1,4 +1,4 @@
--- What is said of rights and scenes doesn't look at last numbers.
+-- Statements about rights and scenes don't look at last numbers.
 use Rattle.std.proofs.Common.{◌≡◌, ℕ, refl}
 use Rattle.sm_placement.specs.declared.lead.Lead.{Lead}
 use Rattle.sm_placement.specs.Setup.{Sizes}

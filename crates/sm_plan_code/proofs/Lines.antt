@@ -1,4 +1,4 @@
--- What the tests of a line say where all of them pass.
+-- The findings of the tests of a line, if all of them pass.
 use Rattle.std.proofs.Common.{◌≡◌, ℕ, Bool, true, false, refl, ap, Option, Some, None, Ok, List, [], ◌∷◌}
 use Rattle.sm_placement.specs.declared.lead.Lead.{Lead}
 use Rattle.sm_reservation.specs.Hold.{Hold}

@@ -1,4 +1,4 @@
--- What an instruction leaves of a placement as it is.
+-- The parts of a placement that an instruction leaves as they are.
 use Rattle.std.proofs.Common.{◌≡◌, ◌≢◌, ℕ, suc, ◌+◌, refl, sym, ap, ◌∙◌, inl, inr, Option, Some, None, Result, Ok, Err}
 use Rattle.std.proofs.lemmas.Bool.{cases_eq}
 use Rattle.sm_server.specs.declared.call.Cell.{Cell}

@@ -43,7 +43,7 @@ abbrev pub numbers_after : (ℕ → ℕ) → Instr → ℕ → ℕ
 numbers_after numbers (PrepareAdd s v u) = put numbers s (numbers s + 1)
 numbers_after numbers _ = numbers
 
--- the call of an instruction, where these are the highest handover numbers before it
+-- the call of an instruction, if these are the highest handover numbers before it
 abbrev pub next_call : (ℕ → ℕ) → Instr → Option ServerCall
 next_call numbers i = numbered_call i (shard_of i)
   where

@@ -31,8 +31,8 @@ pub fn reach_is_exclusive()
     ensures { ReachIsExclusive }
 {}
 
-/// States that last numbers are not seen: whatever they are, it is a placement, there is the same of each right, and a
-/// hold says the same of it.
+/// States that last numbers make no difference to three things: whether it is a placement, how much there is of each
+/// right, and what a hold says of it.
 pub fn lasts_are_unseen()
     ensures { LastsAreUnseen }
 {}

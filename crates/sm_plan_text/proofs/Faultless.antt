@@ -1,4 +1,4 @@
--- What a JSON object without faults says.
+-- The content of a JSON object without faults.
 use Rattle.std.proofs.Common.{◌≡◌, ◌++◌, ◌<◌, ◌≤◌, ℕ, Bool, true, false, cond, List, [], ◌∷◌, length, get_or, min, Option, Some, None, is_some, option_and_then, option_map, unwrap_or, nat_le, refl, sym, subst, append_assoc, append-nil, arith, true≢false, All, IfSome}
 use Rattle.std.specs.List.{flat_map}
 use Rattle.std.specs.Str.{bytes_eq}

@@ -1,4 +1,4 @@
--- What is answered of several faults is the first of the lowest number.
+-- The answer for several faults is the first of the lowest number.
 use Rattle.std.proofs.Common.{◌≡◌, ◌++◌, ◌<◌, ◌≤◌, ℕ, Bool, List, [], ◌∷◌, Option, Some, None, option_map, nat_lt, refl, ap, sym, ◌∙◌, append_assoc, append-nil, arith, All, MatchOption}
 use Rattle.std.proofs.lemmas.Bool.{cond_both}
 use Rattle.std.proofs.lemmas.List.Elements.{All-nil, All-cons, All-append, All-push, All-weaker}

@@ -1,4 +1,4 @@
--- What is written for a plan has no float, and does not nest deep.
+-- The data written for a plan has no float, and does not nest deep.
 use Rattle.std.proofs.Common.{◌≡◌, ◌≤◌, ℕ, suc, max, Bool, true, false, List, [], ◌∷◌, map, Option, Some, None, refl, arith}
 use Rattle.std.proofs.lemmas.Bool.{or_from}
 use Rattle.serde_json.specs.Data.{Data, Items, Members, object, no_members, member, string, number, unsigned, depth, items_depth, members_depth}

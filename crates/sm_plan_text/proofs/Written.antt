@@ -1,4 +1,4 @@
--- What is written for the parts of a plan.
+-- The data written for the parts of a plan.
 use Rattle.std.proofs.Common.{◌≡◌, ◌<◌, ◌≤◌, ◌+◌, ◌++◌, ◌∷◌, ℕ, List, [], length, get_or, take, map, Bor, Vec, Global, refl, ap, sym, ◌∙◌}
 use Rattle.std.proofs.lemmas.List.{get_or-map, take_more, take_all, map_push}
 use Rattle.serde_json.specs.Data.{Data, Members, no_members, put}

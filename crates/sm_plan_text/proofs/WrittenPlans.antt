@@ -1,4 +1,4 @@
--- What is written for a plan over a configuration's names is read as that plan.
+-- The data written for a plan over a configuration's names is read as that plan.
 use Rattle.std.proofs.Common.{◌≡◌, ◌<◌, length, get_or, refl, ap, sym, ◌∙◌, subst, All, arith, ℕ, List, Some, Ok}
 use Rattle.std.proofs.lemmas.List.{length-map}
 use Rattle.sm_placement.specs.Setup.{Setup, IsSetup, names_of_servers, names_of_shards, no_server, no_shard}

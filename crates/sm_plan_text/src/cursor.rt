@@ -1,5 +1,5 @@
-//! Cursors: places where a text is read. If a member of a value has not its form, 0, false, or what is empty stands for
-//! it. If it is missing, that or a default does.
+//! Cursors: places where a text is read. A member that is not in its form is read as 0, false or an empty value; a
+//! missing one is read as that, or as a default.
 ghost use Rattle.std.specs.Prelude.{◌≡◌, [], option_map, option_and_then, map, false, IfOk, string_bytes};
 ghost use Rattle.sm_plan_text.specs.Words.{view, found, whole_number_of, text_in, role_named, role_in, after_named, flag_in, number_in, number_or, number_below, items_of, entries_in, id_of, id_named, id_in, plain_named};
 

@@ -21,7 +21,7 @@ pub trait Entry: Drop {
 }
 
 impl<'p, 't> Cursor<'p, 't> {
-    /// Reads what a member is.
+    /// Reads the value in a member.
     pub fn inner<T: Entry>(
         &self,
         member: Member,
@@ -43,7 +43,7 @@ impl<'p, 't> Cursor<'p, 't> {
         Ok(Some(T::read(&cursor, faults)?))
     }
 
-    /// Reads what the entries of a list are, front to back.
+    /// Reads the entries of a list, front to back.
     pub fn list<T: Entry>(&self, member: Member, faults: &mut Faults) -> Result<Vec<T>, AllocError>
         ensures list { IfOk result (λ list. HasIds self.now.scope → faults.new.lowest ≡ None
             → list.items ≡ map (T.value self.now.scope) (entries_in member (view self.now.tree.now))) }
@@ -63,7 +63,7 @@ impl<'p, 't> Cursor<'p, 't> {
         Ok(list)
     }
 
-    /// Reads what the entries of a list are that may be missing.
+    /// Reads the entries of a list that may be missing.
     pub fn list_or_none<T: Entry>(
         &self,
         member: Member,
@@ -80,7 +80,7 @@ impl<'p, 't> Cursor<'p, 't> {
         }
     }
 
-    /// Reads what the entries of a list are that was read early, or stands here and may be missing.
+    /// Reads the entries of a list that was read early, or that stands here and may be missing.
     pub fn list_or_early<T: Entry>(
         &self,
         member: Member,

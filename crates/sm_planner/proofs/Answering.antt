@@ -1,4 +1,4 @@
--- Where the rule has a plan it has no reason why not.
+-- If the rule has a plan, it has no reason why not.
 use Rattle.std.proofs.Common.{◌≡◌, ◌≢◌, ◌<◌, ◌∙◌, ◌++◌, ◌∷◌, [], ℕ, zero, suc, List, Option, Some, None, length, Result, Ok, Err, inl, inr, refl, sym, ap, subst, arith}
 use Rattle.std.specs.Prelude.{IfErr, ◌||◌, not, find, option_map}
 use Rattle.std.specs.Option.{option_or}

@@ -1,4 +1,4 @@
--- What placed moves of a draft pay, one move further.
+-- The payments of placed moves of a draft, one move further.
 use Rattle.std.proofs.Common.{◌≡◌, ◌<◌, ◌≤◌, ◌+◌, ◌∙◌, inl, inr, ℕ, cond, eqb, List, [], length, take, get_or, ap, refl, arith}
 use Rattle.std.proofs.lemmas.Bool.{cases_eq, eq-eqb, ne_eqb}
 use Rattle.std.proofs.lemmas.List.{length-set, length-take-le}

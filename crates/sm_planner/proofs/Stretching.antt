@@ -1,4 +1,4 @@
--- Where the stretches of placed moves begin, one move further.
+-- The beginnings of the stretches of placed moves, one move further.
 use Rattle.std.proofs.Common.{◌≡◌, ◌<◌, ◌≤◌, ◌+◌, ◌*◌, ◌^◌, ◌∙◌, inl, inr, ℕ, cond, eqb, List, [], ◌∷◌, ◌++◌, length, take, get_or, map, sym, ap, subst, refl, arith}
 use Rattle.std.specs.Prelude.{sum_by, All}
 use Rattle.std.specs.List.{range_with_len}

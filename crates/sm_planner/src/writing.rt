@@ -48,7 +48,7 @@ impl Drop for Draft {
     }
 }
 
-/// Returns the instructions that hand a primary over.
+/// Adds the instructions that hand a primary over.
 fn put_handover(
     placement: &Placement,
     wanted: &Move,
@@ -82,7 +82,7 @@ fn put_handover(
     })?)
 }
 
-/// Returns the instructions that bring a secondary to another server.
+/// Adds the instructions that bring a secondary to another server.
 fn put_copy(wanted: &Move, code: &mut Vec<Instr>) -> Result<(), AllocError>
     ensures { OnOk result (code.new.items ≡ code.old.items ++ copying wanted.now) }
 {
@@ -98,7 +98,7 @@ fn put_copy(wanted: &Move, code: &mut Vec<Instr>) -> Result<(), AllocError>
     })?)
 }
 
-/// Returns the instructions of a move.
+/// Adds the instructions of a move.
 fn put_instructions(
     placement: &Placement,
     wanted: &Move,
@@ -160,7 +160,7 @@ fn put_code(
     put_posts(&draft.signals, k, code)
 }
 
-/// Returns the rights to cells that a move needs.
+/// Adds the rights to cells that a move needs.
 fn put_cells(
     placement: &Placement,
     wanted: &Move,
@@ -185,7 +185,7 @@ fn put_cells(
     })?)
 }
 
-/// Returns the crown that a move needs.
+/// Adds the crown that a move needs, if it needs one.
 fn put_crowns(
     placement: &Placement,
     wanted: &Move,

@@ -1,4 +1,4 @@
--- What an event may do to a state, case by case.
+-- The effects of an event on a state, case by case.
 use Rattle.sm_protocol.proofs.Below.{◌≡◌, ℕ, ◌+◌, Bool, true, false, refl, sym, ap, ◌∙◌, Option, Some, None, Result, Ok, Err, ◌==◌, not, if◌then◌else◌, nat_lt, length, Refusal, CallEffect, called_numbered, set_down, put2, leads_of, StreamId, ServerCall, Instr, PrepareAdd, PrepareDrop, Add, Drop, Change, Publish, Unlist, Signal, Wait, to_list, is_call, PlanModel, Holding, first_holding, Denied, denial}
 use Rattle.sm_protocol.proofs.Words.{RefillFault, Ticket, is_open_ticket, spends, Happening, Step, Lose, Refill, Arrive, PassOn, Approve, Done, Begin, refill_fault, refilled, reply_of, requested, engaged, approved, started, begun, has_all_plans, happens, Passage, Through, LostBefore, LostAfter, Played, State, progress_of, is_begun, is_running, next_instruction, allowance, recorded, logged, pool, free_places, places_of, Outcome, Refused, Answered, unchanged, call_number, call_to_make, behind_call, ahead_of_call, served_try, call_lost, tried, call_tried, entry_added, posted, ended, made, behind, step}
 use Rattle.sm_protocol.specs.declared.event.BeginFault.TheVariants as fault
@@ -31,7 +31,7 @@ parcel_taken w id q = record w {
   log = logged w (event.Step id) played.Moved;
 }
 
--- What has to be shown of what each kind of step makes.
+-- The proof obligations for each kind of step.
 pub record OfSteps (w : State) (id : StreamId) (passage : Passage) (P : Outcome × State → Type 0) : Type 0 where
   pub idle : (answer : Played) → P (unchanged w answer)
   pub refused : (i : Instr) (x : ServerCall) (why : Refusal) → IsTry w id i x → answer_to w id x ≡ Err why → P (Refused, w)
@@ -45,7 +45,7 @@ pub record OfSteps (w : State) (id : StreamId) (passage : Passage) (P : Outcome 
   pub unanswered : (i : Instr) (x : ServerCall) (effect : CallEffect) → IsTry w id i x → answer_to w id x ≡ Ok effect → passage ≡ LostAfter →
       P (Answered played.Lost, served_try w id i effect (ahead_of_call w (progress_of w id) effect.fresh) (event.Lose id true) played.Lost)
 
--- What has to be shown of what each kind of step makes, with the instruction of each publication.
+-- The proof obligations for each kind of step, with the instruction of each publication.
 pub record OfKnownSteps (w : State) (id : StreamId) (passage : Passage) (P : Outcome × State → Type 0) : Type 0 where
   pub idle : (answer : Played) → P (unchanged w answer)
   pub refused : (i : Instr) (x : ServerCall) (why : Refusal) → IsTry w id i x → answer_to w id x ≡ Err why → P (Refused, w)
@@ -196,7 +196,7 @@ abbrev pub IsQuiet : Played → Type 0
 IsQuiet (played.Begun number) = ⊥
 IsQuiet answer = spends answer ≡ false
 
--- What has to be shown of what each kind of event makes, and of steps by their kinds.
+-- The proof obligations for each kind of event, and for steps by their kinds.
 pub record OfEvents (w : State) (S : StreamId → Passage → (Outcome × State → Type 0) → Type 0) (P : Happening → Outcome × State → Type 0) : Type 0 where
   pub idle : (e : Happening) (answer : Played) → IsQuiet answer → P e (unchanged w answer)
   pub steps : (id : StreamId) → S id Through (P (Step id))

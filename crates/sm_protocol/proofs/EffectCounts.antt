@@ -1,4 +1,4 @@
--- How many calls of a stream have had their effect.
+-- The number of calls of a stream that have had their effect.
 use Rattle.sm_protocol.proofs.Words.{EachReached, CountsEffects}
 use Rattle.sm_protocol.proofs.Trials.{running}
 use Rattle.sm_protocol.proofs.Keeping.{begun}

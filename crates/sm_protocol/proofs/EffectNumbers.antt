@@ -8,7 +8,7 @@ use Rattle.sm_protocol.proofs.Cases.{OfSteps, IsTry, answer_to, of_happens}
 use Rattle.sm_protocol.proofs.Reached.{same_machine}
 use Rattle.sm_protocol.proofs.Whole.{happens_keeps, reached_keeps}
 
--- What an event makes of spent numbers: they are spent still, and one that has its effect now wasn't spent and is now.
+-- The effect of an event on spent numbers: they are spent still, and one that has its effect now wasn't spent and is now.
 pub record SpendsOnce (w new : State) (numbers : List ℕ) : Type 0 where
   pub still : (n : ℕ) → IsSpent w n → IsSpent new n
   pub now : (numbers ≡ []) ⊎ ((n : ℕ) × (numbers ≡ n ∷ []) × (IsSpent w n → ⊥) × IsSpent new n)

@@ -1,4 +1,4 @@
--- Where all plans are done, the placement is their end.
+-- If all plans are done, the placement is their end.
 use Rattle.sm_protocol.proofs.Below.{◌≡◌, ℕ, suc, ◌+◌, ◌<◌, Bool, true, false, refl, sym, ap, ◌∙◌, inl, inr, arith, List, [], ◌∷◌, length, get_or, slice_get, take, map, not, ◌==◌, if◌then◌else◌, Option, Some, count_by, cases_Bool, cases_eq, eq-eqb, ne_eqb, le-ltb, lt-ltb, and_parts, slice_get_within, get_or_from_slice_get, count_by_more_yes, count_by_more_no, take-length, Cell, Setup, Sizes, bit, put, sum_below, Place, Lead, StreamId, Hold, Right, Instr, Publish, Unlist, Signal, Wait, is_call, StreamModel, PlanModel, no_stream, stream_at, final_hold, code_at, wait_of, any_none, put-here, put-apart, same_sum, sum_zero, stand_once, sum_by-below, sum_below-front, is_publication, publications, end_of, IsKind, listed_now, listed_set, listed_reaches, listed_rule, listed_kind, cell_now, cell_set, cell_reaches, cell_rule, cell_kind, set_plans, plans_same, end_sets, set_by, set_streams, subst}
 use Rattle.sm_protocol.proofs.Words.{Passage, State, Start, Progress, no_start, plan_at, stream_count, stream_id, progress_of, set_progress, is_begun, is_running, is_unfinished, is_under_way, held_by, held, call_number, tried_more, behind_call, ahead_of_call, Happening, started, happens, Through, LostBefore, LostAfter, ends_of, IsReached, EndsAreReached}
 use Rattle.sm_protocol.proofs.Invariant.{IsKept}

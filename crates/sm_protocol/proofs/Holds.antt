@@ -1,4 +1,4 @@
--- How much is held and under way, as a stream goes on and its signals are posted and awaited.
+-- The amounts that are held and under way, as a stream goes on and its signals are posted and awaited.
 use Rattle.sm_protocol.proofs.Below.{◌≡◌, ◌≢◌, ℕ, ◌+◌, ◌<◌, ◌≤◌, refl, ap, ◌∙◌, arith, length, if◌then◌else◌, put, put2, sum_below, Sizes, StreamId, hold_of, Right, count, PlanModel, parcels_of, stream_at, hold_before, put-here, put-apart, sum_apart, part_of_sum}
 use Rattle.sm_protocol.proofs.Words.{State, Progress, Mark, plan_at, stream_count, progress_of, set_progress, reach, is_under_way, held_by, held}
 

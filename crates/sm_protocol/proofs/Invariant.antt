@@ -1,4 +1,4 @@
--- What holds of every state that events lead to.
+-- Facts that hold of every state that events lead to.
 use Rattle.sm_protocol.proofs.Below.{◌≡◌, ◌≢◌, ◌≤◌, ◌<◌, ℕ, ◌+◌, true, false, Some, nat_lt, List, length, slice_get, Lead, Sizes, Place, IsPlacement, Describes, StreamId, Right, stock, bound, Instr, is_call, PlanModel, IsReachable, IsListable, touched, stream_at, calls_before, code_at, post_of, wait_of}
 use Rattle.sm_protocol.proofs.Words.{State, Progress, Mark, fresh, no_mark, plan_at, progress_of, is_begun, reach, held, IsCheckedPlan}
 

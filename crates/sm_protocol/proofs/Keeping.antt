@@ -1,4 +1,4 @@
--- What an event has to show, and what all that let one stream go on have in common.
+-- The proof obligations of an event, and the common part of those that let one stream go on.
 use Rattle.sm_protocol.proofs.Below.{◌≡◌, ◌≢◌, ℕ, ◌<◌, ◌≤◌, List, arith, true, false, refl, sym, ap, inl, inr, subst, length, cases_eq, cases_Bool, lt-ltb, ltb-true, and_parts, put, Place, StreamId, Right, count, stream_at, hold_before, put-here, put-apart}
 use Rattle.sm_protocol.proofs.Words.{Logged, State, Progress, Mark, fresh, plan_at, stream_count, progress_of, set_progress, is_begun, reach, Outcome, Refused}
 use Rattle.sm_protocol.proofs.Invariant.{IsRunning, AreNumbered, IsKept, code_of}

@@ -1,4 +1,4 @@
--- What the log has of each stream's steps and of restarts.
+-- The entries of the log about each stream's steps and of restarts.
 use Rattle.sm_protocol.proofs.Below.{◌≡◌, ◌≢◌, ℕ, ◌+◌, Bool, true, false, refl, sym, ap, ◌∙◌, inl, inr, List, [], ◌∷◌, ◌++◌, length, map, filter, replicate, cases_eq, eq-eqb, ne_eqb, map-append, append-nil, filter-append, replicate_next, Setup, Place, StreamId}
 use Rattle.sm_protocol.proofs.Words.{Event, Logged, Passage, Played, State, Progress, stream_parts, progress_of, set_progress, is_begun, call_number, tried_more, behind_call, ahead_of_call, Happening, happens, down_by, down_after, is_step_of, steps_in, IsInLog, IsReached}
 use Rattle.sm_protocol.specs.declared.event.Event.TheVariants as event

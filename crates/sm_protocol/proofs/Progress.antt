@@ -1,4 +1,4 @@
--- Of each plan that isn't done some stream can step, or one stands before a call and has spent its allowance.
+-- Some stream of each plan that isn't done can step, or one stands before a call and has spent its allowance.
 use Rattle.sm_protocol.proofs.Below.{◌≡◌, ◌≢◌, ℕ, ◌+◌, ◌<◌, ◌≤◌, ◌⊎◌, Bool, true, false, not, Option, Some, None, Result, Ok, Err, refl, sym, ap, ◌∙◌, inl, inr, subst, arith, length, ◌==◌, slice_get, if◌then◌else◌, cases_Bool, eqb-true, lt-ltb, not-true, slice_get_within, Refusal, bit, CallEffect, StreamId, Instr, PrepareAdd, PrepareDrop, Add, Drop, Change, Publish, Unlist, Signal, Wait, ServerCall, is_call, shard_of, PlanModel, code_at, post_of, CanMakeNext, some_goes_on, stand_once, are_of_plan, some_below}
 use Rattle.sm_protocol.proofs.Words.{Through, State, Progress, plan_at, stream_count, stream_id, progress_of, allowance, next_instruction, is_unfinished, Outcome, Refused, Answered, made, tried, call_tried, call_again, call_to_make, step, IsStep, CanStep, HasSpent, SomeCanStepOrSpent, unhalted}
 use Rattle.sm_protocol.specs.declared.event.Played.TheVariants as played

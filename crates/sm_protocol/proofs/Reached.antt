@@ -1,4 +1,4 @@
--- What holds at every opening and is kept by every event holds of every state that events lead to.
+-- A fact that holds at every opening and is kept by every event holds of every state that events lead to.
 use Rattle.sm_protocol.proofs.Below.{◌≡◌, ◌⊎◌, ℕ, Bool, true, false, refl, sym, ap, ◌∙◌, inl, inr, subst, Option, Some, None, List, [], ◌∷◌, ◌++◌, length, if◌then◌else◌, cases_Bool, Setup, Sizes, sizes_of, Place, forget_numbers, set_down, StreamId, PlanModel}
 use Rattle.sm_protocol.proofs.Words.{Event, Passage, Through, LostBefore, LostAfter, Ticket, State, opened, is_begun, progress_of, next_instruction, logged, recorded, Answered, unchanged, made, step, Happening, Step, Lose, refilled, reply_of, requested, approved, begun, started, has_all_plans, happens, run, unhalted, IsOpening, IsReached, FitsConfig, AllFit}
 use Rattle.sm_protocol.specs.declared.event.BeginFault.TheVariants as fault
@@ -156,7 +156,7 @@ pub record IsOfOpening (setup : Setup) (w : State) : Type 0 where
   pub opening : w.opening ≡ forget_numbers place
   pub is_opening : IsOpening setup place w.room
 
--- What holds at every opening, and is kept by every event at a state that events lead to, holds of every such state.
+-- A fact that holds at every opening, and is kept by every event at a state that events lead to, holds of every such state.
 pub by_events : (setup : Setup) (P : State → Type 0) →
     ((p : Place) (room : ℕ) → IsOpening setup p room → P (opened (sizes_of setup) p room)) →
     ((w : State) (e : Happening) → IsReached setup w → FitsConfig w.sizes e → P w → P (happens w e).1) →

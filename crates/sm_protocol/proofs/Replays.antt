@@ -50,7 +50,7 @@ IsEarlierIn log n = (x : Logged) (place : ℕ) → slice_get log n ≡ Some x �
 abbrev pub IsNamed : List Logged → ℕ → Ticket → Type 0
 IsNamed log n t = (t.place ≡ n) × IsPass log t
 
--- What is recorded leads to the state. Plans were begun when the log was no longer; what is passed on was passed before, and
+-- The recorded events lead to the state. Plans were begun when the log was no longer; what is passed on was passed before, and
 -- nothing is passed on twice.
 pub record IsReplayed (w : State) : Type 0 where
   pub begun : AreBegunBy (length w.log) w.plans
@@ -249,7 +249,7 @@ replayed_at_opening setup p room o = record {
   replays = refl;
 }
 
--- Where every checked plan that nothing holds up is accepted, every log is legal.
+-- If every checked plan that nothing holds up is accepted, every log is legal.
 pub log_replays : ((setup : Setup) (w : State) → IsReached setup w → AcceptsUnheld w) → (setup : Setup) (w : State) → IsReached setup w → IsLegal w
 log_replays accepts setup w reached =
     let r = by_events setup IsReplayed (replayed_at_opening setup) (λ u e at f v. replayed_kept u e (accepts setup u at) f v) w reached in

@@ -1,4 +1,4 @@
--- What the pool keeps, and restarts that keep what is reserved.
+-- The facts that the pool keeps, and restarts that keep what is reserved.
 use Rattle.sm_protocol.proofs.Below.{◌≡◌, ℕ, zero, suc, ◌+◌, ◌<◌, ◌≤◌, Bool, true, false, Option, Some, None, refl, ap, arith, inl, inr, length, slice_index_or, list_any, ◌==◌, ◌&&◌, not, ne_eqb, and_right, cases_lt, get_or_past, first_from, no_stream, StreamModel, is_live_at, live_at, StreamId, OfSpare, Denied, denial, first_without_spare, IsGranted, granted, not_denied}
 use Rattle.sm_protocol.proofs.Words.{State, Start, no_start, plan_at, stream_id, stream_count, stream_parts, progress_of, is_mentioned, held, pool, free_places, Answered, engages, engaged, approved, Approve, happens, IsApproved, EachReached, IsConserved, ApprovedWhereReserved}
 use Rattle.sm_protocol.specs.declared.event.Played.TheVariants as played

@@ -1,4 +1,4 @@
--- What a stream stands before, and its tries of calls: they keep what holds of every state, and none is refused.
+-- The next act of a stream, and its tries of calls: they keep what holds of every state, and none is refused.
 use Rattle.sm_protocol.proofs.Below.{◌≡◌, ◌≢◌, ◌⊎◌, ℕ, ◌+◌, Bool, true, false, List, Some, Result, Ok, Err, refl, sym, ap, ◌∙◌, arith, inl, inr, subst, slice_get, cases_Bool, called_numbered, Refusal, put, put2, bit, CallEffect, set_last, with_lasts, Describes, StreamId, Hold, Right, count, Instr, Publish, Unlist, Signal, Wait, ServerCall, is_call, IsOwn, shard_of, names_of, next_call, IsReachable, IsScene, NumberedEffect, SameRights, touched, IsWithinReach, parcels_of, stream_at, hold_before, calls_before, numbered_again, lasts_are_unseen, numbered_effect, within_reach}
 use Rattle.sm_protocol.proofs.Words.{Event, Played, Logged, State, Progress, plan_at, progress_of, set_progress, reach, hold_of_stream, call_number, number_after_try, call_again, tried_more, behind_call, ahead_of_call, served_try, call_lost}
 use Rattle.sm_protocol.specs.declared.event.Event.TheVariants as event

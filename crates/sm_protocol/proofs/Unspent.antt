@@ -1,4 +1,4 @@
--- What steps are answered: never that a begun stream is unknown, and without lost calls never that an allowance is spent.
+-- The answers to steps: never that a begun stream is unknown, and without lost calls never that an allowance is spent.
 use Rattle.sm_protocol.proofs.Below.{◌≡◌, ◌≢◌, ◌≤◌, ◌+◌, Bool, true, false, not, Option, Some, None, Result, Ok, Err, refl, sym, ap, subst, inl, inr, arith, and_parts, eqb-true, not-true, cases_Bool, if◌then◌else◌, ◌==◌, bit, CallEffect, Refusal, Instr, PrepareAdd, PrepareDrop, Add, Drop, Change, Publish, Unlist, Signal, Wait, ServerCall, StreamId, is_call, called_numbered, stream_at, calls_before, Course, IsGood}
 use Rattle.sm_protocol.proofs.Words.{State, Passage, Through, LostBefore, LostAfter, Outcome, Answered, run, step, made, call_tried, call_to_make, tried, unchanged, is_begun, next_instruction, progress_of, stream_parts, plan_at, allowance, AllFit, HasSpent, unhalted}
 use Rattle.sm_protocol.specs.declared.event.Played.TheVariants as played

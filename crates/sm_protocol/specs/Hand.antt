@@ -20,8 +20,8 @@ pub record Hand : Type 0 where
 abbrev pub is_token : StreamId → StreamId → Bool
 is_token id token = (token.plan == id.plan) && (token.stream == id.stream)
 
--- The event with what the hand has for it; None if its token, ticket, permit or plan isn't there. Of several tickets of
--- one place the first is used.
+-- The event with what the hand has for it; None if its token, ticket, permit or plan isn't there. If several tickets
+-- have one place, the first is used.
 abbrev pub given : Hand → Event → Option Happening
 given h (Event.Step id) = if list_any (is_token id) h.tokens then Some (Step id) else None
 given h (Event.Lose id after) = if list_any (is_token id) h.tokens then Some (Lose id after) else None

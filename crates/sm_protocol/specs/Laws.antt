@@ -62,7 +62,7 @@ LosesNothing _ = Unit {0}
 abbrev pub HasLost : State → StreamId → Type 0
 HasLost w id = (after : Bool) × Contains w.log (record { event = Event.Lose id after; answer = Played.Lost })
 
--- no stream that has not made its end has a lost call in the log
+-- no stream that has not finished has a lost call in the log
 abbrev pub HasNoLost : State → Type 0
 HasNoLost w = (id : StreamId) → is_begun w id ≡ true → (progress_of w id).done ≡ false → ¬ HasLost w id
 
@@ -86,7 +86,7 @@ Headline = (setup : Setup) (w : State) (es : List Happening) → IsReached setup
     AreServed (outcomes es w) × NextIsServed (run es w) × IsSafe (run es w) × SomeCanStep (run es w)
 
 -- In every state that events lead to, lost calls among them: no event that comes next has its call refused, the state is
--- safe, and of each plan that isn't done some stream can step, or one that hasn't made its end has spent its allowance.
+-- safe, and of each plan that isn't done some stream can step, or one that hasn't finished has spent its allowance.
 abbrev pub WithLosses : Type 0
 WithLosses = (setup : Setup) (w : State) → IsReached setup w → NextIsServed w × IsSafe w × SomeCanStepOrSpent w
 
@@ -103,7 +103,7 @@ TriesAreAllowed w = (id : StreamId) (i : Instr) (x : ServerCall) → is_running 
     call_to_make w (progress_of w id) i ≡ Some x → IsServable w x (call_number w (progress_of w id))
 
 -- From a state in whose log no unfinished stream has a lost call, along whatever events that lose none: no stream has spent its allowance,
--- and each that has not made its end has made no more tries than its budget.
+-- and each that has not finished has made no more tries than its budget.
 abbrev pub UnlostIsUnspent : Type 0
 UnlostIsUnspent = (setup : Setup) (w : State) (es : List Happening) → IsReached setup w → HasNoLost w → AllFit (sizes_of setup) es → AllByRecursion LosesNothing es →
     ((id : StreamId) → ¬ HasSpent (run es w) id)

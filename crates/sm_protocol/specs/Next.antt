@@ -1,5 +1,5 @@
--- The thing that a stream stands before, by what is recorded: its call with the handover number, its entry of the published map, or the signal
--- that it waits for; and when it came there.
+-- The next act of a stream, by what is recorded: its call with the handover number, its entry of the published map, or
+-- the signal that it waits for; and when it came there.
 use Rattle.std.specs.Prelude.{ℕ, suc, ◌+◌, Option, Some, None, List, [], ◌∷◌, filter, length, slice_index_or, if◌then◌else◌}
 use Rattle.sm_plan_code.specs.declared.instruction.Instr.TheVariants as instr
 use Rattle.sm_protocol.specs.Words.{Entry, Instr, Logged, ServerCall, StreamId, leads_of, next_call, range_with_len, to_list}
@@ -52,6 +52,6 @@ since_in id start n (x ∷ xs) = since_in id (if is_step_of id x.event then n + 
 abbrev pub since_of : State → StreamId → ℕ
 since_of w id = since_in id (slice_index_or w.plans id.plan no_start).since 0 w.log
 
--- the plans of which some stream has not made its end, in the order of their starts
+-- the plans of which some stream has not finished, in the order of their starts
 abbrev pub unfinished_plans : State → List ℕ
 unfinished_plans w = filter (is_unfinished w) (range_with_len 0 (length w.plans))

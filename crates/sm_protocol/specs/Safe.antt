@@ -52,7 +52,7 @@ CanStep w id = IsStep (step (unhalted w) id Passage.Through).0
 abbrev pub HasSpent : State → StreamId → Type 0
 HasSpent w id = (step (unhalted w) id Passage.Through).0 ≡ Answered Played.Spent
 
--- of the plan some stream that has not made its end stands so
+-- some stream of the plan that has not finished stands so
 abbrev pub SomeStream : State → ℕ → (StreamId → Type 0) → Type 0
 SomeStream w k P = (i : ℕ) × (i < stream_count w k) × ((w.progress k i).done ≡ false) × P (stream_id k i)
 

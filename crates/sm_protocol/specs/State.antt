@@ -1,5 +1,5 @@
--- The state of the protocol: all that calls, starts of plans, requests and restarts have made so far. What changes with
--- plans, streams and signals is a function of their numbers, with one value for all that are not begun.
+-- The state of the protocol: all that calls, starts of plans, requests and restarts have made so far. A part that
+-- changes with plans, streams and signals is a function of their numbers, with one value for all that are not begun.
 use Rattle.std.specs.Prelude.{ℕ, ◌+◌, Bool, false, not, ◌&&◌, nat_lt, Option, List, [], ◌∷◌, ◌++◌, length, slice_get, slice_index_or, ◌-◌, ◌^◌, true, if◌then◌else◌, count_by, drop}
 pub use Rattle.sm_protocol.specs.Words.{Entry, Event, Hold, Instr, Logged, OfRoom, OfSpare, Place, PlanModel, Played, Right, Rights, Sizes, StreamId, StreamModel, any_below, count, down_count, forget_numbers, free_cell, free_crown, hold_before, hold_of, is_no_call, no_stream, parcels_of, places_of, put2, stream_at, sum_below, true_rights}
 
@@ -113,7 +113,7 @@ progress_of w id = w.progress id.plan id.stream
 abbrev pub is_begun : State → StreamId → Bool
 is_begun w id = nat_lt id.plan (length w.plans) && nat_lt id.stream (stream_count w id.plan)
 
--- the stream was begun and has not made its end
+-- the stream was begun and has not finished
 abbrev pub is_running : State → StreamId → Bool
 is_running w id = is_begun w id && not (progress_of w id).done
 
@@ -125,7 +125,7 @@ next_instruction w id = slice_get (stream_parts w id).code (progress_of w id).at
 abbrev pub allowance : State → StreamId → ℕ
 allowance w id = (stream_parts w id).budget + (stream_parts w id).retries + (progress_of w id).refills
 
--- some stream of the plan has not made its end
+-- some stream of the plan has not finished
 abbrev pub is_unfinished : State → ℕ → Bool
 is_unfinished w k = any_below (stream_count w k) (λ i. not (w.progress k i).done)
 

@@ -1,4 +1,4 @@
--- What may be confirmed, from what is checked of parties and of cells.
+-- The settlements that may be confirmed, from what is checked of parties and of cells.
 use Rattle.std.proofs.Common.{◌≡◌, ◌≢◌, ◌∙◌, ◌<◌, ◌≤◌, ◌⊎◌, ℕ, Bool, true, false, ltb, Option, Some, None, List, length, get_or, refl, sym, ap, subst, arith, inl, inr}
 use Rattle.std.specs.Prelude.{◌&&◌, ◌==◌, is_some, is_none, not, nat_le, nat_lt, option_map, slice_index_or}
 use Rattle.std.proofs.lemmas.Bool.{and_from, and_parts, cases_lt, le-ltb, leb-true, ltb-true, not-true}
@@ -51,7 +51,7 @@ nothing_beyond x k v slot fits l e = go (state_by x.servers.items v).told (fits 
     go (Some (told.Unknown nonce)) f s = absurd (cc)
     go None f s = absurd (cc)
 
--- What is asked of a settlement before it is looked at.
+-- The demands on a settlement before it is looked at.
 pub record IsReady (x : OngoingReopening) (s : Settlement) : Type 0 where
   pub rows : IsSetup s.setup
   pub placement : IsPlacement (sizes_of s.setup) s.place

@@ -17,7 +17,7 @@ use Rattle.sm_reopening.specs.declared.state.ServerState.{ServerState}
 use Rattle.sm_reopening.specs.States.{fresh_state, told_position}
 use Rattle.sm_reopening.proofs.Confirming.{none_told, not_carried}
 
--- Of the servers below i this one inherits, and has this standing. If none does, it is lower than any with a claim.
+-- Among the servers below i this one inherits, and has this standing. If none does, it is lower than any with a claim.
 pub record IsBestBelow (x : OngoingReopening) (s i : ℕ) (heir : Option ℕ) (top : Standing) : Type 0 where
   pub nobody : heir ≡ None → top.position ≡ 18446744073709551615
   pub nothing : heir ≡ None → top.claim ≡ 0

@@ -1,4 +1,4 @@
--- Who has taken its settle.
+-- The parties that have taken their settles.
 use Rattle.std.proofs.Common.{◌≡◌, ◌∙◌, ◌<◌, ℕ, Bool, true, false, Option, Some, None, length, refl, sym, ap, arith}
 use Rattle.std.specs.Prelude.{◌&&◌, ◌==◌, is_some, not, if◌then◌else◌}
 use Rattle.std.proofs.lemmas.Bool.{and_from, and_parts}

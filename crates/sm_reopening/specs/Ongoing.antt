@@ -81,7 +81,7 @@ abbrev pub position_after : OngoingReopening → ℕ → ℕ → Told → ℕ �
 position_after x v base inventory =
     if is_first (net_reopening x) (Server v) base then put_position (told_positions x) v inventory else told_positions x
 
--- nothing else has changed than what was told
+-- nothing has changed but what was told
 pub record IsSameButTold (old new : OngoingReopening) : Type 0 where
   pub left_out : left_out_of new ≡ left_out_of old
   pub setup : recorded_setup new ≡ recorded_setup old

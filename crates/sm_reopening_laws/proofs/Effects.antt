@@ -1,4 +1,4 @@
--- What an event does to a server while a reopening is under way, and to what was sent before it.
+-- The effect of an event on a server while a reopening is under way, and to what was sent before it.
 use Rattle.std.proofs.Common.{◌≡◌, ◌≤◌, ◌<◌, ℕ, suc, refl, sym, ap, inl, inr, subst, arith, Bool, true, false, Option, Some, None, [], ◌∷◌}
 use Rattle.std.specs.Prelude.{◌==◌, if◌then◌else◌, slice_get}
 use Rattle.std.proofs.Math.Path.{fun_ext}
@@ -30,7 +30,7 @@ with_base a base = record a { base = base }
 abbrev pub settled_at : ℕ → ℕ → Settlement → At
 settled_at v number s = record { base = settled_base number; cells = λ k. s.place.cells k v }
 
--- What becomes of a server by an event: nothing; an order has its effect; it takes a fence, a settle or a restore, or looks at the fence and
+-- The state of a server after an event: nothing; an order has its effect; it takes a fence, a settle or a restore, or looks at the fence and
 -- leaves it; or it forgets.
 pub data Becomes (x : Settling) (nonces v : ℕ) (b : At) : Type 0 where
   Stays : b ≡ at x v → Becomes x nonces v b

@@ -1,4 +1,4 @@
--- How high the numbers of orders go that were sent, wherever the network leads: what a reopening has to know of the epoch that it ends.
+-- The highest numbers of orders that were sent, wherever the network leads: what a reopening has to know of the epoch that it ends.
 use Rattle.std.proofs.Common.{◌≤◌, ℕ, ◌+◌, inl, inr, sym, subst, arith, List, [], ◌∷◌, length}
 use Rattle.std.specs.List.{AllByRecursion}
 use Rattle.sm_placement.specs.Setup.{Setup}

@@ -1,4 +1,4 @@
--- What was counted of an order goes on from a fleet to a reopening, and from there to the fleet that comes of it.
+-- The count of an order's effects goes on from a fleet to a reopening, and from there to the fleet that comes of it.
 use Rattle.std.proofs.Common.{◌≡◌, ◌≤◌, ◌<◌, ◌⊎◌, ℕ, zero, suc, pred, ◌+◌, refl, sym, ap, ◌∙◌, inl, inr, subst, arith, Bool, false, Option, Some, None, List, [], ◌∷◌, length}
 use Rattle.std.specs.Prelude.{count_by, if◌then◌else◌, is_some, map, slice_get, slice_index_or}
 use Rattle.std.specs.List.{AllByRecursion}

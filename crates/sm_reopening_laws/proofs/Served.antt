@@ -106,7 +106,7 @@ pub record IsServedBy (x y : Settling) (o : Order) : Type 0 where
   pub last : y.world.net.last o.call.shard o.call.server ≡ o.number
   pub base : y.bases (Server o.call.server) ≡ x.bases (Server o.call.server)
 
--- What an event does to last numbers: none is lower afterwards, but of a server that has lost its slots; and one order has its effect, or none.
+-- The effect of an event on last numbers: none is lower afterwards, but of a server that has lost its slots; and one order has its effect, or none.
 pub record IsTold (x : Settling) (r : NetOutcome × Settling) : Type 0 where
   pub lasts : (s v : ℕ) → (x.world.net.last s v ≤ r.1.world.net.last s v) ⊎ ((r.1.bases (Server v)).nonce ≢ None)
   pub served : (order_served r.0 ≡ []) ⊎ ((o : Order) × (order_served r.0 ≡ o ∷ []) × IsServedBy x r.1 o)

@@ -1,4 +1,4 @@
--- What servers have told of what they have stays so until a settlement is confirmed, and who takes an order, a settle or a restore has not told.
+-- Servers' accounts of what they have stay true until a settlement is confirmed, and who takes an order, a settle or a restore has not told.
 use Rattle.std.proofs.Common.{◌≡◌, ◌≢◌, ◌≤◌, ◌<◌, ℕ, suc, refl, sym, ap, ◌∙◌, inl, inr, subst, arith, Bool, true, false, Option, Some, None, List, [], ◌∷◌, ◌+◌, ◌++◌, length}
 use Rattle.std.specs.Prelude.{◌==◌, ◌&&◌, if◌then◌else◌, is_none, is_some, slice_get}
 use Rattle.std.specs.List.{AllByRecursion}
@@ -23,7 +23,7 @@ abbrev pub HasTold : (ℕ → Cell) → Inventory → Type 0
 HasTold cells (Slots told reached) = (s : ℕ) → cells s ≡ told s
 HasTold cells _ = ⊥
 
--- What a server told once it stood at the reopening's fence is what it has until a settlement is confirmed. It stands there since, or has lost
+-- The account of a server that stood at the reopening's fence is what it has until a settlement is confirmed. It stands there since, or has lost
 -- its slots since.
 pub record Tells (base : ℕ) (settlement : Option Settlement) (nonces since : ℕ) (i : Inventory) (a : At) : Type 0 where
   pub from : IsFrom base since a.base

@@ -177,7 +177,7 @@ const fn repeated(cell: Cell) -> Result<Served, Refusal> {
 
 #[test]
 fn numbered_calls(rt: HostRuntime) {
-    // Of calls of number 7 and load 4: the cell, the last number, the free room, the call, the answer.
+    // Calls of number 7 and load 4: the cell, the last number, the free room, the call, the answer.
     let tries = [
         // A first try is answered as the call without a number, whatever the last number is.
         (Cell::Absent, 0, 4, ADD_PRIMARY, fresh(Cell::Primary)),

@@ -70,8 +70,8 @@ fn compare(rt: &impl Abort, alloc: Global, placement: &Placement) -> Result<(), 
     Ok(())
 }
 
-/// Returns the calls of a round on one shard: three replicas come, a handover goes part of its way, and some calls are
-/// refused.
+/// Makes a call of a round on one shard, by its step: three replicas come, a handover goes part of its way, and some
+/// calls are refused.
 fn made(rt: &impl Abort, placement: &mut Placement, round: u32, step: u32) -> Result<(), Refusal> {
     let shard = round.wrapping_mul(41) % SHARDS;
     let owner = round.wrapping_mul(7) % 32;

@@ -1,4 +1,4 @@
--- What the final holds of streams that have made their ends set, stream after stream and plan after plan.
+-- The cells and entries that the final holds of finished streams set, stream after stream and plan after plan.
 use Rattle.std.proofs.Common.{◌≡◌, ◌≢◌, ◌⊎◌, ℕ, zero, suc, ◌+◌, ◌<◌, ◌≤◌, Bool, true, false, refl, sym, ap, ◌∙◌, inl, inr, arith, subst, length}
 use Rattle.std.proofs.lemmas.Bool.{cases_eq, cases_Bool}
 use Rattle.sm_placement.specs.Place.{Place}

@@ -1,4 +1,4 @@
--- What a hold at a stream's end sets: cells, and who is listed.
+-- The parts that a hold at a stream's end sets: cells, and the servers that are listed.
 use Rattle.std.proofs.Common.{◌≡◌, ◌≢◌, ◌⊎◌, ℕ, ◌+◌, ◌≤◌, true, refl, sym, ap, ◌∙◌, inl, inr, arith, subst, Option, Some, None}
 use Rattle.std.proofs.lemmas.Bool.{cases_Bool, cases_eq, eq-eqb, ne_eqb, and_parts}
 use Rattle.std.specs.Prelude.{◌&&◌, IfSome}
@@ -23,7 +23,7 @@ use Rattle.sm_server.specs.declared.call.Cell.TheVariants as cell
 use Rattle.sm_reservation.specs.declared.right.PlainCell.TheVariants.{Absent, Secondary}
 use Rattle.sm_reservation.proofs.ParcelSums.{crown_is}
 
--- What is looked at of a placement, what a hold at a stream's end sets it to, which holds reach it, and the one right that
+-- The part of a placement that is looked at, what a hold at a stream's end sets it to, which holds reach it, and the one right that
 -- it stands under.
 pub record IsKind (A : Type 0) (now : Place → A) (set : Hold → A → A) (reaches : Hold → Type 0) (rule : (ℕ → Lead) → Place → Right) : Type 0 where
   pub unset : (h : Hold) (old : A) → (reaches h → ⊥) → set h old ≡ old

@@ -1,4 +1,4 @@
--- How far amounts grow by a parcel, and the bounds of a parcel's amounts.
+-- The growth of amounts by a parcel, and the bounds of a parcel's amounts.
 use Rattle.std.proofs.Common.{◌≡◌, ℕ, ◌+◌, ◌<◌, ◌≤◌, List, [], ◌∷◌, length, get_or, ap, arith, inl, inr}
 use Rattle.std.specs.Prelude.{All}
 use Rattle.std.specs.List.{AllByRecursion}

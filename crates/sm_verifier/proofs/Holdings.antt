@@ -1,4 +1,4 @@
--- What is searched for holds the plan up, and nothing is found where the plan is admitted.
+-- The search finds what holds the plan up, and nothing if the plan is admitted.
 use Rattle.std.proofs.Common.{◌≡◌, ℕ, ◌+◌, ◌<◌, ◌≤◌, suc, zero, Bool, Option, Some, None, List, length, take, refl, sym, ap, subst, ◌∙◌, inl, inr, ◌⊎◌, arith}
 use Rattle.std.specs.Prelude.{All, nat_le, option_map, if◌then◌else◌}
 use Rattle.std.specs.Option.{option_or}

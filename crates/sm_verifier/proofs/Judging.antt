@@ -1,4 +1,4 @@
--- What the tests of cell rights and crowns say: whether they are in another hold, and whether no earlier stream declares them.
+-- The findings of the tests of cell rights and crowns: whether they are in another hold, and whether no earlier stream declares them.
 use Rattle.std.proofs.Common.{◌≡◌, ℕ, zero, suc, ◌<◌, ◌≤◌, Bool, true, false, Option, Some, None, List, [], ◌∷◌, get_or, take, length, refl, sym, inl, inr, arith}
 use Rattle.std.specs.Prelude.{is_some, not}
 use Rattle.std.specs.List.{list_any}

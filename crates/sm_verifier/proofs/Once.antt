@@ -1,4 +1,4 @@
--- What is counted once in the codes of a plan stands at one step, and there the search finds it.
+-- An instruction that is counted once in the codes of a plan stands at one step, and there the search finds it.
 use Rattle.std.proofs.Common.{◌≡◌, ◌≢◌, ℕ, zero, suc, ◌+◌, ◌<◌, Bool, true, false, cond, Some, List, [], ◌∷◌, length, get_or, refl, sym, ap, ◌∙◌, inl, inr, arith}
 use Rattle.std.specs.Prelude.{slice_get, count_by, sum_by}
 use Rattle.std.specs.List.{list_any, position_or_len}

@@ -1,4 +1,4 @@
--- What is free in a pool whose rights are true of a placement is true of the placement.
+-- A right that is free in a pool whose rights are true of a placement is true of the placement.
 use Rattle.std.proofs.Common.{◌≡◌, false, Option, Some, None, List, subst, ◌∙◌}
 use Rattle.std.specs.Prelude.{is_some, IfNone}
 use Rattle.sm_placement.specs.Setup.{Setup, Sizes, sizes_of}

@@ -1,4 +1,4 @@
--- When a plan may start at a placement with its pool, and what else it is held up by.
+-- The conditions under which a plan may start at a placement with its pool, and what holds it up otherwise.
 use Rattle.std.specs.Prelude.{◌≡◌, ◌≤◌, ◌<◌, ℕ, true, false, IsSome, Contains, List, sum_by, slice_index_or}
 use Rattle.sm_placement.specs.Setup.{Sizes}
 use Rattle.sm_placement.specs.Place.{Place}
@@ -122,7 +122,8 @@ pub record IsAdmitted (c : Sizes) (p : Place) (pool : Hold) (plan : PlanModel) :
   pub spare : HasAllSpare pool plan.streams
   pub up : AreUp p plan.streams
 
--- The thing that holds a plan up: the first of these that is not kept, at the first stream and key, or the lowest number.
+-- The reason why a plan may not start: the first of these that is not kept, at the first stream and key, or the lowest
+-- number.
 abbrev pub IsHolding : Sizes → Place → Hold → PlanModel → Holding → Type 0
 IsHolding c p pool plan (Untrue key) =
     (i : ℕ) × IsFirst (IsTrueAt c p plan.streams) i key

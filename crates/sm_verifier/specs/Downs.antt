@@ -1,5 +1,5 @@
--- The lowest server that is down and mentioned, found along the codes, as `first_holding` finds it. What that finds, the law `finds_holding`
--- says without any of this.
+-- The lowest server that is down and mentioned, found along the codes, as `first_holding` finds it. The law
+-- `finds_holding` says what that finds, without any of this.
 use Rattle.std.specs.Prelude.{ℕ, Bool, Option, Some, None, List, [], ◌∷◌, nat_lt, if◌then◌else◌}
 use Rattle.sm_plan_code.specs.declared.instruction.Instr.{Instr}
 use Rattle.sm_plan_code.specs.Instr.{names_of}

@@ -28,7 +28,7 @@ abbrev pub ArePostsFirst : PlanModel → List PlanStep → Type 0
 ArePostsFirst plan steps = (before after : List PlanStep) (step : PlanStep) (k : ℕ) →
     steps ≡ before ++ step ∷ after → slice_get (code_at plan step.0) step.1 ≡ Some (Wait k) → IsPosted plan k before
 
--- A list of steps that takes each stream as far as `to` says: its first so many steps, each once and in their order. A
+-- A list of steps that takes each stream as far as `to` says: that number of its first steps, each once and in their order. A
 -- stream that has finished is one step further than its code is long.
 pub record IsRun (plan : PlanModel) (steps : List PlanStep) (to : ℕ → ℕ) : Type 0 where
   pub known : All (λ step. step.0 < length plan.streams) steps

@@ -30,7 +30,7 @@ abbrev pub listed_by : Option (Lead × Option ℕ) → Option ℕ → Option ℕ
 listed_by None old = old
 listed_by (Some crown) old = crown.1
 
--- the placement with what a hold sets, all else as it was
+-- the placement with what a hold sets, and the rest as it was
 abbrev pub set_by : Hold → Place → Place
 set_by h p = record p {
   cells = λ s v. cell_by_right (h.cells s v) (cell_by_crown (h.crowns s) v (p.cells s v));

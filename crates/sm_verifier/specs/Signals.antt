@@ -24,7 +24,7 @@ post_of plan k = first_step (is_post k) plan.streams
 unfoldable pub wait_of : PlanModel → ℕ → PlanStep
 wait_of plan k = first_step (is_wait k) plan.streams
 
--- the instruction stands at this step, and nowhere else in the plan
+-- the instruction stands at this step of the plan, and at no other
 pub record StandsOnlyAt (plan : PlanModel) (instr : Instr) (step : PlanStep) : Type 0 where
   pub stream : step.0 < length plan.streams
   pub here : slice_get (code_at plan step.0) step.1 ≡ Some instr

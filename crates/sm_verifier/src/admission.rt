@@ -17,7 +17,7 @@ use sm_reservation::{Key, Pool};
 use sm_server::{ServerId, ShardId};
 use thiserror::Error;
 
-/// The thing that holds a plan up.
+/// The reason why a plan may not start.
 #[derive(Clone, Copy, Debug, PartialEq, Eq, Error)]
 pub enum Holding {
     /// A stream declares a cell right or a crown that is not true of the placement.
@@ -83,8 +83,8 @@ pub fn admit(checked: &Checked, pool: &Pool, placement: &Placement) -> Result<()
 
 /// Judges as `admit` does, if each cell right and crown of the pool is true of the placement. Takes no memory.
 ///
-/// The placement then need not be asked about what the pool has. Only if a declared right is taken are all declared
-/// ones looked up there, since one that is not true is named first.
+/// Rights that the pool has then need no look at the placement. If a declared right is taken, all declared ones are
+/// looked up there, since one that is not true is named first.
 pub fn admit_from_true_pool(
     checked: &Checked,
     pool: &Pool,

@@ -1,4 +1,4 @@
--- What a stream declares: the rights that its own moves need, and the room that they pay from the pool.
+-- The declaration of a stream: the rights that its own moves need, and the room that they pay from the pool.
 use Rattle.std.proofs.Common.{◌≡◌, ◌≢◌, ℕ, zero, suc, ◌<◌, ◌≤◌, true, false, Option, Some, None, List, [], ◌∷◌, length, refl, sym, ap, ◌∙◌, arith, inl, inr, ◌⊎◌, subst}
 use Rattle.std.specs.Prelude.{nat_lt, filter, map}
 use Rattle.std.specs.List.{range_with_len}

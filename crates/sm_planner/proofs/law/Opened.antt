@@ -1,4 +1,4 @@
--- What is known of placed moves that the rule does not refuse: their servers are up and have what they should have, the
+-- Facts about placed moves that the rule does not refuse: their servers are up and have what they should have, the
 -- rights are in the pool, and no two moves need the same right.
 use Rattle.std.proofs.Common.{◌≡◌, ◌≢◌, ℕ, ◌<◌, ◌≤◌, Bool, true, false, cond, Some, None, List, [], ◌∷◌, length, get_or, take, refl, sym, ap, ◌∙◌, arith, inl, inr, ◌⊎◌, subst}
 use Rattle.std.specs.Prelude.{◌==◌, ◌&&◌, ◌||◌, not, nat_lt, find}

@@ -1,4 +1,4 @@
--- What placed moves pay: each its whole load, where each fitted when it was placed; and nobody pays more than it has.
+-- The payments of placed moves: each its whole load, where each fitted when it was placed; and nobody pays more than it has.
 use Rattle.std.proofs.Common.{◌≡◌, ◌≢◌, ℕ, zero, suc, ◌+◌, ◌<◌, ◌≤◌, cond, List, length, take, refl, sym, ap, ◌∙◌, arith, inl, inr}
 use Rattle.std.specs.Prelude.{◌==◌, sum_by}
 use Rattle.std.proofs.lemmas.Bool.{cases_eq, cases_lt, eq-eqb, ne_eqb, lt-ltb, le-ltb}

@@ -1,4 +1,4 @@
--- Where no double is found, each pair is named once at most.
+-- If no double is found, each pair is named once at most.
 use Rattle.std.proofs.Common.{◌∙◌, sym, length}
 use Rattle.sm_placement.proofs.Openings.{once_from}
 use Rattle.sm_placement.proofs.opening.check_lists.Goals as goal

@@ -1,4 +1,4 @@
--- What is said of a change that is handed out, and of a refusal, by the law of the two columns.
+-- The contract of a change that is handed out, and of a refusal, by the law of the two columns.
 use Rattle.std.proofs.Common.{◌<◌, ◌≤◌, arith, length}
 use Rattle.sm_placement.specs.Setup.{sizes_of}
 use Rattle.sm_placement.proofs.SizesLemmas.{load_small}

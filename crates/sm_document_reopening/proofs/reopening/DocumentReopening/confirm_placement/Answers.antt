@@ -1,4 +1,4 @@
--- What is confirmed is kept under both orders.
+-- A settlement that is confirmed is kept under both orders.
 use Rattle.std.proofs.Common.{◌∙◌, ap, arith, subst, sym}
 use Rattle.sm_placement.specs.Layout.{place_of}
 use Rattle.sm_network.specs.Reopening.{Confirm, Settlement, entered}

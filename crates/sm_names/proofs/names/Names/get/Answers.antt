@@ -1,4 +1,4 @@
--- What a name stands for.
+-- The value that a name stands for.
 use Rattle.std.proofs.Common.{sym, ap, ◌∙◌}
 use Rattle.std.specs.Prelude.{bytes_eq}
 use Rattle.std.specs.Option.{option_or}

@@ -1,4 +1,4 @@
--- Who serves goes by how many do.
+-- The answer goes by the number of servers that serve.
 use Rattle.std.proofs.Common.{◌≡◌, ◌≤◌, ◌∙◌, ℕ, sym, ap, length, Option, arith}
 use Rattle.std.specs.Option.{option_map_or}
 use Rattle.sm_placement.specs.declared.placement.Serving.TheVariants.{Nobody, One, Several}

@@ -1,4 +1,4 @@
--- What was found is so; and if nothing was found, the settlement is timely.
+-- The fault that was found is there; and if nothing was found, the settlement is timely.
 use Rattle.std.proofs.Common.{◌≡◌, ◌∙◌, ◌<◌, ◌≤◌, ℕ, Bool, true, false, Option, Some, None, length, refl, sym, ap, arith, inl, inr}
 use Rattle.std.specs.Prelude.{◌&&◌, is_none, is_some, not, option_map}
 use Rattle.std.proofs.lemmas.Bool.{and_cases, and_from, and_parts, not-true}

@@ -1,4 +1,4 @@
--- What was told is kept if none of its faults is there.
+-- The slot that was told is kept if none of its faults is there.
 use Rattle.std.proofs.Common.{◌≡◌, ◌∙◌, ℕ, Bool, true, false, Option, Some, None, refl, sym, ap, subst}
 use Rattle.std.specs.Prelude.{◌&&◌, not}
 use Rattle.sm_server.specs.declared.call.Cell.{Cell}
