@@ -35,6 +35,7 @@ NOTES = {
     "with_losses": NOTHING,
     "effects_once": NOTHING,
     "effects_are_counted": NOTHING,
+    "further_tries_repeat": "that the try comes to its server: `tries_leave_numbers` says what it leaves there",
     "map_follows_entries": NOTHING,
     "executed_serves": NOTHING,
     "tickets_once": NOTHING,

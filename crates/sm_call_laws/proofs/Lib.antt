@@ -1,0 +1,3 @@
+mod Crowns
+mod Standing
+mod Tries
