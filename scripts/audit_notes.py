@@ -75,6 +75,8 @@ NOTES = {
     "drivers_open": NOTHING,
     "open_with_fleet": "that real servers have the cells of the placement",
     "reopened_drivers_open": NOTHING,
+    "replicas_open_alike": NOTHING,
+    "replicas_stay_alike": "want of memory, which may come to one of them alone",
     "approved_where_reserved": NOTHING,
     "ends_are_reached": NOTHING,
     "decide": NOTHING,

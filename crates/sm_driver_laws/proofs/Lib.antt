@@ -8,3 +8,4 @@ mod Sends
 mod Opening
 mod FirstPlace
 mod Written
+mod StayAlike

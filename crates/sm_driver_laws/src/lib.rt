@@ -4,6 +4,7 @@
 mod control;
 mod driven;
 mod first;
+mod replicas;
 mod taking;
 
 pub use control::{answers_have_entries, commands_are_entries};
@@ -12,4 +13,5 @@ pub use driven::{
     sends_as_driven,
 };
 pub use first::open_with_fleet;
+pub use replicas::{replicas_open_alike, replicas_stay_alike};
 pub use taking::{answered, approve, begin, new_epoch, restarted, restore};
