@@ -45,64 +45,130 @@ def encode_reply(reply: Reply) -> bytes:
     return encode_part(reply)
 
 
-async def read_reply(reader: asyncio.StreamReader) -> Reply:
-    """Reads a reply, or a command. Raises EOFError at the end of the connection."""
-    line = await reader.readline()
-    if not line.endswith(b"\r\n"):
-        raise EOFError
-    kind, rest = line[:1], line[1:-2]
+class Parser:
+    """Takes replies, or commands, out of bytes as they come. A line of any other kind is a command as somebody types it."""
+
+    def __init__(self) -> None:
+        self.rest = b""
+        # The lists that have begun, each with how many parts it will have.
+        self.lists: list[tuple[list[Reply], int]] = []
+
+    def feed(self, data: bytes) -> list[Reply]:
+        """Returns what is complete with these bytes. Raises ValueError if they are none of the protocol."""
+        data, at, complete = self.rest + data, 0, []
+        while (end := data.find(b"\r\n", at)) >= 0:
+            kind, text, at_next = data[at:at + 1], data[at + 1:end], end + 2
+            value: Reply = None
+            if kind == b"$":
+                size = int(text)
+                if size >= 0:
+                    if len(data) < at_next + size + 2:
+                        break
+                    value, at_next = data[at_next:at_next + size], at_next + size + 2
+            elif kind == b"*":
+                if int(text) > 0:
+                    self.lists.append(([], int(text)))
+                    at = at_next
+                    continue
+                value = [] if int(text) == 0 else None
+            else:
+                value = value_of_line(kind, text)
+            at = at_next
+            self.put(value, complete)
+        self.rest = data[at:]
+        return complete
+
+    def put(self, value: Reply, complete: list[Reply]) -> None:
+        """Makes a value a part of the list that has begun last, and what is complete with it a part of the next one, or complete as a whole."""
+        while self.lists:
+            parts, count = self.lists[-1]
+            parts.append(value)
+            if len(parts) < count:
+                return
+            self.lists.pop()
+            value = parts
+        complete.append(value)
+
+
+def value_of_line(kind: bytes, text: bytes) -> Reply:
+    """The value of a reply that is one line."""
     if kind == b"+":
-        return rest
+        return text
     if kind == b"-":
-        return ErrorReply(rest.decode())
-    if kind == b":":
-        return int(rest)
-    if kind == b"$":
-        return None if rest == b"-1" else (await reader.readexactly(int(rest) + 2))[:-2]
-    if kind == b"*":
-        return None if rest == b"-1" else [await read_reply(reader) for _ in range(int(rest))]
-    return line[:-2].split()
+        return ErrorReply(text.decode())
+    return int(text) if kind == b":" else (kind + text).split()
 
 
-class Redis:
-    """A connection to a redis-server. Commands of several tasks go out one behind the other; a transaction goes out
+class Redis(asyncio.Protocol):
+    """A connection to a redis-server. Commands of several tasks go out one behind the other, those of one moment together; a transaction goes out
     as a whole."""
 
-    def __init__(self, reader: asyncio.StreamReader, writer: asyncio.StreamWriter) -> None:
-        self.reader, self.writer = reader, writer
-        self.waiting: deque[asyncio.Future[Reply]] = deque()
-        self.reading = asyncio.create_task(self.read())
+    def __init__(self) -> None:
+        self.transport: asyncio.Transport | None = None
+        self.parser = Parser()
+        # Who waits for each reply; nobody does for what a transaction replies before its end.
+        self.waiting: deque[asyncio.Future[Reply] | None] = deque()
+        self.unsent: list[bytes] = []
 
     @staticmethod
     async def open(path: str) -> "Redis":
         """Connects by a unix socket."""
-        return Redis(*await asyncio.open_unix_connection(path, limit=64 << 20))
+        return (await asyncio.get_running_loop().create_unix_connection(Redis, path))[1]
 
     @staticmethod
     async def open_port(host: str, port: int) -> "Redis":
         """Connects by TCP: to a server of the cluster, too."""
-        return Redis(*await asyncio.open_connection(host, port, limit=64 << 20))
+        return (await asyncio.get_running_loop().create_connection(Redis, host, port))[1]
 
-    async def read(self) -> None:
+    @property
+    def is_closed(self) -> bool:
+        """Whether the connection has ended."""
+        return self.transport is None or self.transport.is_closing()
+
+    def connection_made(self, transport: asyncio.BaseTransport) -> None:
+        """Begins."""
+        self.transport = transport  # type: ignore[assignment]
+
+    def connection_lost(self, error: Exception | None) -> None:
+        """Ends."""
+        self.close()
+
+    def data_received(self, data: bytes) -> None:
         """Gives each reply to who waits for it."""
         try:
-            while True:
-                reply = await read_reply(self.reader)
+            for reply in self.parser.feed(data):
                 future = self.waiting.popleft()
-                if not future.done():
+                if future is not None and not future.done():
                     future.set_result(reply)
-        except (EOFError, OSError, asyncio.IncompleteReadError, IndexError, ValueError):
+        except (IndexError, ValueError):
             self.close()
+
+    def write(self, data: bytes) -> None:
+        """Sends bytes, together with what else is sent in this moment."""
+        if not self.unsent:
+            asyncio.get_running_loop().call_soon(self.flush)
+        self.unsent.append(data)
+
+    def flush(self) -> None:
+        """Sends what is unsent."""
+        data, self.unsent = b"".join(self.unsent), []
+        if self.transport is not None and not self.transport.is_closing():
+            self.transport.write(data)
+
+    def future(self) -> "asyncio.Future[Reply]":
+        """A reply to come, whose error may pass unseen."""
+        future: asyncio.Future[Reply] = asyncio.get_running_loop().create_future()
+        future.add_done_callback(lambda done: done.cancelled() or done.exception())
+        if self.is_closed:
+            future.set_exception(ConnectionError("the connection is closed"))
+        return future
 
     def send(self, *parts: Part) -> "asyncio.Future[Reply]":
         """Sends a command; its reply comes later."""
-        future: asyncio.Future[Reply] = asyncio.get_running_loop().create_future()
-        future.add_done_callback(lambda done: done.cancelled() or done.exception())
-        if self.writer.is_closing():
-            future.set_exception(ConnectionError("the connection is closed"))
-        else:
+        future = self.future()
+        if not future.done():
             self.waiting.append(future)
-            self.writer.write(encode_command(parts))
+            self.write(encode_command(parts))
         return future
 
     async def call(self, *parts: Part) -> Reply:
@@ -114,10 +180,14 @@ class Redis:
 
     async def transaction(self, commands: list[tuple[Part, ...]]) -> list[Reply]:
         """Runs commands as one MULTI. Raises if any of them failed."""
-        self.send("MULTI")
-        for command in commands:
-            self.send(*command)
-        replies = await self.call("EXEC")
+        future = self.future()
+        if not future.done():
+            self.waiting += [None] * (len(commands) + 1)
+            self.waiting.append(future)
+            self.write(b"".join(map(encode_command, [("MULTI",), *commands, ("EXEC",)])))
+        replies = await future
+        if isinstance(replies, ErrorReply):
+            raise replies
         failed = next((it for it in replies if isinstance(it, ErrorReply)), None)
         if failed is not None:
             raise failed
@@ -125,10 +195,9 @@ class Redis:
 
     def close(self) -> None:
         """Ends the connection; who waits gets a ConnectionError."""
-        self.writer.close()
-        if asyncio.current_task() is not self.reading:
-            self.reading.cancel()
+        if self.transport is not None:
+            self.transport.close()
         while self.waiting:
             future = self.waiting.popleft()
-            if not future.done():
+            if future is not None and not future.done():
                 future.set_exception(ConnectionError("the connection ended"))

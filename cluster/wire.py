@@ -84,9 +84,13 @@ class Cluster:
         return Cluster(servers, controllers, tuple(told.get("etcd", ())), told.get("map_prefix", "/map/"), told.get("map_file"))
 
 
+# Writes JSON as short as it goes.
+text_of = json.JSONEncoder(separators=(",", ":")).encode
+
+
 def line_of(message: Message) -> bytes:
     """A message as a line."""
-    return json.dumps(message, separators=(",", ":")).encode() + b"\n"
+    return text_of(message).encode() + b"\n"
 
 
 async def read_message(reader: asyncio.StreamReader) -> Message | None:

@@ -15,7 +15,7 @@ from dataclasses import asdict, dataclass
 from typing import TextIO
 
 from ..resp import ErrorReply
-from ..wire import Cluster
+from ..wire import Cluster, text_of
 from .map import PublishedMap
 from .router import Figures, Router
 
@@ -101,14 +101,15 @@ class Generator:
             key = f"{shard}:k{dice.randrange(self.load.keys)}"
             line = {"client": name, "op": "read", "shard": shard, "key": key, "start": time.monotonic_ns()}
             try:
-                reply = await asyncio.wait_for(router.call(server, ("LRANGE", key, "0", "-1")), 0.3)
+                async with asyncio.timeout(1.0):
+                    reply = await router.call(server, ("LRANGE", key, "0", "-1"))
                 self.tell(line | {"reply": [it.decode() for it in reply]})
                 self.scouted += 1
             except (OSError, TimeoutError):
                 router.drop(server)
             except ErrorReply:
                 pass
-            await asyncio.sleep(dice.random() * max(0.03, self.load.pause))
+            await asyncio.sleep(dice.random() * 2 * max(0.02, self.load.pause))
         router.close()
 
     async def push(self, router: Router, name: str, shard: str, key: str, value: str) -> None:
@@ -135,7 +136,7 @@ class Generator:
     def tell(self, line: dict) -> int:
         """Writes a line of history, and returns its end."""
         line["end"] = time.monotonic_ns()
-        self.history.write(json.dumps(line, separators=(",", ":")) + "\n")
+        self.history.write(text_of(line) + "\n")
         return line["end"]
 
     async def read_all(self) -> None:

@@ -2,52 +2,12 @@
 from __future__ import annotations
 
 import asyncio
-import base64
 import json
 import time
 from pathlib import Path
 
+from ..controllers.etcd import Etcd, end_of, members_of
 from ..wire import Cluster
-
-
-async def post(url: str, path: str, body: dict, seconds: float = 2.0) -> dict:
-    """Asks etcd's JSON gateway."""
-    host, port = url.removeprefix("http://").rstrip("/").rsplit(":", 1)
-    async with asyncio.timeout(seconds):
-        reader, writer = await asyncio.open_connection(host, int(port), limit=1 << 26)
-        try:
-            data = json.dumps(body).encode()
-            head = (f"POST {path} HTTP/1.1", f"Host: {host}", "Content-Type: application/json", f"Content-Length: {len(data)}",
-                    "Connection: close", "", "")
-            writer.write("\r\n".join(head).encode() + data)
-            answer = await reader.read()
-        finally:
-            writer.close()
-    head, _, rest = answer.partition(b"\r\n\r\n")
-    if b"chunked" in head.lower():
-        rest = unchunked(rest)
-    if not head.startswith(b"HTTP/1.1 200"):
-        raise OSError(f"etcd: {head[:60]!r}")
-    return json.loads(rest)
-
-
-def unchunked(data: bytes) -> bytes:
-    """A body that came in chunks."""
-    parts = []
-    while data:
-        size, _, data = data.partition(b"\r\n")
-        length = int(size or b"0", 16)
-        parts.append(data[:length])
-        data = data[length + 2:]
-        if not length:
-            break
-    return b"".join(parts)
-
-
-def range_end(prefix: str) -> bytes:
-    """The first key behind all that begin with a prefix."""
-    data = prefix.encode()
-    return data[:-1] + bytes([data[-1] + 1])
 
 
 class PublishedMap:
@@ -56,7 +16,9 @@ class PublishedMap:
     def __init__(self, cluster: Cluster, pause: float = 0.25) -> None:
         self.cluster, self.pause = cluster, pause
         self.entries: dict[str, str | None] = {}
-        self.turn = 0
+        self.etcd = Etcd(members_of(cluster.etcd), timeout=2.0) if cluster.etcd else None
+        # The place in etcd's history up to which the entries are known.
+        self.revision = 0
         self.read_at = 0.0
         self.reading = asyncio.Lock()
 
@@ -73,22 +35,18 @@ class PublishedMap:
                 return
             try:
                 now = time.monotonic()
-                self.entries = self.read_file() if self.cluster.map_file else await self.read_etcd()
+                self.entries = self.read_file() if self.etcd is None else {**self.entries, **await self.read_changes(self.etcd)}
                 self.read_at = now
-            except (OSError, ValueError, TimeoutError, asyncio.IncompleteReadError):
-                self.turn += 1
+            except (OSError, ValueError):
+                pass
 
     def read_file(self) -> dict[str, str | None]:
         """The map in a file."""
         return json.loads(Path(self.cluster.map_file).read_text())
 
-    async def read_etcd(self) -> dict[str, str | None]:
-        """The map in etcd."""
-        url, prefix = self.cluster.etcd[self.turn % len(self.cluster.etcd)], self.cluster.map_prefix
-        key, end = (base64.b64encode(it).decode() for it in (prefix.encode(), range_end(prefix)))
-        reply = await post(url, "/v3/kv/range", {"key": key, "range_end": end, "serializable": True})
-        entries = {}
-        for pair in reply.get("kvs", ()):
-            name = base64.b64decode(pair["key"]).decode().removeprefix(prefix)
-            entries[name] = json.loads(base64.b64decode(pair["value"]))["to"]
-        return entries
+    async def read_changes(self, etcd: Etcd) -> dict[str, str | None]:
+        """The entries of the map in etcd that have changed. None is ever deleted; a member that is behind tells nothing new."""
+        prefix = self.cluster.map_prefix
+        found, revision = await etcd.changes(prefix, end_of(prefix), self.revision)
+        self.revision = max(self.revision, revision)
+        return {it.key.removeprefix(prefix): json.loads(it.value)["to"] for it in found}

@@ -47,7 +47,8 @@ class Router:
             self.figures.sent += 1
             try:
                 parts = command if identity is None else ("DO", identity, *command)
-                return await asyncio.wait_for(self.call(server, parts), min(left, attempt))
+                async with asyncio.timeout(min(left, attempt)):
+                    return await self.call(server, parts)
             except (OSError, TimeoutError):
                 self.figures.lost += 1
                 self.drop(server)
@@ -70,7 +71,7 @@ class Router:
     async def call(self, server: str, parts: tuple[str, ...]) -> Reply:
         """One attempt at one server."""
         connection = self.connections.get(server)
-        if connection is None or connection.writer.is_closing():
+        if connection is None or connection.is_closed:
             address = self.cluster.servers[server].clients
             connection = self.connections[server] = await Redis.open_port(address.host, address.port)
         return await connection.call(*parts)

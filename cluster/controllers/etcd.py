@@ -23,6 +23,12 @@ class Entry:
     revision: int
 
 
+def members_of(urls: Sequence[str]) -> list[tuple[str, int]]:
+    """Where the members listen."""
+    hosts = [url.removeprefix("http://").rstrip("/").rsplit(":", 1) for url in urls]
+    return [(host, int(port)) for host, port in hosts]
+
+
 def encoded(text: str) -> str:
     """Returns a text as the gateway wants it."""
     return b64encode(text.encode()).decode()
@@ -119,16 +125,23 @@ class Etcd:
                 await asyncio.sleep(0.05)
         raise AssertionError("there is a last try")
 
-    async def range(self, first: str, end: str | None = None, limit: int = 0) -> list[Entry]:
-        """Reads a key, or the keys from the first to before the end."""
-        body: dict[str, Any] = {"key": encoded(first)}
+    async def range(self, first: str, end: str | None = None, limit: int = 0, may_lag: bool = False) -> list[Entry]:
+        """Reads a key, or the keys from the first to before the end; if it may lag, from one member alone, which may not have the last writes yet."""
+        body: dict[str, Any] = {"key": encoded(first), "serializable": may_lag}
         if end is not None:
             body |= {"range_end": encoded(end), "limit": limit}
         return entries_of(await self.post_again("/v3/kv/range", body))
 
-    async def get(self, key: str) -> Entry | None:
+    async def changes(self, first: str, end: str, revision: int) -> tuple[list[Entry], int]:
+        """Asks a member once, without the others, for the keys from the first to before the end that were written behind a revision, and for the revision
+        up to which it knows."""
+        body = {"key": encoded(first), "range_end": encoded(end), "serializable": True, "min_mod_revision": str(revision + 1)}
+        answer = await self.post("/v3/kv/range", body)
+        return entries_of(answer), int(answer["header"]["revision"])
+
+    async def get(self, key: str, may_lag: bool = False) -> Entry | None:
         """Reads a key."""
-        found = await self.range(key)
+        found = await self.range(key, may_lag=may_lag)
         return found[0] if found else None
 
     async def past(self, entry: Entry) -> list[Entry]:
@@ -163,10 +176,11 @@ class Etcd:
         await self.post("/v3/lease/revoke", {"ID": lease})
 
 
-async def exchange(reader: asyncio.StreamReader, writer: asyncio.StreamWriter, path: str, body: dict) -> tuple[int, bytes]:
-    """Sends a request over HTTP/1.1, and returns the status and the text of the answer."""
-    text = json.dumps(body).encode()
-    head = f"POST {path} HTTP/1.1\r\nHost: etcd\r\nContent-Type: application/json\r\nContent-Length: {len(text)}\r\n\r\n"
+async def exchange(reader: asyncio.StreamReader, writer: asyncio.StreamWriter, path: str, body: dict | None) -> tuple[int, bytes]:
+    """Sends a request over HTTP/1.1, which asks for a page if it has no body, and returns the status and the text of the answer."""
+    text = b"" if body is None else json.dumps(body).encode()
+    method = "GET" if body is None else "POST"
+    head = f"{method} {path} HTTP/1.1\r\nHost: localhost\r\nContent-Type: application/json\r\nContent-Length: {len(text)}\r\n\r\n"
     writer.write(head.encode() + text)
     await writer.drain()
     status = int((await reader.readuntil(b"\r\n")).split()[1])

@@ -26,18 +26,18 @@ class EtcdJournal:
         self.place = 0
         self.counts: Counter[str] = Counter()
 
-    async def lines_after(self, place: int) -> list[str]:
-        """Reads the lines behind a place."""
+    async def lines_after(self, place: int, may_lag: bool = False) -> list[str]:
+        """Reads the lines behind a place; if it may lag, perhaps without the last ones."""
         lines: list[str] = []
         while True:
-            found = await self.etcd.range(key_of(place + len(lines) + 1), end_of(PREFIX), limit=500)
+            found = await self.etcd.range(key_of(place + len(lines) + 1), end_of(PREFIX), limit=500, may_lag=may_lag)
             lines += [it.value for it in found]
             if len(found) < 500:
                 return lines
 
-    async def read(self) -> list[str]:
+    async def read(self, may_lag: bool = False) -> list[str]:
         """Reads and hands on the lines that are new."""
-        lines = await self.lines_after(self.place)
+        lines = await self.lines_after(self.place, may_lag)
         self.place += len(lines)
         return lines
 

@@ -25,7 +25,7 @@ class Lease:
         """Tries once to become the leader, if nobody is."""
         begun = time.monotonic()
         try:
-            if await self.etcd.get(LEADER) is not None:
+            if await self.etcd.get(LEADER, may_lag=True) is not None:
                 return False
             lease = await self.etcd.grant(self.seconds)
             if not await self.etcd.transact([is_absent(LEADER)], [put(LEADER, self.name, lease)]):

@@ -11,7 +11,7 @@ from smplan.control import Controller, Line, Pace, Session, SessionEnded, StoreL
 from cluster.wire import Cluster, Failed, Message
 
 from .bugs import move_primaries
-from .etcd import Etcd, EtcdFault
+from .etcd import Etcd, EtcdFault, members_of
 from .fleet import Fleet, to_wire
 from .journal import EtcdJournal
 from .lease import Lease
@@ -40,12 +40,6 @@ class Past:
     terms: int = 0
     led_since: float | None = None
     first_order: list[float] = field(default_factory=list)
-
-
-def members_of(urls: tuple[str, ...]) -> list[tuple[str, int]]:
-    """Where the members of etcd listen."""
-    hosts = [url.removeprefix("http://").rstrip("/").rsplit(":", 1) for url in urls]
-    return [(host, int(port)) for host, port in hosts]
 
 
 class Member:
@@ -93,7 +87,7 @@ class Member:
         until = time.monotonic() + 0.3
         while time.monotonic() < until:
             try:
-                await self.controller.follow(await self.journal.read())
+                await self.controller.follow(await self.journal.read(may_lag=True))
             except EtcdFault:
                 pass
             await asyncio.sleep(self.settings.follow)

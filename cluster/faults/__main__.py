@@ -11,7 +11,7 @@ from pathlib import Path
 from cluster.wire import Address, Failed, Message, listen
 
 from .dice import Dice, Rates
-from .proxies import RELAYS, Link, open_proxy, send_by_itself
+from .proxies import Link, open_proxy, send_by_itself
 
 
 # The copies that are on their way.
@@ -36,7 +36,7 @@ async def run(told: dict) -> None:
         rates = Rates(**told["rates"].get(it["name"].partition(" ")[0], {}))
         link = Link(it["name"], Dice(told["seed"], it["name"], rates, counts), "127.0.0.1", it["to"])
         links.append(link)
-        await open_proxy(it["at"], RELAYS[it["relay"]], link)
+        await open_proxy(it["at"], it["relay"], link)
 
     async def obey(message: Message) -> Message:
         if "counts" in message:

@@ -89,21 +89,6 @@ async def relay_line_pairs(reader: Reader, writer: Writer, far: Reader, far_writ
     await until_one_ends(relay_lines(reader, far_writer, link, outlives=True), relay_lines(far, writer, link))
 
 
-async def relay_bytes(reader: Reader, writer: Writer, link: Link) -> None:
-    """Carries bytes one way. A loss ends the connection, since a stream has no gaps."""
-    while chunk := await reader.read(65536):
-        if link.is_cut or link.dice.drops():
-            return
-        await asyncio.sleep(link.dice.lateness())
-        writer.write(chunk)
-        await writer.drain()
-
-
-async def relay_streams(reader: Reader, writer: Writer, far: Reader, far_writer: Writer, link: Link) -> None:
-    """Carries bytes both ways until one side ends."""
-    await until_one_ends(relay_bytes(reader, far_writer, link), relay_bytes(far, writer, link))
-
-
 async def until_one_ends(*ways: Awaitable[None]) -> None:
     """Runs both ways, and ends both when one ends."""
     tasks = [asyncio.ensure_future(it) for it in ways]
@@ -139,11 +124,17 @@ async def wait_while_held(request: bytes, link: Link) -> bool:
     return was_held
 
 
+async def come_late(link: Link) -> None:
+    """Waits for as long as a message is late."""
+    if seconds := link.dice.lateness():
+        await asyncio.sleep(seconds)
+
+
 async def relay_http(reader: Reader, writer: Writer, far: Reader, far_writer: Writer, link: Link) -> None:
     """Carries HTTP requests one by one. A lost request or answer ends the connection, and a repeated one is made twice."""
     while True:
         request = await read_http(reader)
-        await asyncio.sleep(link.dice.lateness())
+        await come_late(link)
         was_held = await wait_while_held(request, link)
         if link.is_cut or link.dice.drops():
             return
@@ -153,7 +144,7 @@ async def relay_http(reader: Reader, writer: Writer, far: Reader, far_writer: Wr
             answer = await read_http(far)
         if was_held:
             link.count("held and then done" if b'"succeeded":true' in answer else "held and then refused")
-        await asyncio.sleep(link.dice.lateness())
+        await come_late(link)
         if link.is_cut or link.dice.drops():
             return
         writer.write(answer)
@@ -161,18 +152,117 @@ async def relay_http(reader: Reader, writer: Writer, far: Reader, far_writer: Wr
             return
 
 
-RELAYS: dict[str, Relay] = {"lines": relay_line_pairs, "http": relay_http, "bytes": relay_streams}
+class Side(asyncio.Protocol):
+    """One side of a connection that carries bytes: it hands what it reads to the other side. A loss ends both, since a stream has no gaps."""
+
+    def __init__(self, link: Link, other: "Side | None" = None) -> None:
+        self.link, self.other = link, other
+        self.transport: asyncio.Transport | None = None
+        # Why nothing is read: bytes are on their way late, or the other side is full.
+        self.is_late = self.is_full = False
+
+    def connection_made(self, transport: asyncio.BaseTransport) -> None:
+        """Begins. The side that was called calls the far end."""
+        self.transport = transport  # type: ignore[assignment]
+        if self.other is not None:
+            self.begin()
+        elif self.link.is_cut:
+            self.end()
+        else:
+            self.transport.pause_reading()
+            calling = asyncio.create_task(self.call())
+            CALLING.add(calling)
+            calling.add_done_callback(CALLING.discard)
+
+    def begin(self) -> None:
+        """Lets the side that was called read, now that the far end is there, unless it has ended meanwhile."""
+        near = self.other.transport if self.other is not None else None
+        if near is None or near.is_closing():
+            self.end()
+        else:
+            near.resume_reading()
+
+    async def call(self) -> None:
+        """Connects to the far end."""
+        self.other = Side(self.link, self)
+        try:
+            await asyncio.get_running_loop().create_connection(lambda: self.other, self.link.host, self.link.port)
+        except OSError:
+            self.end()
+
+    def data_received(self, data: bytes) -> None:
+        """Hands bytes on, at once or late, or loses them."""
+        if self.link.is_cut or self.link.dice.drops():
+            self.end()
+            return
+        seconds = self.link.dice.lateness()
+        if seconds:
+            self.is_late = True
+            self.read_on()
+            asyncio.get_running_loop().call_later(seconds, self.come_late, data)
+        else:
+            self.hand_on(data)
+
+    def come_late(self, data: bytes) -> None:
+        """Hands bytes on that were late, and reads on."""
+        self.is_late = False
+        self.hand_on(data)
+        self.read_on()
+
+    def hand_on(self, data: bytes) -> None:
+        """Writes bytes to the other side."""
+        assert self.other is not None
+        if self.other.transport is not None and not self.other.transport.is_closing():
+            self.other.transport.write(data)
+
+    def read_on(self) -> None:
+        """Reads, unless something keeps it from that."""
+        if self.transport is not None and not self.transport.is_closing():
+            if self.is_late or self.is_full:
+                self.transport.pause_reading()
+            else:
+                self.transport.resume_reading()
+
+    def pause_writing(self) -> None:
+        """This side is full."""
+        if self.other is not None:
+            self.other.is_full = True
+            self.other.read_on()
+
+    def resume_writing(self) -> None:
+        """This side has room again."""
+        if self.other is not None:
+            self.other.is_full = False
+            self.other.read_on()
+
+    def connection_lost(self, error: Exception | None) -> None:
+        """Ends both sides."""
+        self.end()
+
+    def end(self) -> None:
+        """Ends both sides."""
+        for side in (self, self.other):
+            if side is not None and side.transport is not None:
+                side.transport.close()
 
 
-async def open_proxy(port: int, relay: Relay, link: Link) -> asyncio.Server:
-    """Listens, and carries each connection to the link's far end."""
+# The connections that are being made.
+CALLING: set[asyncio.Task[None]] = set()
+RELAYS: dict[str, Relay] = {"lines": relay_line_pairs, "http": relay_http}
+
+
+async def open_proxy(port: int, relay: str, link: Link) -> asyncio.Server:
+    """Listens, and carries each connection to the link's far end: lines, requests of HTTP, or bytes."""
+    if relay == "bytes":
+        return await asyncio.get_running_loop().create_server(lambda: Side(link), "127.0.0.1", port)
+
     async def carry(reader: Reader, writer: Writer) -> None:
         far_writer = None
         try:
             if link.is_cut:
                 return
             far, far_writer = await asyncio.open_connection(link.host, link.port, limit=LONGEST_LINE)
-            await relay(reader, writer, far, far_writer, link)
+            await RELAYS[relay](reader, writer, far, far_writer, link)
         except (OSError, EOFError, ValueError, asyncio.LimitOverrunError, asyncio.CancelledError):
             pass
         finally:

@@ -15,7 +15,9 @@ from .processes import Ports, Processes
 from .shape import Shape
 
 ROOT = Path(__file__).resolve().parents[2]
-ENVIRONMENT = {"PYTHONPATH": f"{ROOT / 'python'}:{ROOT}", "PYTHONDONTWRITEBYTECODE": "1"}
+# (compiled once for all processes of all runs; they need the standard library alone)
+ENVIRONMENT = {"PYTHONPATH": f"{ROOT / 'python'}:{ROOT}", "PYTHONDONTWRITEBYTECODE": "", "PYTHONPYCACHEPREFIX": str(ROOT / "build" / "pycache")}
+PYTHON = (sys.executable, "-S", "-m")
 # What befalls messages, by the kind of link; see cluster.faults.
 CALM: dict[str, dict[str, float]] = {}
 ROUGH = {
@@ -79,7 +81,7 @@ class LocalCluster:
         self.add_clients()
         file = directory / "links.json"
         file.write_text(self.proxies.text())
-        self.processes.add("proxies", [sys.executable, "-m", "cluster.faults", str(file)], **ENVIRONMENT)
+        self.processes.add("proxies", [*PYTHON, "cluster.faults", str(file)], **ENVIRONMENT)
 
     def cluster_file(self, who: str, direct: bool = False) -> Path:
         """Writes where everybody is for one process, which sees the others through proxies of its own."""
@@ -101,7 +103,7 @@ class LocalCluster:
         """Adds a server."""
         ports = self.ports[name]
         self.processes.add(name, [
-            sys.executable, "-m", self.server_module, "--name", name, "--cluster", str(self.cluster_file(name)), "--dir", str(self.directory / name),
+            *PYTHON, self.server_module, "--name", name, "--cluster", str(self.cluster_file(name)), "--dir", str(self.directory / name),
             "--listen-control", str(ports.control), "--listen-clients", str(ports.clients), "--listen-peers", str(ports.peers),
             *(it for bug in self.bugs if bug in SERVER_BUGS for it in ("--bug", bug)),
         ], **ENVIRONMENT)
@@ -109,7 +111,7 @@ class LocalCluster:
     def add_controller(self, name: str) -> None:
         """Adds a controller."""
         self.processes.add(name, [
-            sys.executable, "-m", "cluster.controllers", "--name", name, "--cluster", str(self.cluster_file(name)), "--program", self.program,
+            *PYTHON, "cluster.controllers", "--name", name, "--cluster", str(self.cluster_file(name)), "--program", self.program,
             "--listen", f"127.0.0.1:{self.asks[name]}", "--http", f"127.0.0.1:{self.pages[name]}", "--confirm",
             *(it for bug in self.bugs if bug not in SERVER_BUGS for it in ("--bug", bug)),
         ], **ENVIRONMENT)
@@ -117,7 +119,7 @@ class LocalCluster:
     def add_clients(self, name: str = "clients") -> None:
         """Adds the clients, all of them in one process, which run until their input ends."""
         self.processes.add(name, [
-            sys.executable, "-m", "cluster.clients", "--cluster", str(self.cluster_file(name)), "--shards", ",".join(self.shape.shard_names),
+            *PYTHON, "cluster.clients", "--cluster", str(self.cluster_file(name)), "--shards", ",".join(self.shape.shard_names),
             "--history", str(self.directory / f"{name}.jsonl"), "--seconds", "0", "--clients", str(self.shape.clients), "--seed", str(self.shape.seed),
             "--pause", str(self.pause),
         ], says_ready=False, has_input=True, **ENVIRONMENT)

@@ -2,13 +2,16 @@
 from __future__ import annotations
 
 import asyncio
+import json
 from collections.abc import Mapping
 from typing import Any
 
 from smplan.control import Line
-from smplan.control_http import fetch
-from smplan.failure import Failure
 
+from cluster.controllers.etcd import exchange
+
+Connection = tuple[asyncio.StreamReader, asyncio.StreamWriter]
+LONGEST_REPLY = 64 << 20
 
 class NoLeader(Exception):
     """No controller took a line in time."""
@@ -19,14 +22,31 @@ class Operator:
 
     def __init__(self, pages: Mapping[str, int], patience: float = 90.0) -> None:
         self.pages, self.patience = dict(pages), patience
+        # The connections at rest.
+        self.idle: dict[str, list[Connection]] = {name: [] for name in pages}
         self.leader = next(iter(pages))
 
     async def post(self, name: str, path: str, line: Line | None, timeout: float = 2.5) -> Any:
         """Asks one controller; None if it does not answer, or does not lead."""
+        connection, idle = None, self.idle[name]
         try:
-            return await asyncio.to_thread(fetch, f"http://127.0.0.1:{self.pages[name]}{path}", line, timeout)
-        except Failure:
+            async with asyncio.timeout(timeout):
+                connection = idle.pop() if idle else await asyncio.open_connection("127.0.0.1", self.pages[name], limit=LONGEST_REPLY)
+                status, text = await exchange(*connection, path, line)
+        except (OSError, EOFError, ValueError, TimeoutError):
+            self.close(name, connection)
             return None
+        except BaseException:
+            self.close(name, connection)
+            raise
+        idle.append(connection)
+        return json.loads(text) if status == 200 else None
+
+    def close(self, name: str, failed: Connection | None = None) -> None:
+        """Ends the connections to a controller: those at rest, and the one that failed."""
+        idle, self.idle[name] = self.idle[name], []
+        for _, writer in idle + ([failed] if failed else []):
+            writer.close()
 
     async def do(self, line: Line, timeout: float = 2.5, path: str = "/do") -> Line:
         """Has the leader store and feed a line, and returns the reply. It goes to the next controller if none comes within the timeout."""

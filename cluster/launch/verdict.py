@@ -4,7 +4,6 @@ from __future__ import annotations
 import asyncio
 import json
 import os
-import sys
 from collections import Counter
 from dataclasses import dataclass, field
 from pathlib import Path
@@ -16,7 +15,7 @@ from cluster.controllers.fleet import from_wire
 from cluster.controllers.journal import PREFIX
 from cluster.wire import Address, Channel, Failed
 
-from .cluster import ENVIRONMENT, LocalCluster
+from .cluster import ENVIRONMENT, PYTHON, LocalCluster
 from .operator import Operator
 
 
@@ -163,7 +162,7 @@ def write_lines(path: Path, lines: list[str]) -> Path:
 async def run_checker(verdict: Verdict, name: str, directory: Path, *words: str) -> None:
     """Runs a checker, whose faults and last line become part of the verdict."""
     pipe = asyncio.subprocess.PIPE
-    done = await asyncio.create_subprocess_exec(sys.executable, "-m", name, *words, stdout=pipe, stderr=pipe, env={**os.environ, **ENVIRONMENT})
+    done = await asyncio.create_subprocess_exec(*PYTHON, name, *words, stdout=pipe, stderr=pipe, env={**os.environ, **ENVIRONMENT})
     out, err = await done.communicate()
     lines = out.decode().splitlines()
     write_lines(directory / f"{name}.txt", lines + err.decode().splitlines())
@@ -178,7 +177,7 @@ async def histories_of(cluster: LocalCluster) -> Path:
     path = cluster.directory / "histories.jsonl"
     folders = [str(cluster.directory / it) for it in cluster.shape.server_names if (cluster.directory / it).is_dir()]
     with path.open("wb") as out:
-        done = await asyncio.create_subprocess_exec(sys.executable, "-m", "cluster.servers.history", *folders, stdout=out, env={**os.environ, **ENVIRONMENT})
+        done = await asyncio.create_subprocess_exec(*PYTHON, "cluster.servers.history", *folders, stdout=out, env={**os.environ, **ENVIRONMENT})
         await done.wait()
     return path
 

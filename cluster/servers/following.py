@@ -82,7 +82,7 @@ class Following:
                 pause, self.tries, self.hint = 0.02, 0, source
             self.joined.clear()
             await asyncio.sleep(pause)
-            pause = min(pause * 1.4, 0.15)
+            pause = min(pause * 1.5, 0.4)
         if self.shard.following is self:
             self.shard.following = None
 

@@ -9,7 +9,7 @@ from typing import TYPE_CHECKING
 
 from smplan.agent import Answer, Cell, Request
 
-from ..resp import ErrorReply, Reply, encode_reply, read_reply
+from ..resp import ErrorReply, Parser, Reply, encode_reply
 from ..wire import Failed, Message
 from . import agent, limits
 from .shard import Entry, Shard, chained
@@ -26,6 +26,23 @@ INTEGER, LARGEST = re.compile(rb"0|-?[1-9][0-9]{0,17}"), 10**18
 LENGTHS = {"SET": (3, 3), "INCR": (2, 2), "APPEND": (3, 3), "RPUSH": (3, 1 << 20), "GET": (2, 2), "LRANGE": (4, 4)}
 
 
+def answered(reply: Reply) -> Reply:
+    """A reply of the store; an error is raised."""
+    if isinstance(reply, ErrorReply):
+        raise reply
+    return reply
+
+
+def foreseen(command: tuple[str, ...], before: Reply) -> Reply:
+    """What a write will reply, by what the store says before it. Raises if it will fail, so that nothing of it is stored."""
+    word, _, *rest = command
+    if word == "INCR":
+        if not INTEGER.fullmatch(before or b"0") or int(before or 0) >= LARGEST:
+            raise ErrorReply("ERR value is not an integer or out of range")
+        return int(before or 0) + 1
+    return before + (len(rest[0]) if word == "APPEND" else len(rest))
+
+
 class Requests:
     """The clients' side of a server."""
 
@@ -36,17 +53,18 @@ class Requests:
 
     async def serve(self, reader: asyncio.StreamReader, writer: asyncio.StreamWriter) -> None:
         """Serves a client, one command behind the other."""
+        parser = Parser()
         try:
-            while True:
-                parts = await read_reply(reader)
-                if not isinstance(parts, list) or not all(isinstance(it, bytes) for it in parts) or not parts:
-                    break
-                try:
-                    writer.write(await self.command([it.decode("latin-1") for it in parts]))
-                except ErrorReply as error:
-                    writer.write(encode_reply(error))
+            while data := await reader.read(1 << 16):
+                for parts in parser.feed(data):
+                    if not isinstance(parts, list) or not all(isinstance(it, bytes) for it in parts) or not parts:
+                        return
+                    try:
+                        writer.write(await self.command([it.decode("latin-1") for it in parts]))
+                    except ErrorReply as error:
+                        writer.write(encode_reply(error))
                 await writer.drain()
-        except (EOFError, OSError, asyncio.IncompleteReadError, ValueError):
+        except (OSError, ValueError):
             pass
         finally:
             writer.close()
@@ -104,7 +122,8 @@ class Requests:
         writes."""
         term = shard.term
         try:
-            await asyncio.sleep(self.server.think(shard, how))
+            if thinking := self.server.think(shard, how):
+                await asyncio.sleep(thinking)
             async with shard.lock:
                 if shard.term != term:
                     raise ErrorReply(f"TRYAGAIN {shard.name}")
@@ -142,13 +161,13 @@ class Requests:
         """Executes a request once. The shard's lock is held."""
         if command[0] in READS:
             return await self.read(shard, command, how)
-        done, reply = await asyncio.gather(self.done(shard, identity), self.foreseen(shard, command), return_exceptions=True)
-        if done is None and not isinstance(reply, BaseException):
-            return await self.write(shard, identity, command, how, encode_reply(reply))
-        failed = next((it for it in (done, reply) if isinstance(it, BaseException)), None)
-        if done is None or isinstance(done, BaseException):
-            raise failed
-        return done
+        known = self.redis.send("HGET", f"done:{shard.name}", identity) if identity is not None else None
+        before = None if command[0] == "SET" else self.redis.send(WRITES[command[0]], data_key(shard.name, command[1]))
+        done = None if known is None else answered(await known)
+        if done is not None:
+            return done
+        reply = "OK" if before is None else foreseen(command, answered(await before))
+        return await self.write(shard, identity, command, how, encode_reply(reply))
 
     async def write(self, shard: Shard, identity: str | None, command: tuple[str, ...], how: Request, reply: bytes) -> bytes:
         """Executes a write with all that belongs to it in one transaction, and sends it to all who follow."""
@@ -170,22 +189,6 @@ class Requests:
         reply = await self.redis.call(word, data_key(shard.name, key), *rest)
         self.store.note("read", shard=shard.name, position=shard.position, command=command, passed=bool(how.is_passed))
         return encode_reply(reply)
-
-    async def done(self, shard: Shard, identity: str | None) -> bytes | None:
-        """The reply of a request that was executed before."""
-        return await self.redis.call("HGET", f"done:{shard.name}", identity) if identity is not None else None
-
-    async def foreseen(self, shard: Shard, command: tuple[str, ...]) -> Reply:
-        """What a write will reply. Raises if it will fail, so that nothing of it is stored."""
-        word, key, *rest = command
-        if word == "SET":
-            return "OK"
-        before = await self.redis.call(WRITES[word], data_key(shard.name, key))
-        if word == "INCR":
-            if not INTEGER.fullmatch(before or b"0") or int(before or 0) >= LARGEST:
-                raise ErrorReply("ERR value is not an integer or out of range")
-            return int(before or 0) + 1
-        return before + (len(rest[0]) if word == "APPEND" else len(rest))
 
     # -- passing on
 

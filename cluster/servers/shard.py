@@ -12,6 +12,8 @@ from typing import TYPE_CHECKING, Any
 
 from smplan.agent import Cell, Slot
 
+from ..wire import text_of
+
 if TYPE_CHECKING:
     from .following import Following
     from .sources import Stream
@@ -31,7 +33,7 @@ class Entry:
 
     def text(self) -> str:
         """As it is stored."""
-        return json.dumps([self.position, self.identity, self.command, self.reply, self.chain], separators=(",", ":"))
+        return text_of([self.position, self.identity, self.command, self.reply, self.chain])
 
     @staticmethod
     def of(text: str) -> "Entry":
@@ -59,7 +61,7 @@ class Shard:
     # (at a new owner: the old one, until it drops the shard; no write is acknowledged without it, alive or not)
     old_owner: str | None = None
     lock: asyncio.Lock = field(default_factory=asyncio.Lock)
-    changed: asyncio.Event = field(default_factory=asyncio.Event)
+    waiting: list[asyncio.Future[None]] = field(default_factory=list)
     running: int = 0
     is_held: bool = False
     streams: dict[str, "Stream"] = field(default_factory=dict)
@@ -71,18 +73,23 @@ class Shard:
 
     def wake(self) -> None:
         """Lets all who wait look again."""
-        self.changed.set()
-        self.changed = asyncio.Event()
+        waiting, self.waiting = self.waiting, []
+        for it in waiting:
+            look(it)
 
     async def look_again(self, deadline: float) -> bool:
         """Waits until something changes, at most a moment. False once the deadline is over."""
         left = deadline - time.monotonic()
         if left <= 0:
             return False
+        loop = asyncio.get_running_loop()
+        change = loop.create_future()
+        self.waiting.append(change)
+        timer = loop.call_later(min(left, 0.2), look, change)
         try:
-            await asyncio.wait_for(self.changed.wait(), min(left, 0.2))
-        except TimeoutError:
-            pass
+            await change
+        finally:
+            timer.cancel()
         return True
 
     @property
@@ -100,6 +107,12 @@ class Shard:
     def is_in_handover(self) -> bool:
         """It is the old or the new owner of a handover."""
         return self.slot.cell in (Cell.PREPARED, Cell.FORWARDING)
+
+
+def look(change: "asyncio.Future[None]") -> None:
+    """Lets one who waits for a change look again."""
+    if not change.done():
+        change.set_result(None)
 
 
 # The documents' words for cells.

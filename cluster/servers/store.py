@@ -22,6 +22,7 @@ from typing import Callable, Iterable
 from smplan.agent import Base, Slot
 
 from ..resp import ErrorReply, Part, Redis
+from ..wire import text_of
 from . import agent
 from .shard import Entry, Event, Shard
 
@@ -121,7 +122,7 @@ class Store:
         if kind is not None:
             self.note(kind, **more)
         noted, self.unwritten = self.unwritten, []
-        lines = [json.dumps(it, separators=(",", ":")) for it in noted]
+        lines = [text_of(it) for it in noted]
         history = [("RPUSH", "history", *lines)] if lines else []
         try:
             await self.redis.transaction([*commands, *history])

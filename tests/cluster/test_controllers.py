@@ -34,11 +34,11 @@ class FakeEtcd:
             return (entry.revision if entry else 0) == int(guard["mod_revision"])
         return entry is not None and entry.value == decoded(guard["value"])
 
-    async def range(self, first, end=None, limit=0):
+    async def range(self, first, end=None, limit=0, may_lag=False):
         found = [self.keys[it] for it in sorted(self.keys) if first <= it and (it == first if end is None else it < end)]
         return found[:limit] if limit else found
 
-    async def get(self, key):
+    async def get(self, key, may_lag=False):
         return self.keys.get(key)
 
     async def transact(self, guards, writes):

@@ -7,7 +7,7 @@ from collections import Counter
 
 from cluster.faults.__main__ import release, sending
 from cluster.faults.dice import Dice, Rates
-from cluster.faults.proxies import RELAYS, Link, open_proxy
+from cluster.faults.proxies import Link, open_proxy
 from cluster.launch.figures import handover_waits, order_waits, unacknowledged
 from cluster.launch.moving import Mover
 from cluster.launch.processes import Ports
@@ -49,7 +49,7 @@ class ProxyTest(unittest.IsolatedAsyncioTestCase):
 
         server = await asyncio.start_server(take, "127.0.0.1", far)
         link = Link("order k a", Dice(1, "order k a", Rates(), Counter()), "127.0.0.1", far, copies=[])
-        proxy = await open_proxy(near, RELAYS["lines"], link)
+        proxy = await open_proxy(near, "lines", link)
         _, writer = await asyncio.open_connection("127.0.0.1", near)
         lines = [b'{"id":1,"restore":{}}\n', b'{"id":2,"order":{}}\n']
         writer.writelines(lines)
@@ -82,7 +82,7 @@ class ProxyTest(unittest.IsolatedAsyncioTestCase):
 
         server = await asyncio.start_server(once, "127.0.0.1", far)
         link = Link("order k a", Dice(1, "order k a", Rates(repeat=1.0, longest=0.02), Counter()), "127.0.0.1", far)
-        proxy = await open_proxy(near, RELAYS["lines"], link)
+        proxy = await open_proxy(near, "lines", link)
         reader, writer = await asyncio.open_connection("127.0.0.1", near)
         link.dice.lateness_of_copy = lambda: 0.3
         writer.write(b"one\n")
@@ -106,7 +106,7 @@ class ProxyTest(unittest.IsolatedAsyncioTestCase):
         ports = Ports()
         far, near = ports.take(2)
         server = await asyncio.start_server(echo, "127.0.0.1", far)
-        proxy = await open_proxy(near, RELAYS["lines"], Link("order k a", Dice(seed, "order k a", rates, counts), "127.0.0.1", far))
+        proxy = await open_proxy(near, "lines", Link("order k a", Dice(seed, "order k a", rates, counts), "127.0.0.1", far))
         reader, writer = await asyncio.open_connection("127.0.0.1", near)
         for it in range(count):
             writer.write(b"%d\n" % it)
