@@ -7,6 +7,7 @@ import os
 import shutil
 import sys
 import tempfile
+import time
 from pathlib import Path
 
 from cluster.controllers.bugs import BUGS as CONTROLLER_BUGS
@@ -67,7 +68,11 @@ async def first_violation(bug: str, seed: int, told: argparse.Namespace) -> str 
 
 def try_bug(bug: str, told: argparse.Namespace) -> bool:
     """Makes the runs with a bug, and tells in how many something was found; returns whether it was in one."""
-    found = [asyncio.run(first_violation(bug, seed, told)) for seed in range(told.seed, told.seed + told.runs)]
+    found = []
+    for seed in range(told.seed, told.seed + told.runs):
+        begun = time.monotonic()
+        found.append(asyncio.run(first_violation(bug, seed, told)))
+        print(f"{bug}, seed {seed}, {time.monotonic() - begun:.0f} s: {found[-1] or 'nothing'}"[:300], flush=True)
     caught = [it for it in found if it and not it.startswith(NO_END)]
     unended = [it for it in found if it and it.startswith(NO_END)]
     print(f"{bug}: found in {len(caught)} of {told.runs} runs{': ' + caught[0][:200] if caught else ''}"

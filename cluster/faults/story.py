@@ -409,14 +409,21 @@ class Story:
         self.tell(f"a new journal is opened without a reopening: {'opened' if 'opened' in told else told}")
 
     async def promote(self, state: Line) -> None:
-        """Makes the secondary that has most writes the primary of each shard that a reopening left without one."""
-        bare = [it for it in state["shards"] if it["cells"] and all(cell["state"] != "primary" for cell in it["cells"])]
-        positions = await self.positions() if bare else {}
-        streams = [promote_stream(shard, most_written(shard, positions)) for shard in bare]
-        if streams:
-            self.counts["secondaries promoted"] += len(streams)
-            reply = await self.operator.do({"do": "begin", "plan": plan_of(streams), "name": self.name("promote")})
-            self.tell(f"{len(streams)} shards without a primary: {'promoted' if 'begun' in reply else reply}")
+        """Makes the secondary that has most writes the primary of each shard that a reopening left without one, each by a plan of its own. A shard whose replicas
+        change roles has none for a moment either: then the plan is refused, as a cell is another one by then, or taken, and the shard is looked at again."""
+        promoted: set[str] = set()
+        until = time.monotonic() + self.operator.patience / 6
+        while (bare := without_primary(state, promoted)) and time.monotonic() < until:
+            positions = await self.positions()
+            for shard in bare:
+                plan = plan_of([promote_stream(shard, most_written(shard, positions))])
+                reply = await self.operator.do({"do": "begin", "plan": plan, "name": self.name("promote")})
+                self.tell(f"{shard['shard']} has no primary: {'promoted' if 'begun' in reply else reply}")
+                if "begun" in reply:
+                    promoted.add(shard["shard"])
+            await asyncio.sleep(0.3)
+            state = await self.state()
+        self.counts["secondaries promoted"] += len(promoted)
 
     async def positions(self) -> dict[tuple[str, str], int]:
         """Returns the last write of each replica, by shard and server, as the servers tell it."""
@@ -440,6 +447,13 @@ class Story:
                 return True
             await asyncio.sleep(0.05)
         return False
+
+
+def without_primary(state: Line, promoted: set[str]) -> list[Line]:
+    """Returns the shards that have replicas, and all of them secondaries, but for those that were promoted. (The old owner of a handover is no primary either,
+    and serves its shard.)"""
+    return [it for it in state.get("shards", [])
+            if it["cells"] and it["shard"] not in promoted and all(cell["state"] == "secondary" for cell in it["cells"])]
 
 
 def most_written(shard: Line, positions: dict[tuple[str, str], int]) -> str:

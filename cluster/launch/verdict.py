@@ -68,7 +68,8 @@ async def play(program: list[str], lines: list[str], audits: dict[str, Line]) ->
         journal.orders += told.get("orders", [])
         journal.replies[f"{json.loads(text)['do']}: {next(it for it in told if it != 'id')}"] += 1
     journal.state = (await session.ask({"do": "state"}))["state"]
-    journal.shown = (await session.ask({"do": "map"}))["map"]
+    # (there is no map before the first opening, where a planted bug may have lost that)
+    journal.shown = (await session.ask({"do": "map"})).get("map", [])
     for server, told in audits.items():
         slots = [from_wire(it) for it in told["slots"]]
         journal.audits[server] = await session.ask({"do": "audit", "server": server, "place": journal.state["place"], "slots": slots})
