@@ -42,7 +42,8 @@ class MapOwner:
         """Shows an entry if it is newer. Answers one that is shown, or that was overtaken."""
         try:
             self.counts["publications of one that does not lead"] += not self.leads()
-            base, shown = await self.etcd.get(BASE), await self.etcd.get(self.prefix + publication["shard"])
+            # (what lags is found out by the comparison)
+            base, shown = await self.etcd.get(BASE, may_lag=True), await self.etcd.get(self.prefix + publication["shard"], may_lag=True)
             version = json.loads(shown.value)["version"] if shown else 0
             fence = publication.get("fence", 0)
             verdict = agent.publish(base_in(base), version, int(publication["journal"], 16), fence, publication["version"])

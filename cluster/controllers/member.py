@@ -26,7 +26,7 @@ class Settings:
     program: tuple[str, ...]
     cluster: Cluster
     lease: int = 2
-    follow: float = 0.2
+    follow: float = 0.4
     pace: Pace = Pace(timeout=5.0, again=0.2)
     confirm: bool = False
     bugs: frozenset[str] = frozenset()

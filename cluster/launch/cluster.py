@@ -11,7 +11,7 @@ from cluster.servers.bugs import BUGS as SERVER_BUGS
 from cluster.wire import Address, Channel, Failed, Message
 
 from .etcd import add_etcd
-from .processes import Ports, Processes
+from .processes import Nursery, Ports, Processes
 from .shape import Shape
 
 ROOT = Path(__file__).resolve().parents[2]
@@ -65,7 +65,7 @@ class LocalCluster:
     def __init__(self, directory: Path, shape: Shape, program: str, rates: dict = CALM, bugs: tuple[str, ...] = (),
                  servers: str = "cluster.servers", pause: float = 0.01) -> None:
         self.directory, self.shape, self.program, self.bugs, self.server_module, self.pause = directory, shape, program, bugs, servers, pause
-        self.processes = Processes(directory / "logs")
+        self.processes = Processes(directory / "logs", Nursery([*PYTHON, "cluster.launch.nursery"], ENVIRONMENT))
         self.free = Ports()
         self.members = add_etcd(self.processes, self.free, directory)
         self.proxies = Proxies(shape.seed, rates, self.free.take(1)[0], self.free)
@@ -102,19 +102,19 @@ class LocalCluster:
     def add_server(self, name: str) -> None:
         """Adds a server."""
         ports = self.ports[name]
-        self.processes.add(name, [
-            *PYTHON, self.server_module, "--name", name, "--cluster", str(self.cluster_file(name)), "--dir", str(self.directory / name),
+        self.processes.add_copy(
+            name, self.server_module, "--name", name, "--cluster", str(self.cluster_file(name)), "--dir", str(self.directory / name),
             "--listen-control", str(ports.control), "--listen-clients", str(ports.clients), "--listen-peers", str(ports.peers),
             *(it for bug in self.bugs if bug in SERVER_BUGS for it in ("--bug", bug)),
-        ], **ENVIRONMENT)
+        )
 
     def add_controller(self, name: str) -> None:
         """Adds a controller."""
-        self.processes.add(name, [
-            *PYTHON, "cluster.controllers", "--name", name, "--cluster", str(self.cluster_file(name)), "--program", self.program,
+        self.processes.add_copy(
+            name, "cluster.controllers", "--name", name, "--cluster", str(self.cluster_file(name)), "--program", self.program,
             "--listen", f"127.0.0.1:{self.asks[name]}", "--http", f"127.0.0.1:{self.pages[name]}", "--confirm",
             *(it for bug in self.bugs if bug not in SERVER_BUGS for it in ("--bug", bug)),
-        ], **ENVIRONMENT)
+        )
 
     def add_clients(self, name: str = "clients") -> None:
         """Adds the clients, all of them in one process, which run until their input ends."""

@@ -19,5 +19,5 @@ def add_etcd(processes: Processes, free: Ports, directory: Path, count: int = 3)
             "--listen-client-urls", url, "--advertise-client-urls", url, "--listen-peer-urls", peers[name],
             "--initial-advertise-peer-urls", peers[name], "--initial-cluster-state", "new", "--max-txn-ops", "10000",
             "--heartbeat-interval", "100", "--election-timeout", "1000", "--log-level", "error", "--logger", "zap",
-        ], says_ready=False, GOMAXPROCS="1")
+        ], says_ready=False, GOMAXPROCS="1", GOGC="400")
     return list(zip(names, ports))

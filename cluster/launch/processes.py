@@ -3,6 +3,7 @@ from __future__ import annotations
 
 import asyncio
 import ctypes
+import json
 import os
 import secrets
 import signal
@@ -24,9 +25,71 @@ class NotReady(Exception):
     """A process did not say that it is ready."""
 
 
+class Copy:
+    """A process that the nursery has begun."""
+
+    stdin = None
+
+    def __init__(self, pid: int) -> None:
+        self.pid = pid
+        self.returncode: int | None = None
+        self.ended = asyncio.Event()
+        try:
+            self.handle = os.pidfd_open(pid)
+            asyncio.get_running_loop().add_reader(self.handle, self.end)
+        except ProcessLookupError:
+            self.returncode = 1
+            self.ended.set()
+
+    def end(self) -> None:
+        """Notes that it has ended."""
+        asyncio.get_running_loop().remove_reader(self.handle)
+        os.close(self.handle)
+        self.returncode = 1
+        self.ended.set()
+
+    def send_signal(self, number: int) -> None:
+        """Sends it a signal, if it runs."""
+        if self.returncode is None:
+            signal.pidfd_send_signal(self.handle, number)
+
+    async def wait(self) -> None:
+        """Waits until it has ended."""
+        await self.ended.wait()
+
+
+class Nursery:
+    """The process that begins servers and controllers (nursery.py)."""
+
+    def __init__(self, command: list[str], environment: dict[str, str]) -> None:
+        self.command, self.environment = command, environment
+        self.running: asyncio.subprocess.Process | None = None
+        self.asking = asyncio.Lock()
+
+    async def begin(self, log: Path, words: list[str]) -> Copy:
+        """Has it run a module with words."""
+        async with self.asking:
+            if self.running is None:
+                pipe = asyncio.subprocess.PIPE
+                self.running = await asyncio.create_subprocess_exec(
+                    *self.command, stdin=pipe, stdout=pipe, env={**os.environ, **self.environment}, start_new_session=True, preexec_fn=die_with_parent)
+            assert self.running.stdin is not None and self.running.stdout is not None
+            self.running.stdin.write(json.dumps([str(log), *words]).encode() + b"\n")
+            told = await self.running.stdout.readline()
+        if not told:
+            raise NotReady("the nursery has ended")
+        return Copy(int(told))
+
+    async def end(self) -> None:
+        """Ends it, and with it all that it has begun."""
+        if self.running is not None and self.running.returncode is None:
+            self.running.kill()
+            await self.running.wait()
+
+
 @dataclass
 class Process:
-    """One process, by its command; it may be started again."""
+    """One process, by its command, or by the words that the nursery runs; it may be started again."""
 
     name: str
     command: list[str]
@@ -34,7 +97,8 @@ class Process:
     says_ready: bool = True
     environment: dict[str, str] = field(default_factory=dict)
     has_input: bool = False
-    running: asyncio.subprocess.Process | None = None
+    nursery: Nursery | None = None
+    running: asyncio.subprocess.Process | Copy | None = None
     starts: int = 0
 
     @property
@@ -52,10 +116,13 @@ class Process:
         self.starts += 1
         with self.log.open("ab") as log:
             begin = log.tell()
-            self.running = await asyncio.create_subprocess_exec(
-                *self.command, *more, stdin=asyncio.subprocess.PIPE if self.has_input else asyncio.subprocess.DEVNULL, stdout=log, stderr=log,
-                env={**os.environ, **self.environment}, start_new_session=True, preexec_fn=die_with_parent,
-            )
+            if self.nursery is not None:
+                self.running = await self.nursery.begin(self.log, [*self.command, *more])
+            else:
+                self.running = await asyncio.create_subprocess_exec(
+                    *self.command, *more, stdin=asyncio.subprocess.PIPE if self.has_input else asyncio.subprocess.DEVNULL, stdout=log, stderr=log,
+                    env={**os.environ, **self.environment}, start_new_session=True, preexec_fn=die_with_parent,
+                )
         if self.says_ready:
             await self.wait_ready(begin, timeout)
 
@@ -94,8 +161,8 @@ class Process:
 class Processes:
     """All processes of a run."""
 
-    def __init__(self, directory: Path) -> None:
-        self.directory = directory
+    def __init__(self, directory: Path, nursery: Nursery) -> None:
+        self.directory, self.nursery = directory, nursery
         self.by_name: dict[str, Process] = {}
         directory.mkdir(parents=True, exist_ok=True)
 
@@ -103,6 +170,10 @@ class Processes:
         """Adds a process, which is started by `start`."""
         self.by_name[name] = Process(name, command, self.directory, says_ready, environment, has_input)
         return self.by_name[name]
+
+    def add_copy(self, name: str, *words: str) -> None:
+        """Adds a process that the nursery begins, by its module and words."""
+        self.by_name[name] = Process(name, list(words), self.directory, nursery=self.nursery)
 
     def __getitem__(self, name: str) -> Process:
         return self.by_name[name]
@@ -117,6 +188,7 @@ class Processes:
             if process.is_running:
                 process.signal(signal.SIGCONT)
         await asyncio.gather(*(it.kill() for it in self.by_name.values()))
+        await self.nursery.end()
 
 
 # Ports are given out in blocks, below those that connections get, so that nobody takes one before its process listens.
