@@ -91,6 +91,7 @@ check-program:
 	scripts/check-dist
 	scripts/page-test --or-leave-out
 	python3 tests/cluster/checker_cases.py
+	scripts/check-cluster
 	scripts/check-memory
 	scripts/check-threads
 	scripts/check-storm 20

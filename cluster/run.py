@@ -16,6 +16,7 @@ from collections.abc import Awaitable, Callable
 from dataclasses import dataclass, field
 from pathlib import Path
 
+from cluster.controllers.etcd import EtcdFault
 from cluster.faults.handovers import HandoverStory
 from cluster.faults.story import NotOpened
 from cluster.launch.cluster import CALM, ROOT, ROUGH, LocalCluster, program_of
@@ -26,6 +27,7 @@ from cluster.launch.processes import NotReady
 from cluster.launch.shape import Shape, document_of
 from cluster.launch.situations import situations_of
 from cluster.launch.verdict import Verdict, judge
+from cluster.wire import Failed
 
 # The whole story, by the share of a run at which each part begins.
 WHOLE = (
@@ -301,7 +303,7 @@ def main() -> int:
     except NotOpened as why:
         print(f"cluster: {why}", file=sys.stderr)
         return 1
-    except (NotReady, NoLeader, TimeoutError) as why:
+    except (NotReady, NoLeader, TimeoutError, Failed, EtcdFault) as why:
         print(f"cluster: no verdict: {why or type(why).__name__}", file=sys.stderr)
         return NO_VERDICT
     finally:

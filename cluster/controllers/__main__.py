@@ -36,11 +36,14 @@ def routes(member: Member) -> dict[str, Route]:
     async def state(_: bytes) -> Page:
         return Page.of(await figures_of(member))
 
+    async def leads(_: bytes) -> Page:
+        return Page.of({"name": member.settings.name, "leads": member.leads})
+
     async def front(_: bytes) -> Page:
         return Page(page().encode(), "text/html; charset=utf-8")
 
     assert member.controller is not None
-    return {**routes_of(member.controller), "GET /state": state, "GET /": front}
+    return {**routes_of(member.controller), "GET /state": state, "GET /leads": leads, "GET /": front}
 
 
 async def run(told: argparse.Namespace) -> None:

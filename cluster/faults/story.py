@@ -65,7 +65,7 @@ class Story:
 
     async def leader(self) -> str | None:
         """Who leads now."""
-        return (await self.operator.state()).get("name")
+        return await self.operator.find_leader()
 
     @asynccontextmanager
     async def slowed(self, *links: str, longest: float = 0.5, **more: float) -> AsyncIterator[None]:
@@ -107,7 +107,7 @@ class Story:
         """Waits until another one leads, and returns how many seconds that took."""
         begun = time.monotonic()
         while (await self.leader()) in (None, other_than):
-            await asyncio.sleep(0.05)
+            await asyncio.sleep(0.1)
         return time.monotonic() - begun
 
     async def kill_leader(self) -> None:
@@ -180,7 +180,7 @@ class Story:
         while time.monotonic() < until:
             if any(it["what"].startswith("publish") for it in (await self.operator.state()).get("orders", [])):
                 break
-            await asyncio.sleep(0.02)
+            await asyncio.sleep(0.04)
 
     async def reopen_behind_leader(self) -> None:
         """Stops the leading controller while it writes the map, and reopens before it goes on: what it writes then is of an epoch before."""

@@ -108,7 +108,7 @@ class Mover:
                 return told["is"] == "ended"
             if told.get("name") != name and (await self.state()).get("epoch", begun["epoch"]) != begun["epoch"]:
                 return False
-            await asyncio.sleep(0.1)
+            await asyncio.sleep(0.25)
 
     async def empty(self, server: str, seconds: float = 30.0) -> bool:
         """Empties a server, while nothing else is moved to it; tells whether it is empty."""

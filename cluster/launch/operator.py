@@ -67,7 +67,7 @@ class Operator:
 
     async def reopen(self, line: Line) -> Line:
         """Has a reopening begun. Each further `reopen` begins it anew, so this one goes to who leads, and waits long for the reply."""
-        await self.state()
+        await self.find_leader()
         return await self.do(line, self.patience / 4)
 
     async def ask(self, line: Line) -> Line:
@@ -84,11 +84,16 @@ class Operator:
         names = list(self.pages)
         self.leader = names[(names.index(self.leader) + 1) % len(names)]
 
-    async def state(self) -> Line:
-        """What the leader's page shows, or that of any controller that answers."""
-        for name in [self.leader, *self.pages]:
-            told = await self.post(name, "/state", None)
-            if told is not None and told.get("leads"):
+    async def find_leader(self) -> str | None:
+        """Asks controllers whether they lead, and speaks with the one that does from now on; none if nobody does."""
+        for name in dict.fromkeys([self.leader, *self.pages]):
+            told = await self.post(name, "/leads", None)
+            if told is not None and told["leads"]:
                 self.leader = name
-                return told
-        return {}
+                return name
+        return None
+
+    async def state(self) -> Line:
+        """What the leader's page shows, nothing if nobody leads."""
+        leader = await self.find_leader()
+        return (await self.post(leader, "/state", None) if leader is not None else None) or {}

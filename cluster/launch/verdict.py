@@ -90,15 +90,22 @@ async def look_at_reference(verdict: Verdict, reference: list[str] | None, journ
 
 async def audits_of(cluster: LocalCluster, servers: list[str]) -> dict[str, Line]:
     """Asks servers for all their slots, without proxies."""
-    found = {}
-    for name in servers:
-        channel = Channel(Address("127.0.0.1", cluster.ports[name].control))
-        try:
-            found[name] = (await channel.ask(5.0, audit={}))["audit"]
-        except Failed as failed:
-            found[name] = {"slots": [], "known": False, "failed": str(failed)}
+    return dict(zip(servers, await asyncio.gather(*(audit_of(cluster.ports[it].control) for it in servers))))
+
+
+async def audit_of(port: int, tries: int = 4) -> Line:
+    """Asks a server for all its slots, again if it is slow to answer."""
+    channel, why = Channel(Address("127.0.0.1", port)), ""
+    try:
+        for _ in range(tries):
+            try:
+                return (await channel.ask(5.0, audit={}))["audit"]
+            except Failed as failed:
+                why = str(failed)
+                await asyncio.sleep(0.2)
+        return {"slots": [], "known": False, "failed": why}
+    finally:
         channel.close()
-    return found
 
 
 async def map_of(cluster: LocalCluster) -> dict[str, list[Line]]:

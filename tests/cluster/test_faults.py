@@ -1,25 +1,18 @@
-"""The proxies, the operator's promotions, and the figures of a run."""
+"""The proxies, and the figures of a run."""
 import asyncio
 import json
 import logging
-import sys
 import unittest
 from collections import Counter
-from pathlib import Path
-from types import SimpleNamespace
 
-sys.path.append(str(Path(__file__).resolve().parents[2] / "tools"))
 from cluster.faults.__main__ import release, sending
 from cluster.faults.dice import Dice, Rates
 from cluster.faults.proxies import Link, open_proxy
-from cluster.faults.story import Story
 from cluster.launch.figures import handover_waits, order_waits, unacknowledged
 from cluster.launch.moving import Mover
-from cluster.launch.plans import move_stream, plan_of, swap_stream
 from cluster.launch.processes import Ports
 from cluster.launch.shape import Shape, document_of
 from cluster.launch.situations import SITUATIONS, situations_of
-from smpland_model.session import Session
 
 
 async def echo(reader, writer):
@@ -156,67 +149,6 @@ class ProxyTest(unittest.IsolatedAsyncioTestCase):
 
         self.assertEqual(rolls(1), rolls(1))
         self.assertNotEqual(rolls(1), rolls(2))
-
-
-class SessionOperator:
-    """An operator of the reference. After each line that begins a plan, some orders are answered."""
-
-    def __init__(self, shards):
-        self.session, self.patience, self.replies, self.orders = Session(), 12.0, {}, []
-        servers = [{"name": it, "region": "r", "room": 10} for it in "abc"]
-        self.send({"do": "open", "document": {"limit": 1, "servers": servers, "shards": shards}, "journal": "1", "epoch": 1})
-
-    def send(self, line):
-        """Feeds a line, and keeps the orders that it brings."""
-        reply = self.session.reply(json.dumps(line).encode())
-        self.orders += reply.get("orders", [])
-        return reply
-
-    def answer(self, count=100):
-        """Answers the last order that was sent, and those that follow it, up to so many."""
-        while self.orders and count:
-            count -= 1
-            order = self.orders.pop()
-            self.send({"do": "answered", **{it: order[it] for it in ("plan", "stream", "number")}})
-
-    async def do(self, line):
-        """Feeds a line that may change something."""
-        self.replies[line["name"]] = reply = self.send(line)
-        return reply
-
-    async def ask(self, line):
-        """Feeds a line that asks; meanwhile everything that was sent is done."""
-        self.answer()
-        return self.send(line)
-
-    def state(self):
-        """What is recorded."""
-        return self.send({"do": "state"})["state"]
-
-
-class PromotionTest(unittest.IsolatedAsyncioTestCase):
-    """Shards that a reopening left without a primary, while others move."""
-
-    def shard(self, name, primary, secondary):
-        cells = {primary: "primary", secondary: "secondary"} if primary else {"b": "secondary", secondary: "secondary"}
-        return {"name": name, "load": 1, "want": 2, "cap": 1, "spread": 1, "listed": primary,
-                "cells": [{"server": server, "state": state} for server, state in cells.items()]}
-
-    async def test_moves_keep_no_shard_from_its_primary(self):
-        operator = SessionOperator([self.shard("bare", None, "c"), self.shard("moved", "a", "b"), self.shard("swapped", "a", "c")])
-        shards = {it["shard"]: it for it in operator.state()["shards"]}
-        for name, stream in (("handover", move_stream(shards["moved"], "a", "c")), ("swap", swap_stream(shards["swapped"], "a", "c"))):
-            operator.send({"do": "begin", "plan": plan_of([stream]), "name": name})
-            operator.answer(2)
-        cells = {it["shard"]: [cell["state"] for cell in it["cells"]] for it in operator.state()["shards"]}
-        self.assertEqual(cells, {"bare": ["secondary"] * 2, "moved": ["forwarding", "secondary", "prepared"], "swapped": ["secondary"] * 2})
-        story = Story(SimpleNamespace(shape=Shape()), operator, None, 1, lambda text: None)
-        story.lost = set("abc")
-        await story.promote(operator.state())
-        operator.answer()
-        self.assertEqual(sorted("refused" in it for it in operator.replies.values()), [False, True])
-        primaries = {it["shard"]: sum(cell["state"] == "primary" for cell in it["cells"]) for it in operator.state()["shards"]}
-        self.assertEqual(primaries, {"bare": 1, "moved": 1, "swapped": 1})
 
 
 class ShapeTest(unittest.TestCase):

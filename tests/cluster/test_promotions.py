@@ -1,0 +1,81 @@
+"""The operator's promotions of shards that a reopening left without a primary, over the reference.
+
+`python3 tests/cluster/test_promotions.py`
+"""
+import json
+import sys
+import unittest
+from pathlib import Path
+from types import SimpleNamespace
+
+ROOT = Path(__file__).resolve().parents[2]
+sys.path[:0] = [str(ROOT), str(ROOT / "python"), str(ROOT / "tools")]
+from cluster.faults.story import Story  # noqa: E402  (the paths come first)
+from cluster.launch.plans import move_stream, plan_of, swap_stream  # noqa: E402
+from cluster.launch.shape import Shape  # noqa: E402
+from smpland_model.session import Session  # noqa: E402
+
+
+class SessionOperator:
+    """An operator of the reference. After each line that begins a plan, some orders are answered."""
+
+    def __init__(self, shards):
+        self.session, self.patience, self.replies, self.orders = Session(), 12.0, {}, []
+        servers = [{"name": it, "region": "r", "room": 10} for it in "abc"]
+        self.send({"do": "open", "document": {"limit": 1, "servers": servers, "shards": shards}, "journal": "1", "epoch": 1})
+
+    def send(self, line):
+        """Feeds a line, and keeps the orders that it brings."""
+        reply = self.session.reply(json.dumps(line).encode())
+        self.orders += reply.get("orders", [])
+        return reply
+
+    def answer(self, count=100):
+        """Answers the last order that was sent, and those that follow it, up to so many."""
+        while self.orders and count:
+            count -= 1
+            order = self.orders.pop()
+            self.send({"do": "answered", **{it: order[it] for it in ("plan", "stream", "number")}})
+
+    async def do(self, line):
+        """Feeds a line that may change something."""
+        self.replies[line["name"]] = reply = self.send(line)
+        return reply
+
+    async def ask(self, line):
+        """Feeds a line that asks; meanwhile everything that was sent is done."""
+        self.answer()
+        return self.send(line)
+
+    def state(self):
+        """What is recorded."""
+        return self.send({"do": "state"})["state"]
+
+
+class PromotionTest(unittest.IsolatedAsyncioTestCase):
+    """Shards that a reopening left without a primary, while others move."""
+
+    def shard(self, name, primary, secondary):
+        cells = {primary: "primary", secondary: "secondary"} if primary else {"b": "secondary", secondary: "secondary"}
+        return {"name": name, "load": 1, "want": 2, "cap": 1, "spread": 1, "listed": primary,
+                "cells": [{"server": server, "state": state} for server, state in cells.items()]}
+
+    async def test_moves_keep_no_shard_from_its_primary(self):
+        operator = SessionOperator([self.shard("bare", None, "c"), self.shard("moved", "a", "b"), self.shard("swapped", "a", "c")])
+        shards = {it["shard"]: it for it in operator.state()["shards"]}
+        for name, stream in (("handover", move_stream(shards["moved"], "a", "c")), ("swap", swap_stream(shards["swapped"], "a", "c"))):
+            operator.send({"do": "begin", "plan": plan_of([stream]), "name": name})
+            operator.answer(2)
+        cells = {it["shard"]: [cell["state"] for cell in it["cells"]] for it in operator.state()["shards"]}
+        self.assertEqual(cells, {"bare": ["secondary"] * 2, "moved": ["forwarding", "secondary", "prepared"], "swapped": ["secondary"] * 2})
+        story = Story(SimpleNamespace(shape=Shape()), operator, None, 1, lambda text: None)
+        story.lost = set("abc")
+        await story.promote(operator.state())
+        operator.answer()
+        self.assertEqual(sorted("refused" in it for it in operator.replies.values()), [False, True])
+        primaries = {it["shard"]: sum(cell["state"] == "primary" for cell in it["cells"]) for it in operator.state()["shards"]}
+        self.assertEqual(primaries, {"bare": 1, "moved": 1, "swapped": 1})
+
+
+if __name__ == "__main__":
+    unittest.main()
