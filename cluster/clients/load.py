@@ -143,16 +143,15 @@ class Generator:
         """Reads every list, for the checkers."""
         router = self.router(random.Random(0))
         router.stray = 0
-        await asyncio.gather(*(self.read_shard(router, it) for it in self.load.shards))
+        await asyncio.gather(*(self.read_key(router, shard, number) for shard in self.load.shards for number in range(self.load.keys)))
         router.close()
         self.history.flush()
 
-    async def read_shard(self, router: Router, shard: str) -> None:
-        """Reads a shard's lists."""
-        for number in range(self.load.keys):
-            key = f"{shard}:k{number}"
-            line = {"op": "read", "shard": shard, "key": key, "final": True}
-            await self.ask(router, "end", shard, line, None, "LRANGE", key, "0", "-1", seconds=30)
+    async def read_key(self, router: Router, shard: str, number: int) -> None:
+        """Reads one list of a shard."""
+        key = f"{shard}:k{number}"
+        line = {"op": "read", "shard": shard, "key": key, "final": True}
+        await self.ask(router, "end", shard, line, None, "LRANGE", key, "0", "-1", seconds=30)
 
     def figures(self) -> dict:
         """What there was."""

@@ -59,7 +59,7 @@ class Router:
                 if error.kind == "NOTHERE":
                     await self.published.look(asked_at)
             await asyncio.sleep(self.dice.random() * pause)
-            pause = min(pause * 2, 0.2)
+            pause = min(pause * 2, 0.4)
         raise TimeoutError(f"no reply in {seconds} seconds")
 
     def count(self, kind: str) -> None:
