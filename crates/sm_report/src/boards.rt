@@ -181,14 +181,10 @@ fn run_told<
 fn is_step_or_request(event: &Event) -> bool
     ensures { result ≡ is_step_or_request event.now }
 {
-    match event {
-        Event::Step { .. } | Event::Arrive { .. } | Event::PassOn { .. } => true,
-        Event::Lose { .. }
-        | Event::Refill { .. }
-        | Event::Approve { .. }
-        | Event::Done { .. }
-        | Event::Begin { .. } => false,
-    }
+    matches!(
+        event,
+        Event::Step { .. } | Event::Arrive { .. } | Event::PassOn { .. }
+    )
 }
 
 /// Tells whether all events of a log are steps by which no call is lost, and requests.
