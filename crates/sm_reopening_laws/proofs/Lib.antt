@@ -13,3 +13,5 @@ mod Counted
 mod Served
 mod Ordered
 mod OrderedRuns
+mod Carried
+mod Unrecorded

@@ -6,3 +6,5 @@ pub mod Restarts
 pub mod Service
 pub mod ServiceLaws
 pub mod OrderLaws
+pub mod Late
+pub mod Adopting
