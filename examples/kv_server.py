@@ -30,9 +30,9 @@ class Server:
         self.start()
 
     def start(self):
-        """Begins without work, and as Unknown if there is no base."""
+        """Begins without work. If it is Unknown, or there is no base, it asks under a new nonce."""
         with self.db:
-            if self.db.execute("SELECT 1 FROM base").fetchone() is None:
+            if self.db.execute("SELECT 1 FROM base WHERE known").fetchone() is None:
                 self.store_base(agent.forget(secrets.randbits(63) | 1))
             self.abandon_all()
 

@@ -98,12 +98,14 @@ class Checker:
     # -- a server's beginning, and its base
 
     def on_start(self, host: Host, event: dict) -> None:
-        """It has started: with its slots, or Unknown."""
+        """It has started: with its slots, or Unknown and under a new nonce."""
         self.counts["start again with slots"] += event["known"]
         self.counts["start after a crash at work"] += event["at_work"] > 0
         self.counts["start with the proved library"] += event.get("library", False)
-        if event["loses_slots"]:
+        if not event["known"]:
             self.clear(host)
+            if event["nonce"] == host.nonce:
+                self.fault(event, "a start under the nonce of before")
         host.nonce = event["nonce"]
 
     def on_forget(self, host: Host, event: dict) -> None:

@@ -38,14 +38,15 @@ class Server:
     # -- beginning and ending
 
     async def start(self, loses_slots: bool) -> None:
-        """Begins without work, and as Unknown if it has lost its slots or never had any."""
+        """Begins without work, and as Unknown if it has lost its slots or never had any: then under a new nonce, so that no restore finds it
+        that was under way when a reopening gave it up."""
         commands = []
         if loses_slots:
             commands += [("DEL", "base", "slots", "old_owner")]
             self.store.base = Base()
             for shard in self.store.shards.values():
                 shard.slot, shard.old_owner = Slot(), None
-        if not self.store.base.known and not self.store.base.nonce:
+        if not self.store.base.known:
             self.store.base = agent.forget(nonce())
             commands += self.store.base_commands(self.store.base)
         at_work = [it for it in self.store.shards.values() if it.slot.at_work]

@@ -167,7 +167,7 @@ def late_order(kind):
     want(b.slot(SHARD).cell, Cell.ABSENT)
 
 
-# -- 7: Unknown after losing its state
+# -- 7: Unknown after losing its state, under a new nonce at each start
 
 class ComesBackEmpty(Server):
     """Takes an empty disk for that of a server that has nothing."""
@@ -185,6 +185,29 @@ def lost_state(kind):
         b.forget()
     answered(b, HANDOVER[2])
     want([it.request(SHARD, "read", ("get", "k")) for it in (a, b)], ["", Answer.NOT_HERE])
+
+
+class KeepsItsNonce(Server):
+    """Starts under the nonce that it has stored."""
+    def start(self):
+        has_base = self.db.execute("SELECT 1 FROM base").fetchone() is not None
+        stored = self.base() if has_base else None
+        super().start()
+        if stored is not None:
+            with self.db:
+                self.store_base(stored)
+
+
+def given_up(kind):
+    a, b = pair(kind, Cell.SECONDARY)
+    with a.db:
+        a.forget()
+    nonce = a.base().nonce
+    b.fence(JOURNAL, 100)
+    want(b.settle(JOURNAL, 100, None, {SHARD: Slot(cell=Cell.PRIMARY, load=1)}), True)
+    a.start()
+    a.restore(JOURNAL, 0, 50, nonce, {SHARD: Slot(cell=Cell.PRIMARY, load=1)})
+    want([push(it, "r1", "x") for it in (a, b)], [Answer.NOT_HERE, "x"])
 
 
 # -- 8: a write is acknowledged when each live secondary has it
@@ -207,7 +230,7 @@ def lost_for_good(kind):
 
 RULES = ((CommitsFirst, crash_amid_copy), (ForgetsRequests, repeat_after_handover), (AnswersAtOnce, crash_at_work),
          (IgnoresTheCut, write_under_way), (KeepsWork, crash_and_repeat), (DeletesAtDrop, late_order), (ComesBackEmpty, lost_state),
-         (AcknowledgesAlone, lost_for_good))
+         (KeepsItsNonce, given_up), (AcknowledgesAlone, lost_for_good))
 
 
 def whole_handover(kind):
@@ -234,7 +257,7 @@ def main():
         except AssertionError:
             continue
         sys.exit(f"{kind.__name__} does no harm in {schedule.__name__}")
-    print(f"{len(RULES)} rules: their schedules do harm at servers that break them, and none at the example")
+    print(f"the eight rules: {len(RULES)} schedules do harm at servers that break them, and none at the example")
 
 
 if __name__ == "__main__":

@@ -124,6 +124,11 @@ def settled(it: History, a: dict, b: dict) -> History:
     return it.add("a", "settle", base=2 * STEP, slots=a, nonce=None).add("b", "settle", base=2 * STEP, slots=b, nonce=None)
 
 
+def started(it: History, nonce: str) -> History:
+    """A start of b without slots."""
+    return it.add("b", "start", loses_slots=False, known=False, at_work=0, nonce=nonce)
+
+
 ANSWERED = [{"plan": 0, "stream": 0, "number": STEP + 1}]
 RIGHT_SERVERS = {
     "a handover": lambda it: it.write("a").handover().write("b").found(),
@@ -134,6 +139,9 @@ RIGHT_SERVERS = {
         {"s": ["primary", 1]}, {}).write("a", 2).found(),
     "answers": lambda it: it.order("b", "prepare_add", "prepared").found(orders=[order_line("b", 1)], answered=ANSWERED),
     "a restart of a server that has nothing": lambda it: it.add("b", "permit", down=True).add("b", "permit", down=False).found(),
+    "an Unknown server that starts, and meets the fence of before": lambda it: started(
+        it.add("b", "forget", before=STEP, nonce="k").add("b", "fence", base=2 * STEP, slots={}, at_work=0, nonce="m"), "n")
+        .add("b", "fence", base=2 * STEP, slots={}, at_work=0, nonce="o").found(),
     "a restore": lambda it: it.add("b", "forget", before=STEP, nonce="k").add("b", "restore", base=STEP + 1, slots={}, nonce="k").found(),
 }
 WRONG_SERVERS = {
@@ -156,6 +164,9 @@ WRONG_SERVERS = {
     "and was write": lambda it: it.write("a", identity="x").handover().write("b", identity="x").found(),
     "taken twice": lambda it: it.add("a", "settle", base=STEP, slots={"s": ["primary", 0]}, nonce=None).found(),
     "did not ask for": lambda it: it.add("b", "forget", before=STEP, nonce="k").add("b", "restore", base=STEP + 1, slots={}, nonce="old").found(),
+    "a restore that it did not ask for": lambda it: started(it.add("b", "forget", before=STEP, nonce="k"), "n").add(
+        "b", "restore", base=STEP + 1, slots={}, nonce="k").found(),
+    "under the nonce of before": lambda it: started(it.add("b", "forget", before=STEP, nonce="k"), "k").found(),
     "at or below its base": lambda it: it.add("a", "fence", base=STEP, slots={}, at_work=0, nonce="m").found(),
     "is not what the first": lambda it: it.write("a", identity="x").found(data=[{"server": "a", "state": "primary", "position": 1, "values": {"k": []}}]),
     "writes of 1": lambda it: it.write("a").found(data=[{"server": "a", "state": "primary", "position": 2, "values": {}}]),

@@ -157,6 +157,15 @@ class Reopening(unittest.TestCase):
         it.fence(Fence(1, BASE_STEP, 9), NOBODY, [0])
         self.assertFalse(it.restore(Restore(1, it.nonce, 9, 0, 100, slots)))
 
+    def test_a_start_keeps_slots_but_no_nonce(self):
+        it = Server(1, 1, SOUND, nonce=5)
+        it.fence(Fence(1, BASE_STEP, 9), NOBODY, [0])
+        it.start()
+        self.assertEqual((it.nonce, it.base, it.is_fenced), (7, 0, False))
+        self.assertTrue(it.restore(Restore(1, 7, 9, 0, 100, (SlotTold(SECONDARY, 4),))))
+        it.start()
+        self.assertEqual((it.is_known, it.base, it.cell(0)), (True, 100, SECONDARY))
+
     def test_a_stale_server_turns_unknown(self):
         it = server(SECONDARY)
         it.notice(Notice(1, 8, BASE_STEP))

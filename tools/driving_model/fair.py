@@ -17,8 +17,7 @@ def finish_all(world: World, operator: Operator) -> None:
     world.say("--- from here on all is fair")
     for host in world.hosts:
         if not host.is_alive and not host.is_lost:
-            host.is_alive = True
-            host.server.abandon()
+            host.start()
     idle = reopened = 0
     for _ in range(MOST_TURNS):
         before = fingerprint(world)

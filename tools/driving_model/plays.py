@@ -197,6 +197,21 @@ def restore_behind_a_fence(rules: Rules) -> None:
     play.deliver(late)
 
 
+def restore_of_a_server_given_up(rules: Rules) -> None:
+    """A primary forgets, asks and crashes. A reopening gives it up as lost, and its shard to a secondary. Then it starts,
+    and meets the restore of before."""
+    play = Play(rules, (PRIMARY, SECONDARY, ABSENT), want=2)
+    play.lose_and_ask(0)
+    late, host = play.sent_to(0, Restore)[-1], play.world.hosts[0]
+    host.is_alive = False
+    play.reopen(frozenset({1, 2}), frozenset({0}))
+    play.turn()
+    play.confirm(ABSENT, PRIMARY, ABSENT)
+    play.turn()
+    host.start()
+    play.deliver(late)
+
+
 def settle_comes_again(rules: Rules) -> None:
     """A settle comes again when a later order has changed its slots."""
     play = Play(rules, (PRIMARY, ABSENT, ABSENT), want=1)
@@ -310,8 +325,7 @@ def crash_at_work(rules: Rules) -> None:
     play.world.deliver(play.sent_to(1, Order)[-1])
     host = play.world.hosts[1]
     host.stop()
-    if rules.work_abandoned:
-        host.server.abandon()
+    host.start()
     play.finish_all()
 
 
@@ -383,6 +397,7 @@ PLAYS = (
     Worked(order_before_a_restore, "restore_base_high"),
     Worked(restore_in_a_reopening, "restore_at_rest"),
     Worked(restore_behind_a_fence, "restore_above_fence", beside=("settle_nonce",)),
+    Worked(restore_of_a_server_given_up, "start_nonce"),
     Worked(settle_comes_again, "settle_once"),
     Worked(secondary_tells_too_early, "survivor_rank"),
     Worked(silent_secondary_has_all, "carried_copy"),

@@ -47,6 +47,9 @@ class Rules:
     old_owner_acknowledges: bool = rule("In a handover a write is acknowledged only when the old owner has it, too.")
     # Restoring.
     restore_nonce: bool = rule("A restore is taken for the server's present nonce alone.")
+    start_nonce: bool = rule(
+        "An Unknown server makes a new nonce at every start, so no restore of before finds it once it was given up."
+    )
     restore_whole_journal: bool = rule(
         "A restore comes from a controller with the whole journal, since it is an entry of it."
     )

@@ -270,10 +270,8 @@ class Schedule:
 
     def come_back(self, host: Host, forgets: bool) -> None:
         """A server starts, with or without its slots."""
-        host.is_alive = True
+        host.start()
         self.world.say("server", host.number, "comes back", "without slots" if forgets else "")
-        if self.rules.work_abandoned:
-            host.server.abandon()
         if forgets:
             self.world.lose(host)
 

@@ -90,6 +90,13 @@ class Server:
     def __post_init__(self) -> None:
         self.slots = [Slot() for _ in range(self.shard_count)]
 
+    def start(self) -> None:
+        """It begins without work, and under a new nonce if it is Unknown."""
+        if self.rules.work_abandoned:
+            self.abandon()
+        if not self.is_known and self.rules.start_nonce:
+            self.forget()
+
     def forget(self) -> None:
         """It loses its slots and its base, and makes a new nonce."""
         self.journal, self.base, self.is_fenced, self.is_known = None, 0, False, False

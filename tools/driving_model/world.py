@@ -52,6 +52,11 @@ class Host:
         """Its work and its requests end; its slots stay."""
         self.workers, self.running = [], []
 
+    def start(self) -> None:
+        """Messages come to it again."""
+        self.is_alive = True
+        self.server.start()
+
     def ask(self) -> commands.RestoreServer:
         """What it asks, being Unknown."""
         return commands.RestoreServer(self.number, self.server.nonce)
