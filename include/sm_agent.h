@@ -183,7 +183,7 @@ uint32_t sm_route(const sm_base *base, const sm_slot *slot, uint64_t applied, co
 /* ---- The server as a whole ---- */
 
 /* Makes the base that of a server that has lost its slots, and asks for them under `nonce`: a fresh random number, not 0. Delete the slots, and
- * keep the data. */
+ * keep the data. Call it also at each start of a server that is Unknown. */
 void sm_forget(sm_base *base, uint64_t nonce);
 
 /* Decides what becomes of a fence: SM_TAKEN, SM_AGAIN (answer it again) or SM_IGNORED. Call it when no request of a slot in a handover runs. If it is

@@ -58,6 +58,7 @@ NOTES = {
     "order_acts_once": NOTHING,
     "old_orders_rest": NOTHING,
     "can_open": NOTHING,
+    "versions_never_go_back": "the shown servers",
     "late_changes_nothing": "servers fenced or Unknown: `late_is_overtaken` does",
     "late_is_overtaken": "what it executes until it hears of that",
     "overtaken_commits_nothing": "requests",

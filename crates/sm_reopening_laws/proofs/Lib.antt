@@ -15,3 +15,4 @@ mod Ordered
 mod OrderedRuns
 mod Carried
 mod Unrecorded
+mod MapVersions

@@ -8,3 +8,4 @@ pub mod ServiceLaws
 pub mod OrderLaws
 pub mod Late
 pub mod Adopting
+pub mod Versions

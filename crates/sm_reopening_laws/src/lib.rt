@@ -6,6 +6,7 @@ mod in_force;
 mod late;
 mod law;
 mod play;
+mod versions;
 
 pub use adopt::settles_without_record;
 pub use in_force::fleet_is_there;
@@ -18,3 +19,4 @@ pub use law::{
     permit_ends_once, rules_keep_floors, service_is_safe,
 };
 pub use play::keeps_two;
+pub use versions::versions_never_go_back;

@@ -1,0 +1,13 @@
+//! The published map over all epochs and reopenings.
+ghost use Rattle.sm_reopening_laws.specs.Service.{EachService};
+ghost use Rattle.sm_reopening_laws.specs.Versions.{VersionsNeverGoBack};
+
+use sm_network::{fleet_opens_in_force, map_never_goes_back};
+
+/// States that wherever events lead, reopenings among them, no version that the map shows goes back.
+pub fn versions_never_go_back()
+    ensures { EachService VersionsNeverGoBack }
+{
+    fleet_opens_in_force();
+    map_never_goes_back();
+}
