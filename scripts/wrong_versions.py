@@ -29,6 +29,7 @@ class Edit:
         for path, old, new in replacements(file):
             self.replace(path, old, new)
         self.spans = sorted(it for path, text in self.texts.items() for it in spans(path, text_of(crate, path), text))
+        self.path = self.spans[0][0] if self.spans else None
         if not self.spans:
             raise Wrong("it changes nothing")
         self.functions = [f"{crate}::{it}" for it in said_in(file, "by")]
@@ -71,7 +72,7 @@ class Edit:
         """What is to be written in place of what, by file: its own spans, or the twin behind its function."""
         if self.number == 1:
             return self.spans
-        path, of = self.spans[0][0], self.of
+        path, of = self.path, self.of
         twin = text_of(self.crate, path)[: of.end]
         for _, start, end, new in reversed(self.spans):
             twin = twin[:start] + new + twin[end:]
@@ -84,8 +85,8 @@ class Edit:
         was, new = (f"{folder}/proofs/{self.of.place(number)}" for number in (1, self.number))
         module = self.of.place().replace("/", r"\.")
         for file in os.listdir(was) if was != new and os.path.isdir(was) else []:
-            text = read(f"{was}/{file}").removesuffix(UNOFFERED)
-            write(f"{new}/{file}", re.sub(rf"(\bRattle\.{self.crate}\.(?:proofs|specs\.contracts)\.{module})(?![\w-])", rf"\1_{self.number}", text))
+            if text := read(f"{was}/{file}").removesuffix(UNOFFERED):
+                write(f"{new}/{file}", re.sub(rf"(\bRattle\.{self.crate}\.(?:proofs|specs\.contracts)\.{module})(?![\w-])", rf"\1_{self.number}", text))
 
     def offer_nothing(self, folder):
         """Has a check print no proof of its functions, in a copy of the crate."""
@@ -96,6 +97,17 @@ class Edit:
             for place in filter(os.path.isdir, (own, shared)):
                 with open(f"{place}/Answers.antt", "a", encoding="utf-8") as it:
                     it.write(UNOFFERED)
+
+
+class Unedited(Edit):
+    """A twin of an edit's function as it stands, which has to be proved beside the edits."""
+
+    def __init__(self, edit, number):
+        self.crate, self.name, self.path, self.of, self.number = edit.crate, edit.functions[0], edit.path, edit.of, number
+        self.spans, self.functions, self.is_alone = [], edit.functions, False
+
+    def offer_nothing(self, folder):
+        pass
 
 
 def spans(path, old, new):
@@ -204,6 +216,12 @@ def clash(a, b):
     """Whether two edits are of one function or touch each other, or one has to be alone."""
     touch = any(x[0] == y[0] and x[1] <= y[2] and y[1] <= x[2] for x in a.spans for y in b.spans)
     return a.is_alone or b.is_alone or touch or not {*a.functions}.isdisjoint(b.functions)
+
+
+def unedited_of(batch):
+    """A further twin, as it stands, of each function that edits of a batch are of and that can have one."""
+    last = {it.functions[0]: it for it in sorted(batch, key=lambda it: it.number) if it.of}
+    return [Unedited(it, it.number + 1) for it in last.values()]
 
 
 def names_of(batch):
