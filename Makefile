@@ -120,7 +120,7 @@ page-test: ## loads the tools' pages in Debian's chromium, and writes pictures t
 	scripts/page-test
 
 # (over the program as it is now, and not as the gate may have built it before)
-storm: ## makes 1,000 runs of a plan of 64 streams, beside clients and restarts; kills build/smpland 1,000 times, refuses each of its calls, spoils 100,000 lines
+storm: ## makes 1,000 runs of 64 streams, beside clients, restarts and halts, with lost calls or two plans; kills build/smpland 1,000 times, refuses each of its calls, spoils 100,000 lines
 	rm -f crates/board_trials/out/board_trials
 	scripts/check-storm
 	scripts/check-smpland-kills 1000

@@ -11,7 +11,7 @@ ghost use Rattle.board_runs.specs.Ran.{BeginsAs};
 use crate::fault::Fault;
 use sm_executor::Ground;
 use sm_machine::{Machine, OpenFault, Permit, StreamToken};
-use sm_placement::Placement;
+use sm_placement::{Config, Placement};
 use sm_protocol::BeginFault;
 use sm_verifier::Checked;
 use std::alloc::Global;
@@ -27,15 +27,15 @@ pub(crate) struct Begun {
     ghost few: { length tokens.items ≤ MOST_STREAMS * length (state_of machine).plans },
 }
 
-/// Tells whether the plan was checked for the placement's configuration.
-fn is_for(placement: &Placement, checked: &Checked) -> bool
-    ensures { IsTrue result → checked.now.setup ≡ placement.now.setup }
+/// Tells whether the plan was checked for this configuration.
+pub(crate) fn is_for(config: &Config, checked: &Checked) -> bool
+    ensures { IsTrue result → checked.now.setup ≡ config.now }
 {
-    checked.config() == placement.config()
+    checked.config() == config
 }
 
 /// Returns the answer to a run whose plan does not begin.
-fn fault_of(why: &BeginFault) -> Fault {
+pub(crate) fn fault_of(why: &BeginFault) -> Fault {
     match why {
         BeginFault::NoMemory => Fault::NoMemory,
         _ => Fault::NotBegun,
@@ -81,7 +81,7 @@ impl Begun {
         ensures setup { IfOk result (λ begun. begun.machine.placement.setup ≡ placement.setup) }
         ensures begun { IfOk result (λ begun. BeginsAs (opened (sizes_of placement.setup) (place_of placement) places) checked.plan (state_of begun.machine)) }
     {
-        if !placement.settled() || !is_for(&placement, &checked) {
+        if !placement.settled() || !is_for(placement.config(), &checked) {
             return Err(Fault::NoMachine);
         }
         match Machine::open(alloc, placement, places) {

@@ -5,6 +5,7 @@ mod begun;
 mod crew;
 mod fault;
 mod finish;
+mod mishaps;
 mod run;
 mod scope;
 mod stage;
@@ -13,5 +14,7 @@ mod worker;
 
 pub use fault::Fault;
 pub use finish::Finish;
+pub use mishaps::{Mishaps, scattered};
 pub use run::run_at;
+pub use streams::MOST_HALTS;
 pub use worker::Worker;

@@ -3,6 +3,7 @@ ghost use Rattle.std.specs.Prelude.{◌≡◌, length};
 
 use crate::crew::Seat;
 use crate::finish::Finish;
+use crate::mishaps::Mishaps;
 use crate::streams::Streams;
 use crate::worker::Worker;
 use sm_executor::{Board, Gate, Naming};
@@ -69,12 +70,13 @@ fn start_beside<
     finish: &'r Finish,
     workers: &'r [W],
     gate: &'r G,
+    mishaps: &'r Mishaps,
     lent: Lent<'r, A, B, C, N>,
 ) -> bool {
     let Lent { seats, streams } = lent;
     let all = start_workers(scope, rt, board, finish, workers, seats);
     if all {
-        streams.run(rt, alloc, board, gate);
+        streams.run(rt, alloc, board, gate, mishaps);
     }
     finish.reach();
     all
@@ -95,6 +97,7 @@ pub(crate) fn run_all<
     board: &Board<A, B, C, N>,
     workers: &[W],
     gate: &G,
+    mishaps: &Mishaps,
     seats: &mut [Seat<B, C, N>],
     streams: &mut Streams<A>,
 ) -> bool
@@ -107,6 +110,6 @@ pub(crate) fn run_all<
         streams: &mut *streams,
     };
     thread::scope(thread::scope_env(), rt, move |scope| {
-        start_beside(scope, rt, alloc, board, end, workers, gate, lent)
+        start_beside(scope, rt, alloc, board, end, workers, gate, mishaps, lent)
     })
 }

@@ -5,13 +5,14 @@ ghost use Rattle.sm_machine.specs.State.{state_of};
 ghost use Rattle.sm_executor.specs.Names.{IsLedgerOf};
 ghost use Rattle.board_runs.specs.Ran.{IsDoneAt};
 
-use crate::begun::{Begun, Prepared};
+use crate::begun::{Begun, Prepared, fault_of, is_for};
 use crate::crew::Crew;
 use crate::fault::Fault;
 use crate::streams::Streams;
 use sm_executor::{Board, Naming, NotClosed, NotOpened};
 use sm_machine::{Permit, StreamToken};
 use sm_placement::Placement;
+use sm_verifier::Checked;
 use std::alloc::Global;
 use std::sync::Wait;
 use std::sync::ledger::Ledger;
@@ -102,6 +103,37 @@ impl<A: Ledger, B: Ledger, C: Ledger, N: Naming> Stage<A, B, C, N> {
                 machine.give_up(tokens, permits, Vec::new(alloc));
                 Err(Fault::NoMemory)
             }
+        }
+    }
+
+    /// Begins another plan on the board, whose streams are to run beside the others.
+    pub fn begin<R: Wait>(&mut self, rt: &R, alloc: Global, checked: Checked) -> Result<(), Fault> {
+        if !is_for(self.board.config(), &checked) {
+            return Err(Fault::NotBegun);
+        }
+        let count = checked.plan().streams().len();
+        if self.streams.make_room(count).is_err() {
+            return Err(Fault::NoMemory);
+        }
+        match self.board.begin(rt, alloc, checked) {
+            Ok(runners) => {
+                self.streams.join(runners);
+                Ok(())
+            }
+            Err((_checked, why)) => Err(fault_of(&why)),
+        }
+    }
+
+    /// Begins another plan on the board, if there is one.
+    pub fn begin_beside<R: Wait>(
+        &mut self,
+        rt: &R,
+        alloc: Global,
+        beside: Option<Checked>,
+    ) -> Result<(), Fault> {
+        match beside {
+            Some(checked) => self.begin(rt, alloc, checked),
+            None => Ok(()),
         }
     }
 

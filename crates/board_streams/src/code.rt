@@ -9,6 +9,11 @@ pub(crate) fn behind(shape: &Shape, stream: u32, by: u32) -> u32 {
     stream.wrapping_add(by) % shape.streams.max(1)
 }
 
+/// Returns the shard of the stream that comes `by` behind another one, if that of the first stream is `from`.
+pub(crate) fn shard_behind(shape: &Shape, from: u32, stream: u32, by: u32) -> u32 {
+    from.wrapping_add(behind(shape, stream, by))
+}
+
 /// Adds the handover of a primary from one server to another.
 fn push_handover(
     code: &mut Vec<Instr>,
@@ -65,15 +70,23 @@ fn push_exchange(
 
 /// Adds the instructions of a stream: a turn with its own shard, one with that of the next stream and one with that of
 /// the stream after it, which gets a secondary at last.
-fn push_code(code: &mut Vec<Instr>, shape: &Shape, stream: u32) -> Result<(), AllocError> {
-    let (next, last) = (behind(shape, stream, 1), behind(shape, stream, 2));
+fn push_code(
+    code: &mut Vec<Instr>,
+    shape: &Shape,
+    from: u32,
+    stream: u32,
+) -> Result<(), AllocError> {
+    let own = shard_behind(shape, from, stream, 0);
+    let next = shard_behind(shape, from, stream, 1);
+    let last = shard_behind(shape, from, stream, 2);
     let (first, second) = (u64::from(shape.first), u64::from(shape.second));
-    push_turn(code, stream, 0, shape.first)?;
-    push_exchange(code, stream, stream, next)?;
+    let neighbour = behind(shape, stream, 1);
+    push_turn(code, own, 0, shape.first)?;
+    push_exchange(code, own, stream, neighbour)?;
     push_turn(code, next, first, shape.second)?;
     let (given, awaited) = (
         shape.streams.wrapping_add(stream),
-        shape.streams.wrapping_add(next),
+        shape.streams.wrapping_add(neighbour),
     );
     push_exchange(code, next, given, awaited)?;
     push_turn(code, last, first + second, shape.third)?;
@@ -86,8 +99,13 @@ fn push_code(code: &mut Vec<Instr>, shape: &Shape, stream: u32) -> Result<(), Al
 }
 
 /// Returns the instructions of a stream.
-pub(crate) fn code_of(alloc: Global, shape: &Shape, stream: u32) -> Result<Vec<Instr>, AllocError> {
+pub(crate) fn code_of(
+    alloc: Global,
+    shape: &Shape,
+    from: u32,
+    stream: u32,
+) -> Result<Vec<Instr>, AllocError> {
     let mut code = Vec::new(alloc);
-    push_code(&mut code, shape, stream)?;
+    push_code(&mut code, shape, from, stream)?;
     Ok(code)
 }

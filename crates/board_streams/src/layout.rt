@@ -7,13 +7,15 @@ use sm_placement::{Config, OpenFault, Placement, Server, Shard};
 use sm_server::{Cell, ServerId, ShardId};
 use std::alloc::{AllocError, Global};
 
-/// The number of streams of a plan, and how often a stream hands a primary over in each of its three turns.
+/// The number of streams of a plan, how often a stream hands a primary over in each of its three turns, and its tries
+/// for calls that get lost.
 #[derive(Clone, Copy, Debug, PartialEq, Eq)]
 pub struct Shape {
     pub streams: u32,
     pub first: u32,
     pub second: u32,
     pub third: u32,
+    pub retries: u32,
 }
 
 /// The number of servers.

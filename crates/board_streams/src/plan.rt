@@ -1,7 +1,7 @@
 //! The plan of a shape.
 ghost use Rattle.std.specs.Prelude.{◌≡◌, IfOk};
 
-use crate::code::{behind, code_of};
+use crate::code::{code_of, shard_behind};
 use crate::fault::Fault;
 use crate::layout::{Shape, moves_of, primary_of, secondary_of};
 use sm_placement::{Config, Lead};
@@ -60,10 +60,10 @@ fn rights_of(alloc: Global, shard: u32, moved: u64) -> Result<Parcel, Fault> {
 }
 
 /// Returns what a stream holds at its start: the rights to go on with its shard, and to add the secondary.
-fn holds_of(alloc: Global, shape: &Shape, stream: u32) -> Result<Parcel, Fault> {
+fn holds_of(alloc: Global, shape: &Shape, from: u32, stream: u32) -> Result<Parcel, Fault> {
     let mut lists = no_rights(alloc);
-    push_rights(&mut lists, stream, 0)?;
-    push_secondary(&mut lists, behind(shape, stream, 2))?;
+    push_rights(&mut lists, shard_behind(shape, from, stream, 0), 0)?;
+    push_secondary(&mut lists, shard_behind(shape, from, stream, 2))?;
     Ok(Parcel::new(alloc, lists)?)
 }
 
@@ -72,28 +72,29 @@ fn calls_of(shape: &Shape) -> u32 {
     (4 * moves_of(shape) + 1).min(u64::from(MOST_CALLS)) as u32
 }
 
-/// Returns the number of calls of all streams, if that is within the limit of a plan.
+/// Returns the number of calls and retries of all streams, if that is within the limit of a plan.
 fn budget_of(shape: &Shape) -> u32 {
-    let calls = u64::from(calls_of(shape)) * u64::from(shape.streams);
-    calls.min(u64::from(MOST_CALLS)) as u32
+    let tries = u64::from(calls_of(shape)) + u64::from(shape.retries);
+    let all = tries.wrapping_mul(u64::from(shape.streams));
+    all.min(u64::from(MOST_CALLS)) as u32
 }
 
 /// Returns a stream.
-fn stream_of(alloc: Global, shape: &Shape, stream: u32) -> Result<Stream, Fault> {
-    let holds = holds_of(alloc, shape, stream)?;
+fn stream_of(alloc: Global, shape: &Shape, from: u32, stream: u32) -> Result<Stream, Fault> {
+    let holds = holds_of(alloc, shape, from, stream)?;
     Ok(Stream {
         budget: calls_of(shape),
-        retries: 0,
-        code: code_of(alloc, shape, stream)?,
+        retries: shape.retries,
+        code: code_of(alloc, shape, from, stream)?,
         holds,
     })
 }
 
 /// Returns the streams.
-fn streams_of(alloc: Global, shape: &Shape) -> Result<Vec<Stream>, Fault> {
+fn streams_of(alloc: Global, shape: &Shape, from: u32) -> Result<Vec<Stream>, Fault> {
     let mut streams = Vec::new(alloc);
     for stream in 0..shape.streams {
-        streams.push(stream_of(alloc, shape, stream)?)?;
+        streams.push(stream_of(alloc, shape, from, stream)?)?;
     }
     Ok(streams)
 }
@@ -104,30 +105,32 @@ fn push_signals(
     alloc: Global,
     signals: &mut Vec<Parcel>,
     shape: &Shape,
+    from: u32,
     by: u32,
     moved: u64,
 ) -> Result<(), Fault> {
     for stream in 0..shape.streams {
-        signals.push(rights_of(alloc, behind(shape, stream, by), moved)?)?;
+        let shard = shard_behind(shape, from, stream, by);
+        signals.push(rights_of(alloc, shard, moved)?)?;
     }
     Ok(())
 }
 
 /// Returns what the signals carry: those behind the first turns, and those behind the second ones.
-fn signals_of(alloc: Global, shape: &Shape) -> Result<Vec<Parcel>, Fault> {
+fn signals_of(alloc: Global, shape: &Shape, from: u32) -> Result<Vec<Parcel>, Fault> {
     let (first, second) = (u64::from(shape.first), u64::from(shape.second));
     let mut signals = Vec::new(alloc);
-    push_signals(alloc, &mut signals, shape, 0, first)?;
-    push_signals(alloc, &mut signals, shape, 1, first + second)?;
+    push_signals(alloc, &mut signals, shape, from, 0, first)?;
+    push_signals(alloc, &mut signals, shape, from, 1, first + second)?;
     Ok(signals)
 }
 
 /// Returns the parts of the plan of a shape.
-fn parts_of(alloc: Global, shape: &Shape) -> Result<Parts, Fault> {
-    let streams = streams_of(alloc, shape)?;
+fn parts_of(alloc: Global, shape: &Shape, from: u32) -> Result<Parts, Fault> {
+    let streams = streams_of(alloc, shape, from)?;
     Ok(Parts {
         budget: budget_of(shape),
-        signals: signals_of(alloc, shape)?,
+        signals: signals_of(alloc, shape, from)?,
         streams,
     })
 }
@@ -145,11 +148,11 @@ fn checked(alloc: Global, config: &Config, plan: Plan) -> Result<Checked, Fault>
     }
 }
 
-/// Returns the plan of a shape, checked for the configuration.
-pub fn plan_of(alloc: Global, config: &Config, shape: &Shape) -> Result<Checked, Fault>
+/// Returns the plan of a shape, checked for the configuration. The shards of its streams are those from `from` on.
+pub fn plan_of(alloc: Global, config: &Config, shape: &Shape, from: u32) -> Result<Checked, Fault>
     ensures { IfOk result (λ checked. checked.setup ≡ config.now) }
 {
-    match Plan::new(parts_of(alloc, shape)?) {
+    match Plan::new(parts_of(alloc, shape, from)?) {
         Ok(plan) => checked(alloc, config, plan),
         Err(_) => Err(Fault::TooLarge),
     }

@@ -17,6 +17,12 @@ pub(crate) enum Fault {
     /// A restart was not made that had to be.
     #[error("a restart was denied, or did not end")]
     NoRestart,
+    /// No halt stopped the streams of a run that has halts.
+    #[error("no halt stopped the streams")]
+    NotHalted,
+    /// No call was lost in a run that loses calls.
+    #[error("no call was lost")]
+    NoneLost,
     /// Most requests were not executed.
     #[error("most requests were not executed")]
     NotExecuted,

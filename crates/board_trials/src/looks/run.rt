@@ -2,7 +2,7 @@
 use crate::fault::Fault;
 use crate::looks::looker::Looker;
 use crate::looks::measured::Measured;
-use board_runs::run_at;
+use board_runs::{Mishaps, run_at};
 use board_streams::{Shape, config_of, placement_before, plan_of};
 use sm_executor::Open;
 use std::alloc::{AllocError, Global};
@@ -16,6 +16,7 @@ pub(crate) const LARGE: Shape = Shape {
     first: 400,
     second: 400,
     third: 10,
+    retries: 0,
 };
 
 /// Small enough to be run if nothing is measured.
@@ -24,6 +25,7 @@ pub(crate) const SMALL: Shape = Shape {
     first: 1,
     second: 1,
     third: 1,
+    retries: 0,
 };
 
 /// The number of places of a run's log: more than there are steps.
@@ -46,9 +48,12 @@ fn run_shape<R: Threads + Wait + Clock + Sync>(
     lookers: &[Looker],
 ) -> Result<(), Fault> {
     let config = config_of(alloc, shape)?;
-    let checked = plan_of(alloc, &config, shape)?;
+    let checked = plan_of(alloc, &config, shape, 0)?;
     let before = placement_before(alloc, &config, shape)?;
-    match run_at(rt, alloc, before, PLACES, checked, lookers, &Open) {
+    let mishaps = Mishaps::without_losses();
+    match run_at(
+        rt, alloc, before, PLACES, checked, None, lookers, &Open, &mishaps,
+    ) {
         Ok(_) => Ok(()),
         Err(fault) => Err(Fault::NotRun(fault)),
     }

@@ -1,16 +1,9 @@
-//! The random parts of a storm: numbers that a seed gives, and gates that yield by them.
+//! Gates that yield at random.
+use board_runs::scattered;
 use sm_executor::Gate;
 use sm_reservation::StreamId;
 use std::sync::Wait;
 use std::thread;
-
-/// Returns the number that follows another one, in an order that looks random.
-pub(crate) fn scattered(number: u64) -> u64 {
-    let a = number.wrapping_add(0x9e37_79b9_7f4a_7c15);
-    let b = (a ^ (a >> 30)).wrapping_mul(0xbf58_476d_1ce4_e5b9);
-    let c = (b ^ (b >> 27)).wrapping_mul(0x94d0_49bb_1331_11eb);
-    c ^ (c >> 31)
-}
 
 /// A gate that yields at random, before a step and after it.
 #[derive(Clone, Copy)]

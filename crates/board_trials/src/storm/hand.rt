@@ -1,9 +1,8 @@
-//! Hands, which work beside the streams of a run: some ask, and one restarts servers.
-ghost use Rattle.std.specs.Prelude.{◌<◌, IfSome};
+//! Hands, which work beside the streams of a run: some ask, one restarts servers, and one may halt the streams.
+ghost use Rattle.std.specs.Prelude.{◌<◌, IfSome, length};
 
-use crate::storm::gusts::scattered;
-use crate::storm::world::{RESTED, RESTING};
-use board_runs::{Finish, Worker};
+use crate::storm::world::{RESTED, RESTING, SHAPE};
+use board_runs::{Finish, MOST_HALTS, Worker, scattered};
 use sm_executor::{Board, Caller, Naming};
 use sm_machine::Permit;
 use sm_router::{Asked, ask};
@@ -20,6 +19,12 @@ pub(crate) const ASKS: u64 = 64;
 /// The number of restarts of servers that no stream mentions, and that of tries with any server.
 pub(crate) const RESTARTS: u64 = 32;
 
+/// The number of halts of a run that has some.
+const HALTS: u32 = 8;
+
+/// The number of publications of a shard between a halt and the next one.
+const BETWEEN: u64 = 2;
+
 /// One of those who work beside the streams.
 #[derive(Drop)]
 pub(crate) enum Hand {
@@ -27,6 +32,8 @@ pub(crate) enum Hand {
     Asks { seed: u64, executed: AtomicU64 },
     /// Restarts servers at random, each approved and ended by a guard, and counts those that no stream mentions.
     Restarts { seed: u64, made: AtomicU64 },
+    /// Halts the streams at random.
+    Halts { seed: u64 },
 }
 
 /// Returns one of the numbers below `count`, if there are any.
@@ -132,13 +139,65 @@ fn restart_all<A: Ledger, B: Ledger, C: Ledger, N: Naming, R: Wait>(
     Ok(())
 }
 
+/// Waits until a shard was published so often. Returns false if the streams have come to rest before.
+fn waits_for<A: Ledger, B: Ledger, C: Ledger, N: Naming, R: Wait>(
+    rt: &R,
+    board: &Board<A, B, C, N>,
+    caller: &mut Caller<B, C, N>,
+    finish: &Finish,
+    shard: ShardId,
+    version: u64,
+) -> bool
+    requires { shard < length N.words.opening }
+{
+    for _ in rt.forever() {
+        if finish.is_reached() {
+            return false;
+        }
+        if board.look(&mut *caller, shard).version >= version {
+            return true;
+        }
+        thread::yield_now();
+    }
+    unreachable!()
+}
+
+/// Halts the streams at once, and again each time that a shard, as the seed picks one, was published more often.
+fn halt_often<A: Ledger, B: Ledger, C: Ledger, N: Naming, R: Wait>(
+    rt: &R,
+    board: &Board<A, B, C, N>,
+    caller: &mut Caller<B, C, N>,
+    finish: &Finish,
+    seed: u64,
+) {
+    let shards = SHAPE.streams.min(board.config().shard_count());
+    for round in 0..HALTS.min(MOST_HALTS) {
+        let number = scattered(seed.wrapping_add(u64::from(round)));
+        let Some(shard) = picked(number, shards) else {
+            return;
+        };
+        let version = BETWEEN.wrapping_mul(u64::from(round));
+        if !waits_for(
+            rt,
+            board,
+            &mut *caller,
+            finish,
+            ShardId::new(shard),
+            version,
+        ) {
+            return;
+        }
+        board.halt(rt);
+    }
+}
+
 impl Worker for Hand {
     fn work<A: Ledger, B: Ledger, C: Ledger, N: Naming, R: Wait + Clock>(
         &self,
         rt: &R,
         board: &Board<A, B, C, N>,
         caller: &mut Caller<B, C, N>,
-        _finish: &Finish,
+        finish: &Finish,
     ) -> Option<Permit> {
         match self {
             Hand::Asks { seed, executed } => {
@@ -146,6 +205,10 @@ impl Worker for Hand {
                 None
             }
             Hand::Restarts { seed, made } => restart_all(rt, board, *seed, made).err(),
+            Hand::Halts { seed } => {
+                halt_often(rt, board, caller, finish, *seed);
+                None
+            }
         }
     }
 }
@@ -154,7 +217,7 @@ impl Hand {
     /// Returns the number of restarts, of servers that no stream mentions, that it has made.
     pub fn made(&self) -> u64 {
         match self {
-            Hand::Asks { .. } => 0,
+            Hand::Asks { .. } | Hand::Halts { .. } => 0,
             Hand::Restarts { made, .. } => made.load(Ordering::SeqCst),
         }
     }
@@ -163,7 +226,7 @@ impl Hand {
     pub fn executed(&self) -> u64 {
         match self {
             Hand::Asks { executed, .. } => executed.load(Ordering::SeqCst),
-            Hand::Restarts { .. } => 0,
+            Hand::Restarts { .. } | Hand::Halts { .. } => 0,
         }
     }
 }

@@ -1,10 +1,10 @@
 //! One run: a board is opened, the storm goes over it, and it is closed.
 use crate::fault::Fault;
-use crate::storm::gusts::{Gusts, scattered};
+use crate::storm::gusts::Gusts;
 use crate::storm::hand::{ASKS, Hand, RESTARTS};
-use crate::storm::world::{SHAPE, World, is_same};
-use board_runs::run_at;
-use board_streams::plan_of;
+use crate::storm::kind::{Kind, Outcome};
+use crate::storm::world::{World, is_same};
+use board_runs::{Mishaps, run_at, scattered};
 use sm_placement::Placement;
 use std::alloc::{AllocError, Global};
 use std::rt::Clock;
@@ -16,10 +16,11 @@ use std::thread::Threads;
 const ASKERS: u64 = 16;
 
 /// The number of places of a run's log: more than there are steps, requests and restarts.
-const PLACES: u32 = 16_384;
+const PLACES: u32 = 32_768;
 
-/// Makes those who work beside the streams of a run: sixteen who ask, and one who restarts servers.
-fn hands_of(alloc: Global, seed: u64) -> Result<Vec<Hand>, AllocError> {
+/// Makes those who work beside the streams of a run: sixteen who ask, one who restarts servers, and, if the run has
+/// halts, one who halts.
+fn hands_of(alloc: Global, seed: u64, halts: bool) -> Result<Vec<Hand>, AllocError> {
     let mut hands = Vec::new(alloc);
     for number in 0..ASKERS {
         hands.push(Hand::Asks {
@@ -31,20 +32,36 @@ fn hands_of(alloc: Global, seed: u64) -> Result<Vec<Hand>, AllocError> {
         seed: scattered(seed.wrapping_add(ASKERS)),
         made: AtomicU64::new(0),
     })?;
+    if halts {
+        hands.push(Hand::Halts { seed })?;
+    }
     Ok(hands)
 }
 
-/// Runs a storm with these hands, and returns the placement at its end.
+/// Returns the mishaps of a run, which loses calls or does not.
+fn mishaps_of(seed: u64, loses: bool) -> Mishaps {
+    if loses {
+        Mishaps::with_losses(seed)
+    } else {
+        Mishaps::without_losses()
+    }
+}
+
+/// Runs a storm with these hands and mishaps, over two plans or one, and returns the placement at its end.
 fn storm_with<R: Threads + Wait + Clock + Sync>(
     rt: &R,
     alloc: Global,
     world: &World,
+    two: bool,
     hands: &[Hand],
     gusts: &Gusts,
+    mishaps: &Mishaps,
 ) -> Result<Placement, Fault> {
-    let checked = plan_of(alloc, &world.config, &SHAPE)?;
+    let (plan, beside) = world.plans(alloc, two)?;
     let before = world.before.copy(alloc)?;
-    match run_at(rt, alloc, before, PLACES, checked, hands, gusts) {
+    match run_at(
+        rt, alloc, before, PLACES, plan, beside, hands, gusts, mishaps,
+    ) {
         Ok(ended) => Ok(ended),
         Err(fault) => Err(Fault::NotRun(fault)),
     }
@@ -59,39 +76,56 @@ fn has_restarted(hands: &[Hand]) -> bool {
     made == RESTARTS
 }
 
-/// Tells whether at least half of all requests were executed. Some come to a server that is down.
-fn has_executed(hands: &[Hand]) -> bool {
+/// Returns what a run has come to.
+fn outcome_of(hands: &[Hand], mishaps: &Mishaps) -> Outcome {
     let mut executed = 0_u64;
     for hand in hands {
         executed = executed.wrapping_add(hand.executed());
     }
-    executed >= ASKERS * ASKS / 2
+    Outcome {
+        stops: mishaps.stops(),
+        lost: mishaps.lost(),
+        executed,
+    }
 }
 
-/// Checks that a run ended at the placement of the plan, each restart was made that had to be, and requests were
-/// executed.
-fn judge(ended: &Placement, hands: &[Hand], world: &World) -> Result<(), Fault> {
-    if !is_same(ended, &world.after) {
-        Err(Fault::OtherEnd)
-    } else if !has_restarted(hands) {
-        Err(Fault::NoRestart)
-    } else if !has_executed(hands) {
+/// Checks that a run of a kind had what is of that kind, and that at least half of all requests were executed. Some come
+/// to a server that is down.
+fn judge(kind: Kind, outcome: &Outcome) -> Result<(), Fault> {
+    if kind.halts && outcome.stops == 0 {
+        Err(Fault::NotHalted)
+    } else if kind.loses && outcome.lost == 0 {
+        Err(Fault::NoneLost)
+    } else if outcome.executed < ASKERS * ASKS / 2 {
         Err(Fault::NotExecuted)
     } else {
         Ok(())
     }
 }
 
-/// Makes one run, which has to end at the placement of the plan, with each restart made that had to be, and with
-/// requests executed.
+/// Makes one run, which has to end at the placement of its plans, with each restart made that had to be, with requests
+/// executed, and with what is of its kind.
 pub(crate) fn run_once<R: Threads + Wait + Clock + Sync>(
     rt: &R,
     alloc: Global,
     world: &World,
     number: u32,
-) -> Result<(), Fault> {
-    let seed = scattered(u64::from(number));
-    let hands = hands_of(alloc, scattered(seed))?;
-    let ended = storm_with(rt, alloc, world, hands.as_slice(), &Gusts { seed })?;
-    judge(&ended, hands.as_slice(), world)
+) -> Result<Outcome, Fault> {
+    let (seed, kind) = (scattered(u64::from(number)), Kind::of(number));
+    let hands = hands_of(alloc, scattered(seed), kind.halts)?;
+    let (hands, gusts, mishaps) = (
+        hands.as_slice(),
+        Gusts { seed },
+        mishaps_of(seed, kind.loses),
+    );
+    let ended = storm_with(rt, alloc, world, kind.two, hands, &gusts, &mishaps)?;
+    if !is_same(&ended, &world.after) {
+        return Err(Fault::OtherEnd);
+    }
+    if !has_restarted(hands) {
+        return Err(Fault::NoRestart);
+    }
+    let outcome = outcome_of(hands, &mishaps);
+    judge(kind, &outcome)?;
+    Ok(outcome)
 }

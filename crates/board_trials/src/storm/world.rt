@@ -1,18 +1,29 @@
-//! The parts that all runs have in common: the shape of the plan, and the placements before it and after it.
+//! The parts that all runs have in common: the shape of the plan, or of two, and the placements before and after.
 ghost use Rattle.std.specs.Prelude.{◌≡◌, ◌<◌, ◌≤◌, length};
 
 use crate::fault::Fault;
-use board_streams::{Shape, config_of, placement_after, placement_before, publications_of};
+use board_streams::{
+    Shape, config_of, placement_after, placement_before, plan_of, publications_of,
+};
 use sm_placement::{Config, Placement};
 use sm_server::{ServerId, ShardId};
+use sm_verifier::Checked;
 use std::alloc::Global;
 
-/// 64 streams of 64 instructions: eleven handovers of five, two exchanges of four, and a secondary.
+/// 64 streams of 64 instructions: eleven handovers of five, two exchanges of four, and a secondary. Each may lose 64
+/// calls.
 pub(crate) const SHAPE: Shape = Shape {
     streams: 64,
     first: 5,
     second: 4,
     third: 2,
+    retries: 64,
+};
+
+/// The same with half of the streams.
+const HALF: Shape = Shape {
+    streams: 32,
+    ..SHAPE
 };
 
 /// The first of the servers that no stream mentions.
@@ -30,7 +41,7 @@ pub(crate) struct World {
 }
 
 impl World {
-    /// Returns all three, for the plan of `SHAPE`.
+    /// Returns all three, for a plan of `SHAPE`, or for two of half of its streams each.
     pub fn new(alloc: Global) -> Result<World, Fault> {
         let config = config_of(alloc, &SHAPE)?;
         let before = placement_before(alloc, &config, &SHAPE)?;
@@ -40,6 +51,18 @@ impl World {
             before,
             after,
         })
+    }
+}
+
+impl World {
+    /// Returns the plan of a run, or its two plans, which have half of the streams each.
+    pub fn plans(&self, alloc: Global, two: bool) -> Result<(Checked, Option<Checked>), Fault> {
+        if !two {
+            return Ok((plan_of(alloc, &self.config, &SHAPE, 0)?, None));
+        }
+        let first = plan_of(alloc, &self.config, &HALF, 0)?;
+        let second = plan_of(alloc, &self.config, &HALF, HALF.streams)?;
+        Ok((first, Some(second)))
     }
 }
 

@@ -5,4 +5,4 @@ use Rattle.board_runs.proofs.begun.is_for.Goals as goal
 
 pub returns : goal.returns
 returns c same =
-    sym c.config.ensures ∙ (true_where_equal c.config.result.now c.config-2.result.now c.eq.result c.eq.ensures).0 same ∙ c.config-2.ensures.setup
+    sym c.config.ensures ∙ (true_where_equal c.config.result.now c.args.config.now c.eq.result c.eq.ensures).0 same
