@@ -38,7 +38,10 @@ pub(crate) fn is_replica(placement: &Placement, shard: ShardId, server: ServerId
     requires server { server < length placement.now.setup.servers }
     ensures { result ≡ is_replica ((place_of placement.now).cells shard server) }
 {
-    is_primary(placement, shard, server) || is_secondary(placement, shard, server)
+    matches!(
+        placement.cell(shard, server),
+        Cell::Primary | Cell::Secondary
+    )
 }
 
 /// Tells whether the server has nothing of the shard.

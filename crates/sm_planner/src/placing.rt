@@ -43,8 +43,10 @@ impl Placing {
         requires { IsMoveOf config.now wanted.now }
         ensures { result ≡ (is_left self.now.marks.items i && nat_le (move_load config.now wanted.now) (slice_index self.now.room wanted.now.to)) }
     {
-        let load = u128::from(config.load(wanted.shard));
-        !is_marked(&self.marks, i) && load <= self.room.at(wanted.to)
+        if is_marked(&self.marks, i) {
+            return false;
+        }
+        u128::from(config.load(wanted.shard)) <= self.room.at(wanted.to)
     }
 
     /// Returns the first move that is not placed and whose load fits.
