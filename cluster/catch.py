@@ -55,7 +55,7 @@ async def first_violation(bug: str, seed: int, told: argparse.Namespace) -> str 
     parts, swaps = PARTS_OF.get(bug, PARTS), SWAPS_OF.get(bug, 0.2)
     rates = RATES_OF.get(bug, ROUGH)
     settings = Settings(directory, shape, program_of(told.program), told.seconds, rates, parts, () if told.sound else (bug,), WORKERS_OF.get(bug, 3),
-                        pause=told.pause, is_quiet=True, swaps=swaps, is_busy=told.busy, ending=25.0)
+                        pause=told.pause, is_quiet=True, swaps=swaps, is_busy=told.busy, ending=25.0, patience=40.0)
     try:
         result = await Run(settings).run()
         # (that plans do not end is what a busy machine may do, too)

@@ -67,8 +67,9 @@ class Settings:
     swaps: float = 0.2
     # The machine has other work: waits are longer, and a request that takes more than 10 seconds is no violation.
     is_busy: bool = False
-    # How many seconds plans are waited for at the end, if not as many as otherwise.
+    # How many seconds plans are waited for at the end, if not as many as otherwise, and how many the operator tries something for.
     ending: float | None = None
+    patience: float | None = None
 
 
 @dataclass
@@ -95,7 +96,7 @@ class Run:
         self.settings = settings
         self.begun = time.monotonic()
         self.cluster = LocalCluster(settings.directory, settings.shape, settings.program, settings.rates, settings.bugs, pause=settings.pause)
-        self.operator = Operator(self.cluster.pages, 240.0 if settings.is_busy else 90.0)
+        self.operator = Operator(self.cluster.pages, settings.patience or (240.0 if settings.is_busy else 90.0))
         self.mover = Mover(self.operator, settings.shape.seed, settings.swaps)
         self.story = HandoverStory(self.cluster, self.operator, self.mover, settings.shape.seed, self.tell)
         self.verdict: Verdict | None = None

@@ -32,9 +32,15 @@ async def main() -> None:
     load = Load(tuple(told.shards.split(",")), told.clients, told.keys, told.reads, told.stray, told.pause, told.seed)
     with open(told.history, "w", encoding="utf-8") as history:
         generator = Generator(Cluster.read(told.cluster), load, history)
-        stopping = asyncio.Event()
+        stopping, loop = asyncio.Event(), asyncio.get_running_loop()
+
+        def stop() -> None:
+            """Ends the load. (An input that has ended may be read again and again.)"""
+            loop.remove_reader(sys.stdin)
+            stopping.set()
+
         if not told.seconds:
-            asyncio.get_running_loop().add_reader(sys.stdin, stopping.set)
+            loop.add_reader(sys.stdin, stop)
         await generator.run_until(stopping, told.seconds)
     print(json.dumps(generator.figures()), flush=True)
 

@@ -39,7 +39,8 @@ class HandoverStory(Story):
         how = self.dice.choice(("once", "twice", "fenced", "fenced"))
         async with self.restarting:
             await self.wait_for_replicas()
-            for _ in range(20):
+            until = time.monotonic() + self.operator.patience
+            while time.monotonic() < until:
                 found = await self.lose_in_handover(target, how == "fenced")
                 if found is not None:
                     document = without(found.state, self.document, self.lost)
@@ -102,7 +103,8 @@ class HandoverStory(Story):
     async def in_handovers(self, harm: Harm, act: Callable[[Handovers], Awaitable[bool]]) -> bool:
         """Begins handovers, and acts once requests are passed on, while no order gets to the new owner, and harm is done to it; tells whether it came to that."""
         async with self.restarting:
-            for _ in range(10):
+            until = time.monotonic() + self.operator.patience
+            while time.monotonic() < until:
                 async with AsyncExitStack() as meanwhile:
                     found = await self.passing_handovers(meanwhile, harm)
                     if found is not None:
