@@ -115,6 +115,10 @@ pub grid_of-read : {A : Type 0} (width height : ℕ) (none : A) (xs : List A) (s
     x ≡ get_or xs (s * width + v) x → x ≡ grid_of width none xs s v
 grid_of-read width height none xs s v x e l m r = get_or_read xs (s * width + v) x (place_within xs width height s v e l m) r none ∙ sym (grid_of-within width none xs s v m)
 
+-- the same, where the slot is known to be within the list
+pub grid_of-at : {A : Type 0} (width : ℕ) (none : A) (xs : List A) (s v : ℕ) (x : A) → v < width → s * width + v < length xs → x ≡ get_or xs (s * width + v) x → x ≡ grid_of width none xs s v
+grid_of-at width none xs s v x m l r = get_or_read xs (s * width + v) x l r none ∙ sym (grid_of-within width none xs s v m)
+
 -- what is read at a place within a list is what stands there
 pub entries_of-read : {A : Type 0} (none : A) (xs : List A) (k n : ℕ) (x : A) → length xs ≡ n → k < n → x ≡ get_or xs k x → x ≡ entries_of none xs k
 entries_of-read none xs k n x e l r = get_or_read xs k x (omega arith) r none ∙ sym (entries_of-is none xs k)

@@ -1,7 +1,9 @@
 pub mod Sums
 pub mod GridLemmas
 pub mod RowLemmas
+pub mod ReplicaLemmas
 pub mod TableLemmas
+pub mod Toggles
 pub mod ConfigLemmas
 pub mod CopyLemmas
 pub mod DoubleLemmas

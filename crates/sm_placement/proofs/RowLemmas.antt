@@ -1,18 +1,18 @@
 -- A row of cells with one cell changed: whose part changes, and the counts.
-use Rattle.std.proofs.Common.{◌≡◌, ◌≢◌, ℕ, ◌+◌, ◌-◌, ◌<◌, ◌≤◌, List, Bool, true, false, not, ◌&&◌, ◌||◌, Some, refl, sym, ap, ◌∙◌, arith, inl, inr}
+use Rattle.std.proofs.Common.{◌≡◌, ◌≢◌, ℕ, ◌+◌, ◌-◌, ◌<◌, ◌≤◌, Bool, false, not, ◌&&◌, ◌||◌, Some, refl, sym, ap, subst, ◌∙◌, arith, inl, inr}
 use Rattle.std.specs.Option.{unwrap_or}
+use Rattle.std.proofs.Math.Path.{fun_ext}
 use Rattle.std.proofs.lemmas.Bool.{cases_eq, eq-eqb, ne_eqb}
 use Rattle.std.proofs.lemmas.Option.{none-some, same_Some}
 use Rattle.sm_server.specs.declared.call.Cell.{Cell}
 use Rattle.sm_server.specs.declared.call.Cell.TheVariants.{Absent, Prepared, Secondary, Primary, Forwarding}
 use Rattle.sm_server.specs.Cell.{is_secondary, is_forwarding}
 use Rattle.sm_placement.specs.declared.row.Counts.{Counts}
-use Rattle.sm_placement.specs.Layout.{entries_of}
-use Rattle.sm_placement.specs.Sums.{put, sum_below, bit}
+use Rattle.sm_placement.specs.Sums.{put, put2, sum_below, bit}
 use Rattle.sm_placement.specs.Rows.{IsKnownCell, forwards, serves_as, serves, is_live, live_in, serving_in}
-use Rattle.sm_placement.specs.Counts.{has_replica, target_of, party_of, at_both, counts_at, counts_in, CanCorrect, corrected}
+use Rattle.sm_placement.specs.Counts.{has_replica, part_of, target_of, party_of, at_both, counts_at, counts_in, CanCorrect, corrected}
 use Rattle.sm_placement.specs.declared.limits.TheConstants.{MOST_SERVERS}
-use Rattle.sm_placement.proofs.Sums.{put-here, put-apart, count-le, sum_apart, sum_two_apart, bit-le-one}
+use Rattle.sm_placement.proofs.Sums.{put-here, put-apart, put2-here, put2-row, put2-apart, part_of_sum, count-le, sum_apart, sum_two_apart, bit-le-one}
 
 -- a cell that doesn't forward to a server doesn't forward to it under any number
 forwards-apart : (x : Cell) (q number : ℕ) → target_of x ≢ Some q → forwards x q number ≡ false
@@ -149,18 +149,76 @@ CanCorrect-steps n row read now down v u old next counts before after b l h k o 
     (a ∙ ap (λ (g : ℕ → Cell). counts_at g down v u) ne ∙ ap (λ (w : ℕ). counts_at (put row v next) down v w) f)
 
 -- a server that comes up or goes down: only its own replica counts or stops to count
-pub live_in-toggle : (n : ℕ) (row : ℕ → Cell) (down : ℕ → Bool) (v : ℕ) → v < n →
-    live_in n row (put down v (not (down v))) + bit (not (down v) && has_replica row v) ≡ live_in n row down + bit (down v && has_replica row v)
-live_in-toggle n row down v l =
-    sum_apart n (λ q. bit (is_live row (put down v (not (down v))) q)) (λ q. bit (is_live row down q)) v (bit (not (down v) && has_replica row v)) (bit (down v && has_replica row v)) l
-    (λ q d. ap (λ b. bit (not b && has_replica row q)) (put-apart down v (not (down v)) q d))
-    (ap (λ b. bit (not b && has_replica row v) + bit (not (down v) && has_replica row v)) (put-here down v (not (down v)) v refl) ∙ both (down v) (has_replica row v))
-  where
-    both : (b r : Bool) → bit (not (not b) && r) + bit (not b && r) ≡ bit (not b && r) + bit (b && r)
-    both true r = omega arith
-    both false r = omega arith
+pub live_in-toggle : (n : ℕ) (row : ℕ → Cell) (down : ℕ → Bool) (v : ℕ) (b : Bool) → v < n → down v ≡ not b →
+    live_in n row (put down v b) + part_of (not b) (has_replica row v) ≡ live_in n row down + part_of b (has_replica row v)
+live_in-toggle n row down v b l e =
+    sum_apart n (λ q. bit (is_live row (put down v b) q)) (λ q. bit (is_live row down q)) v (part_of (not b) (has_replica row v)) (part_of b (has_replica row v)) l
+    (λ q d. ap (λ c. bit (not c && has_replica row q)) (put-apart down v b q d))
+    (let x : bit (is_live row (put down v b) v) ≡ part_of b (has_replica row v) = ap (λ c. part_of c (has_replica row v)) (put-here down v b v refl) in
+    let y : bit (is_live row down v) ≡ part_of (not b) (has_replica row v) = ap (λ c. part_of c (has_replica row v)) e in
+    omega arith)
 
--- the same by cases, as code tests them
-pub live_in-toggled : (row : ℕ → Cell) (down : List Bool) (n v : ℕ) (b r : Bool) → v < n → b ≡ entries_of false down v → r ≡ has_replica row v →
-    live_in n row (put (entries_of false down) v (not (entries_of false down v))) + bit (not b && r) ≡ live_in n row (entries_of false down) + bit (b && r)
-live_in-toggled row down n v b r l e d = rw (e, d) (live_in-toggle n row (entries_of false down) v l)
+-- a server's part is among the live replicas of a row
+pub part_within : (n : ℕ) (row : ℕ → Cell) (down : ℕ → Bool) (v : ℕ) (b : Bool) → v < n → down v ≡ b → part_of b (has_replica row v) ≤ live_in n row down
+part_within n row down v b l e =
+    let x : bit (is_live row down v) ≤ live_in n row down = part_of_sum n (λ q. bit (is_live row down q)) v l in
+    let y : bit (is_live row down v) ≡ part_of b (has_replica row v) = ap (λ c. part_of c (has_replica row v)) e in
+    omega arith
+
+-- ---- who has a replica, in a row with one cell changed ----
+
+-- where only two entries of a column differ from what they should be, setting these two is enough
+set_two : (held : ℕ → ℕ → Bool) (v u s : ℕ) (has : ℕ → Bool) → ((q : ℕ) → q ≢ v → q ≢ u → held q s ≡ has q) → put2 (put2 held v s (has v)) u s (has u) ≡ (λ q. put (held q) s (has q))
+set_two held v u s has others = fun_ext (λ q. fun_ext (λ r. at q r))
+  where
+    first : ℕ → ℕ → Bool
+    first = put2 held v s (has v)
+
+    first_here : (q : ℕ) → q ≢ u → first q s ≡ has q
+    first_here q d = elim (cases_eq q v) [
+      | inl e ↦ rw e (put2-here held v s (has v))
+      | inr e ↦ put2-apart held v s (has v) q s e ∙ others q e d
+    ]
+
+    first_beside : (q r : ℕ) → r ≢ s → first q r ≡ held q r
+    first_beside q r d = elim (cases_eq q v) [
+      | inl e ↦ rw e (put2-row held v s (has v) r d)
+      | inr e ↦ put2-apart held v s (has v) q r e
+    ]
+
+    here : (q : ℕ) → put2 first u s (has u) q s ≡ has q
+    here q = elim (cases_eq q u) [
+      | inl e ↦ rw e (put2-here first u s (has u))
+      | inr e ↦ put2-apart first u s (has u) q s e ∙ first_here q e
+    ]
+
+    beside : (q r : ℕ) → r ≢ s → put2 first u s (has u) q r ≡ held q r
+    beside q r d = elim (cases_eq q u) [
+      | inl e ↦ rw e (put2-row first u s (has u) r d ∙ first_beside u r d)
+      | inr e ↦ put2-apart first u s (has u) q r e ∙ first_beside q r d
+    ]
+
+    at : (q r : ℕ) → put2 first u s (has u) q r ≡ put (held q) s (has q) r
+    at q r = elim (cases_eq r s) [
+      | inl e ↦ ap (λ k. put2 first u s (has u) q k) e ∙ here q ∙ sym (put-here (held q) s (has q) r e)
+      | inr e ↦ beside q r e ∙ sym (put-apart (held q) s (has q) r e)
+    ]
+
+-- the other party is a known server, from what each step of the code gives
+pub party_of-steps : (n : ℕ) (row read : ℕ → Cell) (v u : ℕ) (old next : Cell) → v < n → IsKnownCell n (row v) → IsKnownCell n next → read ≡ row → old ≡ read v → u ≡ party_of old next v → u < n
+party_of-steps n row read v u old next l h k re oe ue =
+    subst (λ (w : ℕ). w < n) (sym (ue ∙ ap (λ (x : Cell). party_of x next v) (oe ∙ ap (λ (g : ℕ → Cell). g v) re))) (party_of-known n (row v) next v l h k)
+
+-- The entries of the cell's server and of the other party are set, from what each step of the code gives: the old cell, the
+-- other party, the row that is there then, and the entries that are set by it.
+pub held-steps : (row read now : ℕ → Cell) (v u s k : ℕ) (old next : Cell) (held after : ℕ → ℕ → Bool) → (is_forwarding (row v) && is_forwarding next) ≡ false →
+    ((q : ℕ) → held q s ≡ has_replica row q) →
+    read ≡ row → now ≡ put row v next →
+    old ≡ read v → u ≡ party_of old next v → k ≡ s →
+    after ≡ put2 (put2 held v k (has_replica now v)) u k (has_replica now u) →
+    after ≡ (λ q. put (held q) s (has_replica (put row v next) q))
+held-steps row read now v u s k old next held after o h re ne oe ue ke ae =
+    let f : u ≡ party_of (row v) next v = ue ∙ ap (λ (x : Cell). party_of x next v) (oe ∙ ap (λ (g : ℕ → Cell). g v) re) in
+    ae ∙ ap (λ (i : ℕ). put2 (put2 held v i (has_replica now v)) u i (has_replica now u)) ke ∙ ap (λ (g : ℕ → Cell). put2 (put2 held v s (has_replica g v)) u s (has_replica g u)) ne
+    ∙ set_two held v u s (has_replica (put row v next))
+    (λ q d m. let p = party_of-apart (row v) next v q o d (λ e. m (e ∙ sym f)) in h q ∙ sym (has_replica-put row v next q d p.0 p.1))

@@ -144,6 +144,7 @@ count_one (suc n) t u h = elim (cases_eq n u) [
 pub count_none : (n : ℕ) (t : ℕ → Bool) → ((k : ℕ) → k < n → t k ≡ false) → count_below n t ≡ 0
 count_none n t h = same_sum n (λ k. bit (t k)) (λ k. 0) (λ k l. rw (h k l) refl) ∙ sum_zero n (λ k. 0) (λ k. refl)
 
+-- where the count is 0, no number below n passes
 pub count_none_at : (n : ℕ) (t : ℕ → Bool) → count_below n t ≡ 0 → (k : ℕ) → k < n → t k ≡ false
 count_none_at n t e k l = false_from_ne_true (t k) (λ q. let part : bit (t k) ≤ count_below n t = part_of_sum n (λ i. bit (t i)) k l in let one : bit (t k) ≡ 1 = rw q refl in absurd (omega arith))
 

@@ -1,23 +1,24 @@
 -- A table's totals: that they fit, where nothing stands anywhere, and after a write.
-use Rattle.std.proofs.Common.{◌≡◌, ◌≢◌, ℕ, ◌+◌, ◌-◌, ◌*◌, ◌^◌, ◌<◌, ◌≤◌, Bool, true, false, not, List, length, set, get_or, replicate, refl, sym, ap, subst, ◌∙◌, arith, inl, inr}
-use Rattle.std.specs.Bool.{beq}
-use Rattle.std.proofs.lemmas.Bool.{cases_eq, true≢false}
+use Rattle.std.proofs.Common.{◌≡◌, ◌≢◌, ℕ, ◌+◌, ◌-◌, ◌*◌, ◌^◌, ◌<◌, ◌≤◌, Bool, false, List, length, set, get_or, replicate, refl, sym, ap, subst, ◌∙◌, arith, inl, inr}
+use Rattle.std.proofs.lemmas.Bool.{cases_eq}
 use Rattle.std.proofs.lemmas.List.{length-replicate, length-set}
 use Rattle.std.proofs.lemmas.Nat.{row_fits}
 use Rattle.sm_server.specs.declared.call.Cell.{Cell}
 use Rattle.sm_server.specs.declared.call.Cell.TheVariants.{Absent}
 use Rattle.sm_placement.specs.declared.row.Counts.{Counts}
-use Rattle.sm_placement.specs.Counts.{counts_in, AreLives}
-use Rattle.sm_placement.specs.Sums.{put, put2, bit, count_below}
+use Rattle.sm_placement.specs.Counts.{counts_in}
+use Rattle.sm_placement.specs.Replicas.{ReplicasModel, replicas_by}
+use Rattle.sm_placement.specs.Sums.{put, put2, count_below}
 use Rattle.sm_placement.specs.Setup.{Setup, Sizes, IsSetup, sizes_of}
 use Rattle.sm_placement.specs.Rows.{live_in, serving_in, serves, is_live, IsKnownCell}
 use Rattle.sm_placement.specs.Place.{weight, load_of}
 use Rattle.sm_placement.specs.Layout.{grid_of, entries_of}
 use Rattle.sm_placement.specs.Grid.{TableModel, Totals, IsCounted, IsGrid, cells_of, lasts_of, down_of}
 use Rattle.sm_placement.specs.declared.limits.TheConstants.{MOST_LOAD, MOST_SERVERS, MOST_SHARDS}
-use Rattle.sm_placement.proofs.Sums.{put-here, put-apart, put2-here, put2-row, put2-apart, sum_apart, count-le, sum-le, sum_zero}
+use Rattle.sm_placement.proofs.Sums.{put-here, put-apart, put2-here, put2-row, put2-apart, count-le, sum-le, sum_zero}
 use Rattle.sm_placement.proofs.Calls.{load_of-put, load_of-apart, weight_within}
 use Rattle.sm_placement.proofs.SizesLemmas.{load_small}
+use Rattle.sm_placement.proofs.ReplicaLemmas.{AreSet, held-set}
 use Rattle.sm_placement.proofs.GridLemmas.{grid_of-within, entries_of-is, grid_of-beside, grid_of-below, grid_of-empty, grid_of-set, place_within, entries_of-past, entries_of-set, entries_of-empty, entries_of-read}
 
 -- no server has a load of 2 ^ 45
@@ -66,6 +67,7 @@ empty_totals setup = record {
   loads = replicate (length setup.servers) 0;
   lives = replicate (length setup.shards) 0;
   servings = replicate (length setup.shards) 0;
+  replicas = record { held = replicate (length setup.servers * length setup.shards) false; shards = length setup.shards };
   down = 0;
 }
 
@@ -91,10 +93,13 @@ IsCounted-empty setup h = record {
   loads_length = length-replicate (length setup.servers) 0;
   lives_length = length-replicate (length setup.shards) 0;
   servings_length = length-replicate (length setup.shards) 0;
+  replicas_length = length-replicate (length setup.servers * length setup.shards) false;
+  replicas_shards = refl;
   known = λ s v. rw (cells_of-empty setup) tt;
   loads = λ v l. rw (cells_of-empty setup, entries_of-empty {A = ℕ} 0 (length setup.servers)) (sym (sum_zero (length setup.shards) (λ s. 0) (λ s. refl)));
   lives = λ s l. rw (cells_of-empty setup, down_of-empty setup, entries_of-empty {A = ℕ} 0 (length setup.shards)) (sym (sum_zero (length setup.servers) (λ v. 0) (λ v. refl)));
   servings = λ s l. rw (cells_of-empty setup, entries_of-empty {A = ℕ} 0 (length setup.shards)) (sym (sum_zero (length setup.servers) (λ v. 0) (λ v. refl)));
+  replicas = rw (cells_of-empty setup) (grid_of-empty (length setup.shards) false (length setup.servers * length setup.shards));
   down = rw (down_of-empty setup) (sym (sum_zero (length setup.servers) (λ v. 0) (λ v. refl)));
 }
 
@@ -156,9 +161,9 @@ pub same_table : {setup others : Setup} {cells more : List Cell} {lasts numbers 
 same_table a b d e = rw (a, b, d, e) refl
 
 -- totals of the same lists are the same
-pub same_totals : {loads a lives b servings d : List ℕ} (down : ℕ) → loads ≡ a → lives ≡ b → servings ≡ d →
-    ◌≡◌ {A = Totals} (record { loads = loads; lives = lives; servings = servings; down = down }) (record { loads = a; lives = b; servings = d; down = down })
-same_totals down e f k = rw (e, f, k) refl
+pub same_totals : {loads a lives b servings d : List ℕ} {replicas r : ReplicasModel} (down : ℕ) → loads ≡ a → lives ≡ b → servings ≡ d → replicas ≡ r →
+    ◌≡◌ {A = Totals} (record { loads = loads; lives = lives; servings = servings; replicas = replicas; down = down }) (record { loads = a; lives = b; servings = d; replicas = r; down = down })
+same_totals down e f k l = rw (e, f, k, l) refl
 
 -- a table that is the same as a counted one is counted by the same totals
 pub IsCounted-same : {g h : TableModel} {t u : Totals} → IsCounted g t → h ≡ g → u ≡ t → IsCounted h u
@@ -174,10 +179,13 @@ IsCounted-with_lasts {g} {t} lasts h e = record {
   loads_length = h.loads_length;
   lives_length = h.lives_length;
   servings_length = h.servings_length;
+  replicas_length = h.replicas_length;
+  replicas_shards = h.replicas_shards;
   known = h.known;
   loads = h.loads;
   lives = h.lives;
   servings = h.servings;
+  replicas = h.replicas;
   down = h.down;
 }
 
@@ -208,13 +216,14 @@ total-set xs f g n k x e l h others here j m = ap (λ (q : ℕ → ℕ). q j) (e
 ]
 
 -- a table whose totals are corrected with the cell
-pub IsCounted-set : {g : TableModel} {t : Totals} (s v : ℕ) (next : Cell) (load : ℕ) (counts : Counts) → IsCounted g t → s < length g.setup.shards → v < length g.setup.servers →
+pub IsCounted-set : {g : TableModel} {t : Totals} (s v : ℕ) (next : Cell) (load : ℕ) (counts : Counts) (replicas : ReplicasModel) → IsCounted g t → s < length g.setup.shards → v < length g.setup.servers →
     IsKnownCell (length g.setup.servers) next →
     load ≡ load_of (sizes_of g.setup) (put2 (cells_of g) s v next) v →
     counts ≡ counts_in (length g.setup.servers) (put (cells_of g s) v next) (down_of g) →
+    AreSet g t s v next replicas →
     IsCounted (record g { cells = set g.cells (s * length g.setup.servers + v) next })
-    (record { loads = set t.loads v load; lives = set t.lives s counts.live; servings = set t.servings s counts.serving; down = t.down })
-IsCounted-set {g} {t} s v next load counts h l m known by_load by_counts = record {
+    (record { loads = set t.loads v load; lives = set t.lives s counts.live; servings = set t.servings s counts.serving; replicas = replicas; down = t.down })
+IsCounted-set {g} {t} s v next load counts replicas h l m known by_load by_counts are_set = record {
   setup = h.setup;
   cells_length = length-set g.cells (s * n + v) next ∙ h.cells_length;
   lasts_length = h.lasts_length;
@@ -222,12 +231,15 @@ IsCounted-set {g} {t} s v next load counts h l m known by_load by_counts = recor
   loads_length = length-set t.loads v load ∙ h.loads_length;
   lives_length = length-set t.lives s counts.live ∙ h.lives_length;
   servings_length = length-set t.servings s counts.serving ∙ h.servings_length;
+  replicas_length = are_set.same_length ∙ h.replicas_length;
+  replicas_shards = are_set.same_shards ∙ h.replicas_shards;
   known = λ r u. rw written (known-put n (cells_of g) s v next h.known known r u);
   loads = λ u k. rw written (total-set t.loads (λ j. load_of c (cells_of g) j) (λ j. load_of c cells j) n v load h.loads_length m h.loads (λ j d. load_of-apart c (cells_of g) s v next j d) by_load u k);
   lives = λ r k. rw written (total-set t.lives (λ j. live_in n (cells_of g j) (down_of g)) (λ j. live_in n (cells j) (down_of g)) (length g.setup.shards) s counts.live h.lives_length l h.lives
       (λ j d. ap (λ (f : ℕ → Cell). live_in n f (down_of g)) (other j d)) (ap (λ (q : Counts). q.live) by_counts ∙ ap (λ (f : ℕ → Cell). live_in n f (down_of g)) (sym own)) r k);
   servings = λ r k. rw written (total-set t.servings (λ j. serving_in n (cells_of g j)) (λ j. serving_in n (cells j)) (length g.setup.shards) s counts.serving h.servings_length l h.servings
       (λ j d. ap (λ (f : ℕ → Cell). serving_in n f) (other j d)) (ap (λ (q : Counts). q.serving) by_counts ∙ ap (λ (f : ℕ → Cell). serving_in n f) (sym own)) r k);
+  replicas = rw written (held-set (replicas_by t.replicas) (replicas_by replicas) (cells_of g) s v next h.replicas are_set.held);
   down = h.down;
 }
   where
@@ -294,83 +306,3 @@ pub cells_of-set : {g old : TableModel} {t : Totals} (s v : ℕ) (next : Cell) �
     grid_of (length g.setup.servers) Absent (set g.cells (s * length g.setup.servers + v) next) ≡ put2 (cells_of old) s v next
 cells_of-set {g} {old} {t} s v next h e = subst (λ (n : TableModel). s < length n.setup.shards → v < length n.setup.servers → grid_of (length g.setup.servers) Absent (set g.cells (s * length g.setup.servers + v) next) ≡ put2 (cells_of n) s v next) e
     (λ l m. grid_of-set (length g.setup.servers) Absent g.cells s v next m (place_within g.cells (length g.setup.servers) (length g.setup.shards) s v h.cells_length l m))
-
--- ---- a server comes up or goes down ----
-
-not-not : (b : Bool) → not (not b) ≡ b
-not-not true = refl
-not-not false = refl
-
-count_below-toggle : (n : ℕ) (down : ℕ → Bool) (v : ℕ) (b : Bool) → v < n → down v ≡ not b → count_below n (put down v b) + bit (not b) ≡ count_below n down + bit b
-count_below-toggle n down v b l e =
-    sum_apart n (λ q. bit (put down v b q)) (λ q. bit (down q)) v (bit (not b)) (bit b) l (λ q d. ap bit (put-apart down v b q d))
-    (let x : bit (put down v b v) ≡ bit b = ap bit (put-here down v b v refl) in let y : bit (down v) ≡ bit (not b) = ap bit e in omega arith)
-
--- a write at a server's number changes whether that server is down, and no other
-pub down_of-set : {g old : TableModel} {t : Totals} (v : ℕ) (b : Bool) → IsCounted g t → g ≡ old → v < length old.setup.servers → down_of (record g { down = set g.down v b }) ≡ put (down_of old) v b
-down_of-set {g} {old} {t} v b h e = subst (λ (n : TableModel). v < length n.setup.servers → down_of (record g { down = set g.down v b }) ≡ put (down_of n) v b) e
-    (λ l. entries_of-set false g.down v b (omega (arith, h.down_length)))
-
--- two truth values that compare as equal are equal
-pub same-from_beq : (a b : Bool) → beq a b ≡ true → a ≡ b
-same-from_beq true true e = refl
-same-from_beq true false e = absurd (true≢false (sym e))
-same-from_beq false true e = absurd (true≢false (sym e))
-same-from_beq false false e = refl
-
--- of two truth values that don't compare as equal the first is the other's negation
-pub not-from_beq : (was b : Bool) → beq was b ≡ false → was ≡ not b
-not-from_beq true true e = absurd (true≢false e)
-not-from_beq true false e = refl
-not-from_beq false true e = refl
-not-from_beq false false e = absurd (true≢false e)
-
--- the count of the servers that are down, where a server's state turns
-pub down-toggled : {g old : TableModel} {t : Totals} (v : ℕ) (b was : Bool) → IsCounted g t → g ≡ old → v < length old.setup.servers → was ≡ down_of old v → was ≡ not b →
-    count_below (length g.setup.servers) (put (down_of g) v b) + bit (not b) ≡ t.down + bit b
-down-toggled {g} {old} {t} v b was h e l r w =
-    let m : v < length g.setup.servers = omega (arith, ap (λ (n : TableModel). length n.setup.servers) e) in
-    let d : down_of g v ≡ not b = ap (λ (n : TableModel). down_of n v) e ∙ sym r ∙ w in
-    let k : count_below (length g.setup.servers) (put (down_of g) v b) + bit (not b) ≡ count_below (length g.setup.servers) (down_of g) + bit b = count_below-toggle (length g.setup.servers) (down_of g) v b m d in
-    k ∙ ap (λ (n : ℕ). n + bit b) (sym h.down)
-
--- in a counted table at most 1,024 servers are down
-pub down_count-small : {g : TableModel} {t : Totals} → IsCounted g t → t.down ≤ MOST_SERVERS
-down_count-small {g} {t} h = rw h.down (down-small g.setup (down_of g) h.setup)
-
--- the table with corrected counts
-pub IsCounted-toggle : {g old : TableModel} {t : Totals} (v : ℕ) (b was : Bool) (down : List Bool) (lives : List ℕ) (count : ℕ) → IsCounted g t → g ≡ old → v < length old.setup.servers →
-    was ≡ down_of old v → was ≡ not b → down ≡ g.down → length lives ≡ length t.lives →
-    AreLives lives (length down) (grid_of (length down) Absent g.cells) (put (entries_of false down) v (not (entries_of false down v))) →
-    count + bit (not b) ≡ t.down + bit b →
-    IsCounted (record g { down = set g.down v b }) (record t { lives = lives; down = count })
-IsCounted-toggle {g} {old} {t} v b was down lives count h e l r w de le are counted = record {
-  setup = h.setup;
-  cells_length = h.cells_length;
-  lasts_length = h.lasts_length;
-  down_length = length-set g.down v b ∙ h.down_length;
-  loads_length = h.loads_length;
-  lives_length = le ∙ h.lives_length;
-  servings_length = h.servings_length;
-  known = h.known;
-  loads = h.loads;
-  lives = λ s k. rw written (turned s (omega (arith, h.lives_length)));
-  servings = h.servings;
-  down = rw written (let k : count_below (length g.setup.servers) (put (down_of g) v b) + bit (not b) ≡ t.down + bit b = down-toggled v b was h e l r w in omega arith);
-}
-  where
-    m : v < length g.setup.servers
-    m = omega (arith, ap (λ (n : TableModel). length n.setup.servers) e)
-
-    d : not (down_of g v) ≡ b
-    d = ap not (ap (λ (n : TableModel). down_of n v) e ∙ sym r ∙ w) ∙ not-not b
-
-    written : entries_of false (set g.down v b) ≡ put (down_of g) v b
-    written = entries_of-set false g.down v b (omega (arith, h.down_length, m))
-
-    listed : AreLives lives (length g.setup.servers) (cells_of g) (put (down_of g) v (not (down_of g v)))
-    listed = subst (λ (ds : List Bool). AreLives lives (length g.setup.servers) (grid_of (length g.setup.servers) Absent g.cells) (put (entries_of false ds) v (not (entries_of false ds v)))) de
-        (subst (λ (n : ℕ). AreLives lives n (grid_of n Absent g.cells) (put (entries_of false down) v (not (entries_of false down v)))) (ap length de ∙ h.down_length) are)
-
-    turned : AreLives lives (length g.setup.servers) (cells_of g) (put (down_of g) v b)
-    turned = subst (λ (x : Bool). AreLives lives (length g.setup.servers) (cells_of g) (put (down_of g) v x)) d listed

@@ -1,11 +1,12 @@
 -- How many servers of a shard's row are live, and how many serve it.
 -- Internal definitions: you need not read them for the public contracts.
-use Rattle.std.specs.Prelude.{◌≡◌, ◌<◌, ◌≤◌, ℕ, ◌+◌, ◌-◌, ◌^◌, ◌==◌, ◌||◌, Bool, Option, Some, None, if◌then◌else◌, List, length}
+use Rattle.std.specs.Prelude.{◌≡◌, ◌<◌, ◌≤◌, ℕ, ◌+◌, ◌-◌, ◌^◌, ◌==◌, ◌&&◌, ◌||◌, not, Bool, Option, Some, None, if◌then◌else◌, List, length}
 use Rattle.std.specs.Option.{option_or, unwrap_or}
 use Rattle.sm_server.specs.declared.call.Cell.{Cell}
 use Rattle.sm_server.specs.declared.call.Cell.TheVariants.{Forwarding}
 use Rattle.sm_server.specs.Cell.{is_secondary}
 use Rattle.sm_placement.specs.declared.row.Counts.{Counts}
+use Rattle.sm_placement.specs.declared.limits.TheConstants.{MOST_SERVERS}
 use Rattle.sm_placement.specs.Sums.{bit}
 use Rattle.sm_placement.specs.Rows.{serves, is_live, live_in, serving_in}
 use Rattle.sm_placement.specs.Layout.{entries_of}
@@ -53,6 +54,14 @@ pub record CanCorrect (counts before after : Counts) : Type 0 where
   pub live_fits : counts.live + after.live < 2 ^ 32
   pub serving_fits : counts.serving + after.serving < 2 ^ 32
 
--- each entry is the count of the live replicas of its shard
-abbrev pub AreLives : List ℕ → ℕ → (ℕ → ℕ → Cell) → (ℕ → Bool) → Type 0
-AreLives lives n cells down = (s : ℕ) → s < length lives → entries_of 0 lives s ≡ live_in n (cells s) down
+-- what a server that is down or not, and has a replica or not, adds to a count of live replicas
+abbrev pub part_of : Bool → Bool → ℕ
+part_of down has = bit (not down && has)
+
+-- each shard's count after a server goes down or comes up: the part that the server had is exchanged
+abbrev pub AreToggled : List ℕ → List ℕ → Bool → (ℕ → Bool) → Type 0
+AreToggled before after down has = (s : ℕ) → s < length before → entries_of 0 after s + part_of (not down) (has s) ≡ entries_of 0 before s + part_of down (has s)
+
+-- each shard's count has the part that the server has before it goes down or comes up, and is that of a row
+abbrev pub CanToggle : List ℕ → Bool → (ℕ → Bool) → Type 0
+CanToggle lives down has = (s : ℕ) → s < length lives → (part_of (not down) (has s) ≤ entries_of 0 lives s) × (entries_of 0 lives s ≤ MOST_SERVERS)

@@ -7,6 +7,8 @@ use Rattle.sm_placement.specs.Setup.{Setup, IsSetup, sizes_of}
 use Rattle.sm_placement.specs.Rows.{live_in, serving_in, IsKnownCell}
 use Rattle.sm_placement.specs.Sums.{count_below}
 use Rattle.sm_placement.specs.Place.{load_of}
+use Rattle.sm_placement.specs.Counts.{has_replica}
+use Rattle.sm_placement.specs.Replicas.{ReplicasModel, replicas_by}
 use Rattle.sm_placement.specs.Layout.{grid_of, entries_of}
 
 -- a table as contracts see it: a configuration, the cells and their last call numbers (shard after shard, with one entry for each
@@ -29,14 +31,16 @@ lasts_of g = grid_of (length g.setup.servers) 0 g.lasts
 abbrev pub down_of : TableModel → ℕ → Bool
 down_of g = entries_of false g.down
 
--- the totals that are kept beside the cells
+-- the totals that are kept beside the cells, and who has a replica of what
 pub record Totals : Type 0 where
   pub loads : List ℕ
   pub lives : List ℕ
   pub servings : List ℕ
+  pub replicas : ReplicasModel
   pub down : ℕ
 
--- each list has an entry for each shard, server or pair, and each total is the sum that it stands for
+-- Each list has an entry for each shard, server or pair. Each total is the sum that it stands for, and who has a replica of what is
+-- what the cells say.
 pub record IsCounted (g : TableModel) (t : Totals) : Type 0 where
   pub setup : IsSetup g.setup
   pub cells_length : length g.cells ≡ length g.setup.shards * length g.setup.servers
@@ -45,10 +49,13 @@ pub record IsCounted (g : TableModel) (t : Totals) : Type 0 where
   pub loads_length : length t.loads ≡ length g.setup.servers
   pub lives_length : length t.lives ≡ length g.setup.shards
   pub servings_length : length t.servings ≡ length g.setup.shards
+  pub replicas_length : length t.replicas.held ≡ length g.setup.servers * length g.setup.shards
+  pub replicas_shards : t.replicas.shards ≡ length g.setup.shards
   pub known : (s v : ℕ) → IsKnownCell (length g.setup.servers) (cells_of g s v)
   pub loads : (v : ℕ) → v < length g.setup.servers → entries_of 0 t.loads v ≡ load_of (sizes_of g.setup) (cells_of g) v
   pub lives : (s : ℕ) → s < length g.setup.shards → entries_of 0 t.lives s ≡ live_in (length g.setup.servers) (cells_of g s) (down_of g)
   pub servings : (s : ℕ) → s < length g.setup.shards → entries_of 0 t.servings s ≡ serving_in (length g.setup.servers) (cells_of g s)
+  pub replicas : replicas_by t.replicas ≡ (λ v s. has_replica (cells_of g s) v)
   pub down : t.down ≡ count_below (length g.setup.servers) (down_of g)
 
 -- beyond its servers and shards a grid has nothing, and each server that a cell names is known

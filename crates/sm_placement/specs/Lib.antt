@@ -12,4 +12,5 @@ pub mod Grid
 pub mod Parties
 pub mod Cells
 pub mod Lasts
+pub mod Replicas
 pub mod Opening

@@ -12,6 +12,7 @@ mod limits;
 mod opening;
 mod parties;
 mod placement;
+mod replicas;
 mod row;
 mod table;
 

@@ -1,11 +1,13 @@
 //! One shard's cells, by server: who serves it, who is live, and how many.
-ghost use Rattle.std.specs.Prelude.{◌≡◌, ◌<◌, ◌≤◌, ◌+◌, ◌*◌, ◌&&◌, false, not, length, slice_set};
+ghost use Rattle.std.specs.Prelude.{◌≡◌, ◌<◌, ◌≤◌, ◌+◌, ◌*◌, ◌&&◌, ℕ, false, not, length, slice_set};
 ghost use Rattle.sm_server.specs.Cell.{is_forwarding};
-ghost use Rattle.sm_placement.specs.Sums.{put, bit};
-ghost use Rattle.sm_placement.specs.Rows.{IsKnownCell, forwards, serves, is_live, live_in};
+ghost use Rattle.sm_placement.specs.Sums.{put, put2, bit};
+ghost use Rattle.sm_placement.specs.Rows.{IsKnownCell, forwards, serves, is_live};
 ghost use Rattle.sm_placement.specs.Layout.{grid_of, entries_of};
+ghost use Rattle.sm_placement.specs.Replicas.{replicas_by};
 
 use crate::cells::{Cells, Row};
+use crate::replicas::Replicas;
 use sm_server::{Cell, ServerId, ShardId};
 
 /// The number of servers of a row that are live, and of those that serve.
@@ -15,7 +17,7 @@ pub struct Counts {
     pub serving: u32,
 }
 
-ghost use Rattle.sm_placement.specs.Counts.{counts_in, counts_at, has_replica, target_of, party_of, CanCorrect, corrected};
+ghost use Rattle.sm_placement.specs.Counts.{counts_in, counts_at, has_replica, part_of, target_of, party_of, CanCorrect, corrected};
 ghost use Rattle.sm_placement.specs.declared.limits.TheConstants.{MOST_SERVERS};
 
 /// Tells whether the cell forwards to the server under the number.
@@ -52,7 +54,7 @@ pub fn serves(row: Row<'_>, server: ServerId) -> bool
 }
 
 /// Tells whether the server has a replica that is live while the server is up.
-pub fn has_replica(row: Row<'_>, server: ServerId) -> bool
+fn has_replica(row: Row<'_>, server: ServerId) -> bool
     ensures { result ≡ has_replica (grid_of row.entry.servers Cell.Absent row.entry.cells.now row.entry.shard) server }
 {
     match cell_at(row, server) {
@@ -61,20 +63,18 @@ pub fn has_replica(row: Row<'_>, server: ServerId) -> bool
     }
 }
 
-/// Returns the number of a row's live replicas, once a server that is down comes up, or one that is up goes down.
-pub fn live_toggled(row: Row<'_>, down: &[bool], server: ServerId, live: u32) -> u32
-    requires bound { row.servers ≤ MOST_SERVERS }
-    requires length { length down.now ≡ row.servers }
-    requires server { server < row.servers }
-    requires live { live ≡ live_in (row.servers) (grid_of row.servers Cell.Absent row.cells.now row.shard) (entries_of false down.now) }
-    ensures { result ≡ live_in (row.entry.servers) (grid_of row.entry.servers Cell.Absent row.entry.cells.now row.entry.shard) (put (entries_of false down.now) server (not (entries_of false down.now server))) }
+/// Returns the number of a row's live replicas, once a server goes down or comes up that has one or not.
+pub fn live_toggled(live: u32, has_replica: bool, down: bool) -> u32
+    requires part { part_of (not down) has_replica ≤ live }
+    requires bound { live ≤ MOST_SERVERS }
+    ensures { result + part_of (not down) has_replica ≡ live + part_of down has_replica }
 {
-    if !has_replica(row, server) {
+    if !has_replica {
         live
-    } else if down[server.number() as usize] {
-        live + 1
-    } else {
+    } else if down {
         live - 1
+    } else {
+        live + 1
     }
 }
 
@@ -138,9 +138,28 @@ fn corrected(counts: Counts, before: Counts, after: Counts) -> Counts
     }
 }
 
-/// Sets the cell of a server and a shard whose row has these counts, and says what the counts are then.
+/// Sets the entries of two servers, which may be one, for the shard of a row.
+fn set_replicas(replicas: &mut Replicas, row: Row<'_>, server: ServerId, other: ServerId)
+    requires shard { row.shard < replicas.old.shards }
+    requires server { server * replicas.old.shards + row.shard < length replicas.old.held }
+    requires other { other * replicas.old.shards + row.shard < length replicas.old.held }
+    ensures held { replicas_by replicas.new ≡ put2 (put2 (replicas_by replicas.old) server row.entry.shard (has_replica (grid_of row.entry.servers Cell.Absent row.entry.cells.now row.entry.shard) server)) other row.entry.shard (has_replica (grid_of row.entry.servers Cell.Absent row.entry.cells.now row.entry.shard) other) }
+    ensures length { length replicas.new.held ≡ length replicas.old.held }
+    ensures shards { replicas.new.shards ≡ replicas.old.shards }
+{
+    replicas.set(
+        server.number() as usize,
+        row.shard,
+        has_replica(row, server),
+    );
+    replicas.set(other.number() as usize, row.shard, has_replica(row, other));
+}
+
+/// Sets the cell of a server and a shard whose row has these counts, with the entries that change with it, and says
+/// what the counts are then.
 pub fn set_cell(
     cells: &mut Cells,
+    replicas: &mut Replicas,
     down: &[bool],
     shard: ShardId,
     server: ServerId,
@@ -154,8 +173,14 @@ pub fn set_cell(
     requires next { IsKnownCell (length down.now) cell }
     requires one_forwards { (is_forwarding (grid_of (length down.now) Cell.Absent cells.old shard server) && is_forwarding cell) ≡ false }
     requires counts { counts ≡ counts_in (length down.now) (grid_of (length down.now) Cell.Absent cells.old shard) (entries_of false down.now) }
+    requires replicas_shard { shard < replicas.old.shards }
+    requires replicas_length { length replicas.old.held ≡ length down.now * replicas.old.shards }
+    requires replicas { (v : ℕ) → replicas_by replicas.old v shard ≡ has_replica (grid_of (length down.now) Cell.Absent cells.old shard) v }
     ensures cells { cells.new ≡ slice_set cells.old (shard * length down.now + server) cell }
     ensures counts { result ≡ counts_in (length down.now) (put (grid_of (length down.now) Cell.Absent cells.old shard) server cell) (entries_of false down.now) }
+    ensures replicas { replicas_by replicas.new ≡ (λ v. put (replicas_by replicas.old v) shard (has_replica (put (grid_of (length down.now) Cell.Absent cells.old shard) server cell) v)) }
+    ensures replicas_length { length replicas.new.held ≡ length replicas.old.held }
+    ensures replicas_shards { replicas.new.shards ≡ replicas.old.shards }
 {
     let servers = down.len();
     let row = cells.row(shard.number() as usize, servers);
@@ -167,5 +192,6 @@ pub fn set_cell(
     );
     let row = cells.row(shard.number() as usize, servers);
     let after = counts_at(row, down, server, other);
+    set_replicas(replicas, row, server, other);
     corrected(counts, before, after)
 }

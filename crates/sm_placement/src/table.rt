@@ -1,16 +1,18 @@
 //! The cells of a configuration, one after another, with running totals.
-ghost use Rattle.std.specs.Prelude.{◌≡◌, ◌<◌, ◌≤◌, ◌+◌, ◌*◌, ◌^◌, ◌&&◌, false, not, length, replicate, IfOk};
+ghost use Rattle.std.specs.Prelude.{◌≡◌, ◌<◌, ◌≤◌, ◌+◌, ◌*◌, ◌^◌, ◌&&◌, false, length, replicate, IfOk};
 ghost use Rattle.sm_server.specs.Cell.{is_forwarding};
 ghost use Rattle.sm_placement.specs.Sums.{put};
 ghost use Rattle.sm_placement.specs.Rows.{IsKnownCell};
 ghost use Rattle.sm_placement.specs.Place.{weight};
-ghost use Rattle.sm_placement.specs.Layout.{grid_of, entries_of};
-ghost use Rattle.sm_placement.specs.Counts.{AreLives};
+ghost use Rattle.sm_placement.specs.Layout.{grid_of};
+ghost use Rattle.sm_placement.specs.Counts.{CanToggle, AreToggled};
+ghost use Rattle.sm_placement.specs.Replicas.{replicas_by};
 ghost use Rattle.sm_placement.specs.declared.limits.TheConstants.{MOST_SERVERS};
 
 use crate::cells::{Cells, Row};
 use crate::config::Config;
 use crate::lasts::Lasts;
+use crate::replicas::Replicas;
 use crate::row::{self, Counts};
 use sm_server::{Cell, ServerId, ShardId};
 use std::alloc::{AllocError, Global};
@@ -27,6 +29,7 @@ pub struct Table {
     loads: Vec<u64>,
     lives: Vec<u32>,
     servings: Vec<u32>,
+    replicas: Replicas,
 }
 
 /// Drops everything in one call, instead of one call for each list.
@@ -41,6 +44,7 @@ impl Drop for Table {
             loads,
             lives,
             servings,
+            replicas,
         } = self;
         drop(config);
         drop(cells);
@@ -49,6 +53,7 @@ impl Drop for Table {
         drop(loads);
         drop(lives);
         drop(servings);
+        drop(replicas);
     }
 }
 
@@ -59,7 +64,7 @@ impl Model for Table {
 
     ghost view = { λ t. record { setup = t.config; cells = t.cells; lasts = t.lasts; down = t.down.items } };
 
-    ghost invariant = { λ t. IsCounted (record { setup = t.config; cells = t.cells; lasts = t.lasts; down = t.down.items }) (record { loads = t.loads.items; lives = t.lives.items; servings = t.servings.items; down = t.down_count }) };
+    ghost invariant = { λ t. IsCounted (record { setup = t.config; cells = t.cells; lasts = t.lasts; down = t.down.items }) (record { loads = t.loads.items; lives = t.lives.items; servings = t.servings.items; replicas = t.replicas; down = t.down_count }) };
 }
 
 /// Returns the load that a cell puts on its server.
@@ -70,17 +75,15 @@ const fn weight(cell: &Cell, load: u64) -> u64
 }
 
 /// Corrects the counts of live replicas, once a server that is down comes up, or one that is up goes down.
-fn toggle_lives(lives: &mut [u32], cells: &Cells, down: &[bool], server: ServerId)
-    requires bound { length down.now ≤ MOST_SERVERS }
-    requires cells { length cells.now ≡ length lives.old * length down.now }
-    requires server { server < length down.now }
-    requires lives { AreLives lives.old (length down.now) (grid_of (length down.now) Cell.Absent cells.now) (entries_of false down.now) }
-    ensures { AreLives lives.new (length down.now) (grid_of (length down.now) Cell.Absent cells.now) (put (entries_of false down.now) server (not (entries_of false down.now server))) }
+fn toggle_lives(lives: &mut [u32], replicas: &Replicas, server: ServerId, down: bool)
+    requires shards { length lives.old ≡ replicas.now.shards }
+    requires server { server * replicas.now.shards + replicas.now.shards ≤ length replicas.now.held }
+    requires lives { CanToggle lives.old down (replicas_by replicas.now server) }
+    ensures { AreToggled lives.old lives.new down (replicas_by replicas.now server) }
 {
-    let servers = down.len();
     for shard in 0..lives.len() {
-        let row = cells.row(shard, servers);
-        lives[shard] = row::live_toggled(row, down, server, lives[shard]);
+        let has_replica = replicas.get(server.number() as usize, shard);
+        lives[shard] = row::live_toggled(lives[shard], has_replica, down);
     }
 }
 
@@ -136,6 +139,7 @@ impl Table {
     ghost use Rattle.sm_server.specs.Cell.{is_forwarding};
     ghost use Rattle.sm_placement.specs.Sums.{put, put2, count_below};
     ghost use Rattle.sm_placement.specs.Place.{load_of};
+    ghost use Rattle.sm_placement.specs.Counts.{has_replica};
     ghost use Rattle.sm_placement.specs.Grid.{cells_of, lasts_of, down_of, IsGrid};
 
     /// Makes a table with nothing in each cell.
@@ -152,6 +156,7 @@ impl Table {
         let lasts = Lasts::new(alloc, shards * servers)?;
         let (down, loads) = blank_by_server(alloc, servers)?;
         let (lives, servings) = blank_by_shard(alloc, shards)?;
+        let replicas = Replicas::new(alloc, servers, shards)?;
         Ok(Table {
             config,
             cells,
@@ -161,6 +166,7 @@ impl Table {
             loads,
             lives,
             servings,
+            replicas,
         })
     }
 
@@ -173,6 +179,7 @@ impl Table {
         let lasts = self.lasts.copy(alloc)?;
         let (down, loads) = copied_by_server(alloc, &self.down, &self.loads)?;
         let (lives, servings) = copied_by_shard(alloc, &self.lives, &self.servings)?;
+        let replicas = self.replicas.copy(alloc)?;
         Ok(Table {
             config,
             cells,
@@ -182,6 +189,7 @@ impl Table {
             loads,
             lives,
             servings,
+            replicas,
         })
     }
 
@@ -277,13 +285,23 @@ impl Table {
         row::serves(self.row_of(shard), server)
     }
 
+    /// Tells whether a server has a replica of a shard that is live while the server is up.
+    fn has_replica(&self, shard: ShardId, server: ServerId) -> bool
+        requires shard { shard < length self.now.setup.shards }
+        requires server { server < length self.now.setup.servers }
+        ensures { result ≡ has_replica (cells_of self.now shard) server }
+    {
+        self.replicas
+            .get(server.number() as usize, shard.number() as usize)
+    }
+
     /// Tells whether a server counts as live for a shard.
     pub fn is_live(&self, shard: ShardId, server: ServerId) -> bool
         requires shard { shard < length self.now.setup.shards }
         requires server { server < length self.now.setup.servers }
         ensures { result ≡ is_live (cells_of self.now shard) (down_of self.now) server }
     {
-        !self.is_down(server) && row::has_replica(self.row_of(shard), server)
+        !self.is_down(server) && self.has_replica(shard, server)
     }
 
     /// Sets a cell, and corrects the totals of its server and its shard.
@@ -304,7 +322,15 @@ impl Table {
             live: self.lives[row],
             serving: self.servings[row],
         };
-        let counts = row::set_cell(&mut self.cells, &self.down, shard, server, cell, counts);
+        let counts = row::set_cell(
+            &mut self.cells,
+            &mut self.replicas,
+            &self.down,
+            shard,
+            server,
+            cell,
+            counts,
+        );
         self.lives[row] = counts.live;
         self.servings[row] = counts.serving;
         let column = server.number() as usize;
@@ -322,7 +348,7 @@ impl Table {
         if self.is_down(server) == down {
             return;
         }
-        toggle_lives(self.lives.as_mut_slice(), &self.cells, &self.down, server);
+        toggle_lives(self.lives.as_mut_slice(), &self.replicas, server, down);
         self.down[server.number() as usize] = down;
         if down {
             self.down_count += 1;

@@ -1,39 +1,44 @@
 -- One shard more has its new count.
-use Rattle.std.proofs.Common.{◌≡◌, ℕ, Bool, false, not, length, sym, ap, ◌∙◌, arith}
-use Rattle.std.proofs.lemmas.Nat.{row_fits}
-use Rattle.sm_server.specs.declared.call.Cell.{Cell}
-use Rattle.sm_server.specs.declared.call.Cell.TheVariants.{Absent}
-use Rattle.sm_placement.specs.Sums.{put}
-use Rattle.sm_placement.specs.Rows.{live_in}
-use Rattle.sm_placement.specs.Layout.{grid_of, entries_of}
-use Rattle.sm_placement.proofs.GridLemmas.{entries_of-is, same_row, entries_of-done, entries_of-rest}
+use Rattle.std.proofs.Common.{◌≡◌, ℕ, ◌+◌, ◌-◌, ◌<◌, ◌≤◌, ◌∙◌, Bool, List, not, length, get_or, sym, ap, arith}
+use Rattle.sm_placement.specs.Layout.{entries_of}
+use Rattle.sm_placement.specs.Counts.{part_of, CanToggle}
+use Rattle.sm_placement.specs.Replicas.{ReplicasModel, replicas_by}
+use Rattle.sm_placement.specs.declared.limits.TheConstants.{MOST_SERVERS}
+use Rattle.sm_placement.proofs.GridLemmas.{entries_of-is, entries_of-done, entries_of-rest}
 use Rattle.sm_placement.proofs.table.toggle_lives.Goals as goal
 
-pub loop-shard-init : goal.loop-shard-init
-loop-shard-init c = record { done = λ r l. absurd (omega arith); rest = λ r l m. c.requires.lives r m }
+-- what the loop reads for a shard: the old count, and whether the server has a replica
+read : (old lives : List ℕ) (s v n : ℕ) (has down : Bool) (replicas : ReplicasModel) → s < length old → s < length lives → CanToggle old down (replicas_by replicas v) →
+    ((r : ℕ) → s ≤ r → r < length lives → entries_of 0 lives r ≡ entries_of 0 old r) → n ≡ v → has ≡ replicas_by replicas n s →
+    ((get_or lives s 0 ≡ entries_of 0 old s) × (has ≡ replicas_by replicas v s)) × ((part_of (not down) has ≤ get_or lives s 0) × (get_or lives s 0 ≤ MOST_SERVERS))
+read old lives s v n has down replicas l m can rest e h =
+    let live : get_or lives s 0 ≡ entries_of 0 old s = sym (entries_of-is 0 lives s) ∙ rest s (omega arith) m in
+    let is : has ≡ replicas_by replicas v s = h ∙ ap (λ (k : ℕ). replicas_by replicas k s) e in
+    ((live, is), rw (live, is) (can s l))
 
-pub row-row-requires : goal.row-row-requires
-row-row-requires c = omega (arith, row_fits c.loop-shard.shard (length c.args.down.now) (length c.args.lives.now) (length c.args.down.now) c.loop-shard-test.true (omega arith))
+pub live_toggled-requires-clause-part : goal.live_toggled-requires-clause-part
+live_toggled-requires-clause-part c =
+    (read c.args.lives.now c.loop-shard.lives c.loop-shard.shard c.args.server c.number.result c.get-has_replica.result c.args.down c.args.replicas.now (omega arith) (omega arith) c.requires.lives
+    c.loop-shard.invariant.rest c.number.ensures c.get-has_replica.ensures).1.0
 
-pub live_toggled-requires-clause-live : goal.live_toggled-requires-clause-live
-live_toggled-requires-clause-live c =
-    let n : ℕ = length c.args.down.now in
-    let s : ℕ = c.loop-shard.shard in
-    let same : grid_of c.row-row.result.servers Absent c.row-row.result.cells.now c.row-row.result.shard ≡ grid_of (length c.args.down.now) Absent c.args.cells.now s = same_row Absent c.row-row.ensures.servers c.row-row.ensures.cells c.row-row.ensures.shard in
-    rw (same, c.row-row.ensures.servers) (sym (entries_of-is 0 c.loop-shard.lives s) ∙ c.loop-shard.invariant.rest s (omega arith) (omega arith))
+pub live_toggled-requires-clause-bound : goal.live_toggled-requires-clause-bound
+live_toggled-requires-clause-bound c =
+    (read c.args.lives.now c.loop-shard.lives c.loop-shard.shard c.args.server c.number.result c.get-has_replica.result c.args.down c.args.replicas.now (omega arith) (omega arith) c.requires.lives
+    c.loop-shard.invariant.rest c.number.ensures c.get-has_replica.ensures).1.1
 
 pub loop-shard-preserved : goal.loop-shard-preserved
 loop-shard-preserved c =
-    let n : ℕ = length c.args.down.now in
     let s : ℕ = c.loop-shard.shard in
-    let same : grid_of c.row-row.result.servers Absent c.row-row.result.cells.now c.row-row.result.shard ≡ grid_of (length c.args.down.now) Absent c.args.cells.now s = same_row Absent c.row-row.ensures.servers c.row-row.ensures.cells c.row-row.ensures.shard in
-    let new : ℕ → Bool = put (entries_of false c.args.down.now) c.args.server (not (entries_of false c.args.down.now c.args.server)) in
-    let x : c.live_toggled.result ≡ live_in n (grid_of n Absent c.args.cells.now s) new =
-    c.live_toggled.ensures ∙ ap (λ (m : ℕ). live_in m (grid_of c.row-row.result.servers Absent c.row-row.result.cells.now c.row-row.result.shard) new) c.row-row.ensures.servers ∙ ap (λ (g : ℕ → Cell). live_in n g new) same in
+    let new : ℕ → ℕ = λ r. entries_of 0 c.args.lives.now r + part_of c.args.down (replicas_by c.args.replicas.now c.args.server r) - part_of (not c.args.down) (replicas_by c.args.replicas.now c.args.server r) in
+    let facts = read c.args.lives.now c.loop-shard.lives c.loop-shard.shard c.args.server c.number.result c.get-has_replica.result c.args.down c.args.replicas.now (omega arith) (omega arith) c.requires.lives
+    c.loop-shard.invariant.rest c.number.ensures c.get-has_replica.ensures in
+    let live : get_or c.loop-shard.lives c.loop-shard.shard 0 ≡ entries_of 0 c.args.lives.now c.loop-shard.shard = facts.0.0 in
+    let sum : c.live_toggled.result + part_of (not c.args.down) (replicas_by c.args.replicas.now c.args.server c.loop-shard.shard)
+    ≡ entries_of 0 c.args.lives.now c.loop-shard.shard + part_of c.args.down (replicas_by c.args.replicas.now c.args.server c.loop-shard.shard) = rw (← live, ← facts.0.1) c.live_toggled.ensures in
     record {
-      done = entries_of-done c.loop-shard.lives s c.live_toggled.result (λ r. live_in n (grid_of n Absent c.args.cells.now r) new) (omega arith) c.loop-shard.invariant.done x;
-      rest = entries_of-rest c.loop-shard.lives s c.live_toggled.result (λ r. live_in n (grid_of n Absent c.args.cells.now r) (entries_of false c.args.down.now)) (omega arith) c.loop-shard.invariant.rest;
+      done = entries_of-done c.loop-shard.lives s c.live_toggled.result new (omega arith) c.loop-shard.invariant.done (omega (arith, sum));
+      rest = entries_of-rest c.loop-shard.lives s c.live_toggled.result (entries_of 0 c.args.lives.now) (omega arith) c.loop-shard.invariant.rest;
     }
 
 pub returns : goal.returns
-returns c = λ r l. c.loop-shard.invariant.done r (omega arith)
+returns c = λ s l. let e = c.loop-shard.invariant.done s (omega arith) in let can = (c.requires.lives s l).0 in omega (arith, e, can)

@@ -7,6 +7,7 @@ use Rattle.sm_placement.specs.Place.{weight, load_of}
 use Rattle.sm_placement.specs.Sums.{put2}
 use Rattle.sm_placement.specs.Grid.{TableModel, Totals, IsCounted, cells_of}
 use Rattle.sm_placement.proofs.TableLemmas.{counts_in-read, row_set-is, IsCorrected, load_of-corrected, IsCounted-set, cells_of-set}
+use Rattle.sm_placement.proofs.ReplicaLemmas.{replicas_shard, replicas_count, replicas_by-column, AreSet-is}
 use Rattle.sm_placement.proofs.table.Table.set_cell.Goals as goal
 
 -- what the steps of the code say of the load, with the table as its callers saw it
@@ -23,6 +24,15 @@ set_cell-counts-requires-clause-counts c =
     counts_in-read c.args.shard c.index.result.now c.index-2.result.now c.deref.result.now c.self.invariant
     (omega (arith, ap (λ (g : TableModel). length g.setup.shards) c.self.view_is, c.requires.shard)) c.deref.ensures.value
     (rw (← c.number-row.ensures) c.index.ensures) (rw (← c.number-row.ensures) c.index-2.ensures)
+
+pub set_cell-counts-requires-clause-replicas_shard : goal.set_cell-counts-requires-clause-replicas_shard
+set_cell-counts-requires-clause-replicas_shard c = replicas_shard c.args.shard c.self.invariant c.self.view_is c.requires.shard
+
+pub set_cell-counts-requires-clause-replicas_length : goal.set_cell-counts-requires-clause-replicas_length
+set_cell-counts-requires-clause-replicas_length c = replicas_count c.deref.result.now c.self.invariant c.deref.ensures.value
+
+pub set_cell-counts-requires-clause-replicas : goal.set_cell-counts-requires-clause-replicas
+set_cell-counts-requires-clause-replicas c = replicas_by-column c.args.shard c.deref.result.now c.self.invariant c.deref.ensures.value
 
 pub overflow_add-index : goal.overflow_add-index
 overflow_add-index c =
@@ -45,8 +55,10 @@ invariant_of-self c =
     c.cell.ensures c.load-load.ensures.load c.weight-removed.ensures c.weight.ensures (rw (← c.number-column.ensures) c.index-3.ensures) in
     let row = row_set-is c.args.shard c.args.server c.args.cell c.set_cell-counts.result c.set_cell-counts.new.cells c.deref.result.now c.self.invariant
     c.deref.ensures.value c.set_cell-counts.ensures.cells c.set_cell-counts.ensures.counts in
+    let set = AreSet-is c.args.shard c.args.server c.args.cell c.set_cell-counts.new.replicas c.deref.result.now c.self.invariant c.deref.ensures.value
+    c.set_cell-counts.ensures.replicas c.set_cell-counts.ensures.replicas_length c.set_cell-counts.ensures.replicas_shards in
     rw (row.0, c.number-row.ensures, c.number-column.ensures)
-    (IsCounted-set c.args.shard c.args.server c.args.cell (c.index-3.result.now + c.weight.result - c.weight-removed.result) c.set_cell-counts.result c.self.invariant l m known k.is row.1)
+    (IsCounted-set c.args.shard c.args.server c.args.cell (c.index-3.result.now + c.weight.result - c.weight-removed.result) c.set_cell-counts.result c.set_cell-counts.new.replicas c.self.invariant l m known k.is row.1 set)
 
 pub returns-clause-cells : goal.returns-clause-cells
 returns-clause-cells c =
