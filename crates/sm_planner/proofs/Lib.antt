@@ -10,5 +10,6 @@ pub mod Signalling
 pub mod Refusing
 pub mod Departing
 pub mod Keys
+pub mod Moved
 pub mod Answering
 pub mod law

@@ -104,11 +104,12 @@ fn is_too_close(
     requires known { All (IsMoveOf placement.now.setup) moves.now }
     ensures { IfOk result (λ close. close ≡ is_too_close placement.now.setup (place_of placement.now) moves.now shard) }
 {
-    if !is_moved(moves, shard) {
+    let config = placement.config();
+    // (a shard that is moved lies in one region at least)
+    if config.shard(shard).spread <= 1 || !is_moved(moves, shard) {
         return Ok(false);
     }
     let has = holders_after(alloc, placement, moves, shard)?;
-    let config = placement.config();
     let held = occupied_by(alloc, config, regions, &has)?;
     Ok(held.count < config.shard(shard).spread)
 }
