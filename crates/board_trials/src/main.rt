@@ -2,7 +2,7 @@
 //!
 //! `board_trials storm [RUNS [SECONDS]]` makes `RUNS` runs of a storm, and 1,000 if no number is named; no run begins
 //! after so many seconds. `board_trials looks` compares looks with plain atomic loads, and `board_trials looks check` only
-//! runs a small plan to its end beside looks. To other words the program answers how it is called. It ends with status 1
+//! runs a small plan to its end beside looks. The program answers other words with its usage. It ends with status 1
 //! if a trial is not as it has to be, or none was asked for.
 #![tactic(auto)]
 

@@ -115,7 +115,7 @@ PassesOnAtCut = (base : Base) (slot : Slot) (applied : ℕ) (request : Request) 
     routed base slot applied request ≡ PassOn to handover cut →
     (base.fenced ≡ false) × (slot.cell ≡ Forwarding to handover) × (slot.cut ≡ Some cut)
 
--- A server that still has its slots once it has heard of its journal's last reopening was settled at it, or stands above it.
+-- A server that still has its slots once it has heard of its journal's last reopening is as it was, and its base is not below that reopening's.
 abbrev pub HeedsReopenings : Type 0
 HeedsReopenings = (base : Base) (last : Reopening) (nonce : ℕ) →
     lacks_slots (heeded base last nonce) ≡ false →

@@ -75,8 +75,8 @@ pub fn passes_on_at_cut()
     ensures { PassesOnAtCut }
 {}
 
-/// States that if a server still has its slots once it has heard of its journal's last reopening, it was settled at it,
-/// or stands above it.
+/// States that if a server still has its slots once it has heard of its journal's last reopening, it is as it was, and its
+/// base is not below that reopening's.
 pub fn heeds_reopenings()
     ensures { HeedsReopenings }
 {}

@@ -1,5 +1,5 @@
 -- The next try of a stream's call, and laws that it stays as it is: the call that a stream stands before changes only with the stream's step,
--- and one of which a try was lost is tried again as it was, under its number.
+-- and if a try of it is lost, the next one is the same call under the same number.
 use Rattle.std.specs.Prelude.{◌≡◌, ℕ, Bool, true, Option, Some, None, List}
 use Rattle.sm_placement.specs.Setup.{Setup, sizes_of}
 use Rattle.sm_reservation.specs.declared.stream_id.StreamId.{StreamId}

@@ -1,4 +1,4 @@
-//! Laws of the tries of calls: a call of which a try was lost is tried again as it was.
+//! Laws of the tries of calls: if a try is lost, the next one is the same call.
 #![tactic(auto)]
 
 mod law;

@@ -24,7 +24,7 @@ pub record AreAlike (d e : DriverModel) : Type 0 where
 abbrev pub EachAlike : (DriverModel → DriverModel → Type 0) → Type 0
 EachAlike P = (d e : DriverModel) → AreAlike d e → P d e
 
--- What decides on the outcome of a command is the same, and so are the messages that streams stand before.
+-- The outcome of a command is decided by the same, and streams stand before the same messages.
 pub record ReplyAlike (d e : DriverModel) : Type 0 where
   pub begin : (plan : PlanModel) → (happens (record_of e) (Begin plan)).0 ≡ (happens (record_of d) (Begin plan)).0
   pub due : (id : StreamId) (number : ℕ) → is_due e id number ≡ is_due d id number
@@ -37,7 +37,7 @@ pub record ReplyAlike (d e : DriverModel) : Type 0 where
   pub epoch : epoch_fault e ≡ epoch_fault d
   pub message : (id : StreamId) → message_of (base e) (record_of e) id ≡ message_of (base d) (record_of d) id
 
--- What commands make of drivers that are alike is alike, and so are the numbers that they give.
+-- Commands make drivers that are alike of drivers that are alike, and give the same numbers.
 pub record GoAlike (d e : DriverModel) : Type 0 where
   pub replies : ReplyAlike d e
   pub begun : (plan : PlanModel) (m n : ℕ) (new next : DriverModel) → HasBegunPlan plan m d new → HasBegunPlan plan n e next → (n ≡ m) × AreAlike new next

@@ -1,4 +1,4 @@
--- What a pool takes back, grant by grant.
+-- A pool takes grants back, one by one.
 use Rattle.std.proofs.Common.{◌≡◌, ◌≤◌, ◌+◌, ◌∙◌, ◌∷◌, [], ℕ, Option, Some, None, List, length, not, false, is_some, sym, ap, subst, arith, refl, inl, inr}
 use Rattle.std.specs.Prelude.{sum_by}
 use Rattle.std.proofs.lemmas.Bool.{cases_Bool}

@@ -1,4 +1,4 @@
--- What goes back to the pool when a machine ends.
+-- Amounts that go back to the pool when a machine ends.
 -- Internal definitions: you need not read them for the public contracts.
 use Rattle.std.specs.Prelude.{◌≡◌, ◌<◌, ◌≤◌, ◌+◌, ◌^◌, ℕ, List, length, sum_by, if◌then◌else◌}
 use Rattle.sm_placement.specs.Sums.{sum_below}

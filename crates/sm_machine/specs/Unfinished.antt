@@ -3,7 +3,7 @@
 use Rattle.std.specs.Prelude.{◌≡◌, ℕ, zero, suc, ◌==◌, ◌++◌, ◌∷◌, [], List, length, slice_index_or, if◌then◌else◌}
 use Rattle.sm_machine.specs.Begun.{BegunModel, no_begun}
 
--- of the first n plans, those of which some stream has not finished, by how many of each have not
+-- those of the first n plans that have a stream that has not finished, by how many of each have not
 abbrev pub unfinished_below : (ℕ → ℕ) → ℕ → List ℕ
 unfinished_below counts zero = []
 unfinished_below counts (suc n) = if counts n == 0 then unfinished_below counts n else unfinished_below counts n ++ n ∷ []

@@ -470,7 +470,7 @@ impl Machine {
         self.engine.blocked_on(id)
     }
 
-    /// Returns the numbers of the plans of which some stream has not finished, in the order of their starts.
+    /// Returns the numbers of the plans that have a stream that has not finished, in the order of their starts.
     pub fn unfinished(&self) -> &[u32]
         ensures { result.now ≡ unfinished_plans (state_of self.now) }
     {

@@ -79,7 +79,7 @@ pub record ArePermits (c : Controller) : Type 0 where
   pub apart : (u v permit : ℕ) → c.permits u ≡ Some permit → c.permits v ≡ Some permit → u ≡ v
 
 -- A fleet opens on what is there: a settled placement and an empty journal. Servers have their slots, or have lost them and ask for
--- them. Whatever was sent earlier may come, and is old.
+-- them. Orders that were sent earlier may come, and are old.
 pub record IsFleetOpening (setup : Setup) (f : Fleet) : Type 0 where
   pub journal : f.journal ≡ []
   pub last : ℕ → ℕ → ℕ
@@ -132,7 +132,7 @@ abbrev pub orders_committed : List FleetEvent → Fleet → List Order
 orders_committed [] f = []
 orders_committed (e ∷ es) f = order_committed (fleet_comes f e).0 ++ orders_committed es (fleet_comes f e).1
 
--- A message of a controller with any beginning of the journal does no harm. An order of it is still the present one of its stream, or
+-- An order or a restore of a controller with any beginning of the journal does no harm. An order of it is still the present one of its stream, or
 -- nothing has an effect under its number on its cell any more; and its restores are among those of the whole journal.
 pub record BeginningsAreHarmless (setup : Setup) (f : Fleet) : Type 0 where
   pub orders : (lost : ℕ) (id : StreamId) (l : Letter) → letter_of (earlier f lost) id ≡ Some l →

@@ -93,7 +93,7 @@ pub record IsNoServer (x : Settling) (s : Settlement) (f : Fleet) (v : ℕ) : Ty
   pub lasts : (k : ℕ) → ((f.servers v).slots k).last ≤ x.reopening.base
   pub loads : (k : ℕ) → ((f.servers v).slots k).load ≡ cell_load ((f.servers v).slots k).cell ((sizes_of s.setup).load k)
 
--- The controller opens on this fleet: the number of the reopening is its base, and whatever was sent before may still come. A server that has
+-- The controller opens on this fleet: the number of the reopening is its base, and orders that were sent before may still come. A server that has
 -- not taken its part has lost its slots: it turns Unknown by the next message, and counts with what a restore will bring it.
 pub record IsFleetInForce (x : Settling) (s : Settlement) (f : Fleet) : Type 0 where
   pub journal : f.journal ≡ []

@@ -74,7 +74,8 @@ pub fn servers_are_recorded()
     ensures { EachFleet ServersAreRecorded }
 {}
 
-/// States that what a controller with any beginning of the journal sends is present, or has no effect any more.
+/// States that an order of a controller with any beginning of the journal is present, or has no effect any more, and that
+/// its restores are among those of the whole journal.
 pub fn beginnings_are_harmless()
     ensures { EachFleet BeginningsAreHarmless }
 {}

@@ -3,8 +3,8 @@ ghost use Rattle.sm_network.specs.FleetLaws.{EachFleet};
 ghost use Rattle.sm_network.specs.FleetReopening.{AgentsDoSo, FleetCanReopen, FleetOpensInForce};
 ghost use Rattle.sm_network.specs.ReopeningLaws.{CanBegin, CanBeginAgain, EachSettling, ExecutesSafely, LoadsFit, OpensWithPast, RefusesNone, SendsFromBeginnings, SettlesFairly, ShownExecutes, ToldIsHad};
 
-/// States that a settlement keeps the cells of a shard with no handover under way, and gives one with a handover to a
-/// party, or to the server that has more of it.
+/// States that a settlement keeps the cells of a shard with no handover under way whose primary is there, and gives one
+/// with a handover to a party, or to the server that has more of it.
 pub fn settles_fairly()
     ensures { SettlesFairly }
 {}
@@ -46,7 +46,7 @@ pub fn can_begin()
     ensures { CanBegin }
 {}
 
-/// States that once a settlement is in force, the next reopening can begin.
+/// States that once a settlement is in force, and no server waits for a restore, the next reopening can begin.
 pub fn can_begin_again()
     ensures { EachSettling CanBeginAgain }
 {}

@@ -52,6 +52,6 @@ since_in id start n (x ∷ xs) = since_in id (if is_step_of id x.event then n + 
 abbrev pub since_of : State → StreamId → ℕ
 since_of w id = since_in id (slice_index_or w.plans id.plan no_start).since 0 w.log
 
--- the plans of which some stream has not finished, in the order of their starts
+-- the plans that have a stream that has not finished, in the order of their starts
 abbrev pub unfinished_plans : State → List ℕ
 unfinished_plans w = filter (is_unfinished w) (range_with_len 0 (length w.plans))

@@ -18,7 +18,7 @@ impl Kind {
     }
 }
 
-/// What a run has come to: how often a halt stopped its streams, and the numbers of calls lost and of requests executed.
+/// The outcome of a run: how often a halt stopped its streams, and the numbers of calls lost and of requests executed.
 #[derive(Clone, Copy)]
 pub(crate) struct Outcome {
     pub stops: u64,

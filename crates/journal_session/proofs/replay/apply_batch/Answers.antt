@@ -5,7 +5,7 @@ use Rattle.journal_session.proofs.Turns.{replays_none}
 use Rattle.journal_session.proofs.Replays.{batch_begins, begins_more, applied_last, left_more, replays_more, has_unchanged, batch_has_object}
 use Rattle.journal_session.proofs.replay.apply_batch.Goals as goal
 
--- What is applied is one object.
+-- The replay applies one object at a time.
 pub replay-requires : goal.replay-requires
 replay-requires g c =
     let text = c.loop-length.rest.now in
