@@ -228,8 +228,7 @@ impl Machine {
                 server.number() < config.server_count()
             }
             Event::Refill { more, .. } => more <= MOST_CALLS,
-            Event::Step { .. } | Event::Lose { .. } | Event::PassOn { .. } | Event::Begin { .. } =>
-                true,
+            _ => true,
         }
     }
 
