@@ -30,12 +30,22 @@ class Read:
     is_torn: bool = False
 
 
+def object_of(text: str) -> Optional[Line]:
+    """Reads a line that is one JSON object; none if it is anything else."""
+    try:
+        line = json.loads(text)
+    except (ValueError, RecursionError):
+        return None
+    return line if isinstance(line, dict) else None
+
+
 def read_journal(text: str) -> Read:
     """Reads a journal of `smpland JOURNAL`, or lines as a host of `smpland -` has stored them."""
     lines = text.split("\n")
     read = Read(is_torn=lines[-1] != "")
     if lines[0] != HEAD:
-        read.lines = [it for it in lines if it.strip()]
+        whole = lines[:-1] if object_of(lines[-1]) is None else lines
+        read.lines = [it for it in whole if it.strip()]
         return read
     after = NO_SUM
     for number, line in enumerate(lines[1:-1], 2):
@@ -170,8 +180,11 @@ def pieces_of(lines: List[str], model: Model, faults: List[str], strict: bool) -
     piece: Optional[Piece] = None
     document: Line = {}
     for number, text in enumerate(lines, 1):
-        line = json.loads(text)
-        if piece is not None and line["do"] in ("reopen", "new_epoch"):
+        line = object_of(text)
+        if line is None:
+            faults.append(f"entry {number} is no JSON object")
+            line = {}
+        if piece is not None and line.get("do") in ("reopen", "new_epoch"):
             piece.end = model.state()
         reply = model.reply(text)
         if strict and any(it in reply for it in ("bad", "refused", "ignored")):
@@ -247,8 +260,8 @@ def add_parser(subparsers: Any) -> None:
     """Adds the command."""
     root = Path(__file__).resolve().parents[2]
     parser = subparsers.add_parser("audit-journal", help="looks at a journal: its sums, each line by the reference model, each epoch by smplan play")
-    parser.add_argument("journal")
-    parser.add_argument("--session", nargs="+", default=[sys.executable, str(root / "tools" / "smpland_model.py"), "-"], metavar="WORD", help="the session's command line")
+    parser.add_argument("journal", help="the file of `smpland JOURNAL`, or the lines that a host has stored")
+    parser.add_argument("--session", nargs="+", default=[sys.executable, str(root / "tools" / "smpland_model.py"), "-"], metavar="WORD", help="the session's command line, behind the journal (the reference)")
     parser.add_argument("--strict", action="store_true", help="each entry has to change something, as in a journal of `smpland JOURNAL`")
     program.add_option(parser)
     parser.set_defaults(run=run)

@@ -14,6 +14,17 @@ def told_of(kind: str, outgoing: Outgoing) -> Dict[str, Any]:
     return {"kind": kind, "message": outgoing.message, "age": outgoing.age, "tries": outgoing.tries, "said": outgoing.said}
 
 
+def line_of(body: bytes) -> Line:
+    """Reads the line that a request brings."""
+    try:
+        line = json.loads(body)
+    except RecursionError:
+        raise ValueError("the line is too deep") from None
+    if not isinstance(line, dict):
+        raise ValueError("a line is one JSON object")
+    return line
+
+
 def routes_of(controller: Controller) -> Dict[str, Route]:
     """Returns the routes: `POST /do` stores and feeds a line, `POST /ask` feeds one that only asks, `POST /restarted` ends a restart, `{"permit":7}`."""
     async def told(doing: Awaitable[Line]) -> Page:
@@ -24,25 +35,25 @@ def routes_of(controller: Controller) -> Dict[str, Route]:
 
     async def do(body: bytes) -> Page:
         try:
-            return await told(controller.do(json.loads(body)))
+            return await told(controller.do(line_of(body)))
         except ValueError as why:
             return Page.of({"fault": str(why)}, 400)
 
     async def restarted(body: bytes) -> Page:
         try:
-            return await told(controller.restarted(json.loads(body)["permit"]))
-        except (ValueError, KeyError, TypeError) as why:
+            return await told(controller.restarted(line_of(body)["permit"]))
+        except (ValueError, KeyError) as why:
             return Page.of({"fault": f"this is no permit: {why}"}, 400)
 
     async def ask(body: bytes) -> Page:
         try:
-            line: Line = json.loads(body)
+            line = line_of(body)
             if line.get("do") not in ASKING:
                 return Page.of({"fault": "this line may change something: POST /do"}, 400)
             return Page.of(await controller.ask(line))
         except SessionEnded as why:
             return Page.of({"fault": str(why)}, 503)
-        except (ValueError, AttributeError) as why:
+        except ValueError as why:
             return Page.of({"fault": str(why)}, 400)
 
     async def outgoing(_: bytes) -> Page:

@@ -9,6 +9,7 @@ from smplan import control_audit, control_watch
 from smplan.control import Controller, Outgoing, Session
 from smplan.control_drain import Campaign, moves_of
 from smplan.control_metrics import metrics_of
+from smplan.control_serve import routes_of
 from smplan.failure import Failure
 
 STATE = {
@@ -141,6 +142,20 @@ class WatchTest(unittest.TestCase):
         self.assertEqual(len(names), len(set(names)))
 
 
+class ServeTest(unittest.TestCase):
+    """What is answered to requests that are no lines."""
+
+    def test_no_line(self):
+        async def statuses():
+            session = await Session.start([sys.executable, "-c", STATES])
+            routes = routes_of(Controller(session, None, None))
+            pages = [await routes[it](body) for it in ("POST /do", "POST /ask", "POST /restarted") for body in (b"[]", b"x", b"[" * 100000)]
+            await session.close()
+            return {it.status for it in pages}
+
+        self.assertEqual(asyncio.run(statuses()), {400})
+
+
 class AuditTest(unittest.TestCase):
     """Journals, right and wrong."""
 
@@ -162,6 +177,19 @@ class AuditTest(unittest.TestCase):
 
     def test_lines_of_a_host(self):
         self.assertEqual(control_audit.read_journal('{"do":"a"}\n{"do":"b"}\n').lines, ['{"do":"a"}', '{"do":"b"}'])
+
+    def test_torn_end_of_a_host(self):
+        read = control_audit.read_journal('{"do":"a"}\n{"do')
+        self.assertEqual((read.lines, read.is_torn), (['{"do":"a"}'], True))
+
+    def test_lines_that_are_no_commands(self):
+        class Model:
+            def reply(self, text):
+                return {"bad": {}}
+
+        faults = []
+        self.assertEqual(list(control_audit.pieces_of(['{"x":1}', "[1]", "# no journal"], Model(), faults, False)), [])
+        self.assertEqual(faults, ["entry 2 is no JSON object", "entry 3 is no JSON object"])
 
     def test_steps_that_need_nobody(self):
         piece = control_audit.Piece({}, {})
