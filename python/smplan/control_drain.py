@@ -13,6 +13,18 @@ from .failure import Failure
 Line = Dict[str, Any]
 Post = Callable[[str, Line], Line]
 
+# Refusals that may be over once a running plan has ended. (A plan is untrue if another one ended since it was made.)
+PASSING = frozenset(["Held", "Taken", "ShortRoom", "ShortSpare", "TooManyPlans", "Untrue"])
+
+
+class Refused(Failure):
+    """A line was refused, or bad."""
+
+    def __init__(self, reply: Line) -> None:
+        told = reply.get("refused") or reply.get("bad") or {}
+        super().__init__(told.get("text") or str(reply), 1)
+        self.kind = told.get("kind")
+
 
 def moves_of(plan: Line, server: str) -> List[Line]:
     """Returns the moves away from a server that a plan makes: for each shard that it drops there, where its replica comes to."""
@@ -38,43 +50,55 @@ class Campaign:
     sleep: Callable[[float], None] = time.sleep
     is_stopped: bool = False
     moved: int = 0
+    waited: float = 0.0
 
     def run(self) -> int:
         """Runs until the server is empty: 0; or stopped: 1."""
         while not self.is_stopped:
-            moves = self.next_moves()
-            if not moves:
-                self.tell(f"{self.server} is empty; {self.moved} replicas moved")
-                return 0
-            if not self.make(moves[:self.batch]):
-                return 1
+            try:
+                moves = self.next_moves()
+                if not moves:
+                    self.tell(f"{self.server} is empty; {self.moved} replicas moved")
+                    return 0
+                if not self.make(moves[:self.batch]):
+                    return 1
+            except Refused as why:
+                self.let_pass(why)
+                continue
+            self.waited = 0.0
             self.moved += len(moves[:self.batch])
             if len(moves) > self.batch:
                 self.sleep(self.pause)
         self.tell(f"stopped; {self.moved} replicas moved")
         return 1
 
-    def refused(self, reply: Line) -> Failure:
-        """Returns why a line was not done."""
-        told = reply.get("refused") or reply.get("bad") or {}
-        return Failure(told.get("text") or str(reply), 1)
+    def let_pass(self, why: Refused, step: float = 0.5) -> None:
+        """Waits a moment if a running plan may be why a line was refused; raises the refusal otherwise, and once this takes longer than the patience."""
+        plans = self.post("/ask", {"do": "state"}).get("state", {}).get("plans", [])
+        running = [it["name"] for it in plans if it["is"] == "running"]
+        if why.kind not in PASSING or not (running or why.kind == "Untrue") or (self.patience is not None and self.waited > self.patience):
+            raise why
+        if not self.waited:
+            self.tell(f"waits for {', '.join(running) or 'a moment'}: {why}")
+        self.sleep(step)
+        self.waited += step
 
     def next_moves(self) -> List[Line]:
         """Asks where everything would go that the server has now."""
         reply = self.post("/ask", {"do": "drain", "server": self.server})
         if "plan" not in reply:
-            raise self.refused(reply)
+            raise Refused(reply)
         return moves_of(reply["plan"], self.server)
 
     def make(self, moves: List[Line]) -> bool:
         """Moves some replicas, and waits until they are moved. Tells whether the campaign goes on."""
         reply = self.post("/ask", {"do": "moves", "moves": moves})
         if "plan" not in reply:
-            raise self.refused(reply)
+            raise Refused(reply)
         state = self.post("/ask", {"do": "state"})["state"]
         begun = self.post("/do", {"do": "begin", "plan": reply["plan"], "name": f"drain-{self.server}-{state['epoch']}-{state['place']}"})
         if "begun" not in begun:
-            raise self.refused(begun)
+            raise Refused(begun)
         self.tell(f"{', '.join(it['shard'] + ' to ' + it['to'] for it in moves)}")
         return self.wait(begun["begun"]["plan"], state["epoch"])
 
@@ -109,12 +133,22 @@ def run(told: argparse.Namespace) -> int:
     return campaign.run()
 
 
+def at_least(least: float, kind: Callable[[str], float] = float) -> Callable[[str], float]:
+    """Returns how a number that must not be smaller is read."""
+    def number(text: str) -> float:
+        value = kind(text)
+        if not value >= least:
+            raise argparse.ArgumentTypeError(f"{text} is below {least:g}")
+        return value
+    return number
+
+
 def add_parser(subparsers: Any) -> None:
     """Adds the command."""
     parser = subparsers.add_parser("drain", help="empties a server by small plans, one after the other")
-    parser.add_argument("server")
+    parser.add_argument("server", help="the server's name")
     parser.add_argument("--controller", required=True, metavar="URL", help="the leading controller's HTTP port")
-    parser.add_argument("--batch", type=int, default=4, metavar="N", help="moves in a plan (4)")
-    parser.add_argument("--pause", type=float, default=1.0, metavar="SECONDS", help="rest between two plans (1)")
-    parser.add_argument("--stop", type=float, metavar="SECONDS", help="begin no further plan once one takes longer than this")
+    parser.add_argument("--batch", type=at_least(1, int), default=4, metavar="N", help="moves in a plan (4)")
+    parser.add_argument("--pause", type=at_least(0), default=1.0, metavar="SECONDS", help="rest between two plans (1)")
+    parser.add_argument("--stop", type=at_least(0), metavar="SECONDS", help="begin no further plan once one, or waiting for others' plans, takes longer than this")
     parser.set_defaults(run=run)

@@ -6,6 +6,7 @@ import sys
 import time
 from typing import Any, Dict, List
 
+from .control_drain import at_least
 from .control_http import fetch
 
 Line = Dict[str, Any]
@@ -49,8 +50,8 @@ def message_lines(outgoing: List[Line], most: int) -> List[str]:
     return lines
 
 
-def screen(state: Line, outgoing: List[Line], most: int = 15) -> str:
-    """Writes everything."""
+def screen(state: Line, outgoing: List[Line], most: int = 15, leads: bool = True) -> str:
+    """Writes everything. A controller that does not lead has no messages, whatever is outstanding."""
     condition = {"open": "in force", "reopening": "a reopening is under way", "new": "nothing is opened yet"}[state.get("is", "new")]
     shards = state.get("shards", [])
     without = [it["shard"] for it in shards if not any(cell["state"] in ("primary", "forwarding") for cell in it["cells"])]
@@ -59,7 +60,7 @@ def screen(state: Line, outgoing: List[Line], most: int = 15) -> str:
         "servers", *(server_lines(state) or ["  none"]),
         f"{len(shards)} shards" + (f", without a primary: {', '.join(without[:10])}" if without else ""),
         "plans", *(plan_lines(state) or ["  none"]),
-        f"messages outstanding: {len(outgoing)}", *(message_lines(outgoing, most) or ["  none"]),
+        *([f"messages outstanding: {len(outgoing)}", *(message_lines(outgoing, most) or ["  none"])] if leads else ["this controller does not lead, and sends no messages"]),
     ]
     return "\n".join(parts) + "\n"
 
@@ -69,7 +70,8 @@ def run(told: argparse.Namespace) -> int:
     url = told.controller.rstrip("/")
     try:
         while True:
-            text = screen(fetch(url + "/ask", {"do": "state"})["state"], fetch(url + "/outgoing"))
+            leads = "\nsmplan_leads 1" in fetch(url + "/metrics")
+            text = screen(fetch(url + "/ask", {"do": "state"})["state"], fetch(url + "/outgoing"), leads=leads)
             sys.stdout.write(("\033[H\033[J" if sys.stdout.isatty() and not told.once else "") + text)
             sys.stdout.flush()
             if told.once:
@@ -88,10 +90,10 @@ def run_metrics(told: argparse.Namespace) -> int:
 def add_parser(subparsers: Any) -> None:
     """Adds both commands."""
     parser = subparsers.add_parser("watch", help="shows plans, outstanding messages, servers and restarts")
-    parser.add_argument("--controller", required=True, metavar="URL")
-    parser.add_argument("--every", type=float, default=1.0, metavar="SECONDS")
+    parser.add_argument("--controller", required=True, metavar="URL", help="the leading controller's HTTP port")
+    parser.add_argument("--every", type=at_least(0), default=1.0, metavar="SECONDS", help="rest before it is shown anew (1)")
     parser.add_argument("--once", action="store_true", help="show it once")
     parser.set_defaults(run=run)
     parser = subparsers.add_parser("metrics", help="prints figures as Prometheus reads them; a controller serves them at /metrics")
-    parser.add_argument("--controller", required=True, metavar="URL")
+    parser.add_argument("--controller", required=True, metavar="URL", help="a controller's HTTP port")
     parser.set_defaults(run=run_metrics)

@@ -1,11 +1,13 @@
 """The operator's commands: drain, watch, metrics, audit-journal."""
 import asyncio
+import contextlib
 import hashlib
+import io
 import json
 import sys
 import unittest
 
-from smplan import control_audit, control_watch
+from smplan import control_audit, control_commands, control_watch
 from smplan.control import Controller, Outgoing, Session
 from smplan.control_drain import Campaign, moves_of
 from smplan.control_metrics import metrics_of
@@ -101,6 +103,27 @@ class DrainTest(unittest.TestCase):
         self.assertEqual(campaign.run(), 1)
         self.assertEqual(fake.batches, [["s"]])
 
+    def test_waits_for_running_plans(self):
+        fake = FakeController("s")
+        held = [{"refused": {"kind": "Held", "text": "no plan: 3 Held shard s server a"}}] * 2
+        plans = {"state": {"epoch": 1, "place": 0, "plans": [{"name": "other", "is": "running"}]}}
+        campaign = self.campaign(fake)
+        campaign.post = lambda path, line: held.pop() if held and line["do"] == "drain" else plans if line == {"do": "state"} else fake.post(path, line)
+        self.assertEqual(campaign.run(), 0)
+        self.assertEqual(self.rests, [0.5, 0.5])
+
+    def test_waits_no_longer_than_its_patience(self):
+        refused = {"refused": {"kind": "Taken", "text": "held: 2 Taken cell s b"}}
+        campaign = Campaign(lambda path, line: refused if line["do"] == "drain" else {"state": STATE}, "a", patience=1.0, tell=lambda text: None, sleep=lambda seconds: None)
+        with self.assertRaisesRegex(Failure, "Taken"):
+            campaign.run()
+        self.assertEqual(campaign.waited, 1.5)
+
+    def test_numbers_of_the_command_line(self):
+        for words in (["--batch", "0"], ["--pause", "-1"], ["--stop", "nan"]):
+            with self.assertRaises(SystemExit), contextlib.redirect_stderr(io.StringIO()):
+                control_commands.parser().parse_args(["drain", "a", "--controller", "http://c", *words])
+
     def test_refusal_is_told(self):
         campaign = Campaign(lambda path, line: {"refused": {"text": "no plan: 6 NoPlace shard s"}}, "a")
         with self.assertRaisesRegex(Failure, "NoPlace"):
@@ -118,6 +141,7 @@ class WatchTest(unittest.TestCase):
         self.assertIn("2 shards, without a primary: t", text)
         self.assertIn("0 of 1 streams, 1 of 5 steps", text)
         self.assertIn("2.5 s  b                add s", text)
+        self.assertNotIn("outstanding", control_watch.screen(STATE, [], leads=False))
 
     def test_metrics(self):
         async def figures():
