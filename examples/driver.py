@@ -3,7 +3,7 @@
     python3 examples/driver.py [DOCUMENT [PROGRAM..]]
 
 DOCUMENT has a `plan`, or a server to `drain`: for that the session asks smplan, which has to be built (`make try`). PROGRAM is the session's command
-line, tools/smpland_model.py if none is named.
+line, as build/smpland - with its dash; tools/smpland_model.py - if none is named.
 
 The servers keep slots and data in dictionaries, and the journal is a list. Servers that keep them for good, and messages that get lost, late and
 repeated, are in cluster/.
@@ -18,7 +18,7 @@ ROOT = os.path.dirname(os.path.dirname(os.path.abspath(__file__)))
 sys.path.insert(0, os.path.join(ROOT, "python"))
 from smplan import agent  # noqa: E402  (the path comes first)
 from smplan.agent import VACANT, Answer, Call, Cell  # noqa: E402
-from smplan.control import DONE, Controller, Session  # noqa: E402
+from smplan.control import DONE, Controller, Session, SessionEnded  # noqa: E402
 from smplan.control_agent import order_of, slot_of  # noqa: E402
 
 DOCUMENT = os.path.join(ROOT, "examples", "drain-berlin-1.json")
@@ -34,7 +34,7 @@ class Servers:
         for name in self.numbers:
             self.lose_slots(name)
         self.data = {(cell["server"], it["name"]): ["some data"] for it in document["shards"] for cell in it["cells"]}
-        self.map = {it["name"]: (it["listed"], 0) for it in document["shards"]}
+        self.map = {it["name"]: (it.get("listed"), 0) for it in document["shards"]}
 
     def lose_slots(self, name):
         self.bases[name], self.slots[name] = agent.forget(secrets.randbits(63) | 1), {}
@@ -135,5 +135,10 @@ async def main(path, program):
 
 if __name__ == "__main__":
     if sys.argv[1:2] in (["-h"], ["--help"]):
-        sys.exit(__doc__)
-    asyncio.run(main(sys.argv[1] if len(sys.argv) > 1 else DOCUMENT, sys.argv[2:] or PROGRAM))
+        print(__doc__)
+        sys.exit(0)
+    words = sys.argv[2:] or PROGRAM
+    try:
+        asyncio.run(main(sys.argv[1] if len(sys.argv) > 1 else DOCUMENT, words))
+    except (SessionEnded, OSError) as why:
+        sys.exit(f"driver.py: {' '.join(words)}: {why}")
