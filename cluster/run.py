@@ -3,6 +3,7 @@ from __future__ import annotations
 
 import argparse
 import asyncio
+import inspect
 import json
 import os
 import shlex
@@ -114,8 +115,8 @@ class Run:
         try:
             await self.cluster.start()
             shape = self.settings.shape
-            self.tell(f"{shape.servers} servers, {shape.controllers} controllers and {len(self.cluster.members)} members of etcd run; "
-                      f"a page is at http://127.0.0.1:{next(iter(self.cluster.pages.values()))}/; the session is {self.cluster.program}")
+            self.tell(f"{shape.servers} servers, {shape.controllers} controllers and {len(self.cluster.members)} members of etcd run; the session is {self.cluster.program}")
+            self.tell("pages are at " + ", ".join(f"http://127.0.0.1:{it}/ ({name})" for name, it in self.cluster.pages.items()))
             journal = os.urandom(JOURNAL_BITS // 8).hex().lstrip("0") or "1"
             await self.story.open(journal)
             await self.cluster.processes.start("clients")
@@ -278,16 +279,20 @@ def arguments() -> argparse.Namespace:
     parser.add_argument("--seed", type=int, default=1, help="what the harm is drawn by (%(default)s)")
     parser.add_argument("--calm", action="store_true", help="no message is harmed")
     add_load(parser)
-    parser.add_argument("--parts", help="what happens, as drain,kill_leader; everything if it is missing")
+    names = ", ".join(dict.fromkeys(name for _, name in WHOLE))
+    parser.add_argument("--parts", type=parts_of, default=WHOLE, metavar="PART,..", help=f"what happens; if it is missing everything: {names}")
     parser.add_argument("--bug", action="append", default=[], help="plant a bug, which the checkers are to find")
     parser.add_argument("--keep", type=Path, metavar="DIR", help="keep logs and histories there")
     return parser.parse_args()
 
 
-def parts_of(text: str | None) -> tuple[tuple[float, str], ...]:
+def parts_of(text: str) -> tuple[tuple[float, str], ...]:
     """Which parts happen when."""
     names = text.split(",") if text else []
-    return tuple((0.1 + 0.8 * it / len(names), name) for it, name in enumerate(names)) if names else WHOLE if text is None else ()
+    for name in names:
+        if name != "drain" and not inspect.iscoroutinefunction(getattr(HandoverStory, name, None)):
+            raise argparse.ArgumentTypeError(f"no part is named {name}")
+    return tuple((0.1 + 0.8 * it / len(names), name) for it, name in enumerate(names))
 
 
 def main() -> int:
@@ -295,7 +300,7 @@ def main() -> int:
     told = arguments()
     directory = Path(tempfile.mkdtemp(prefix="cluster-", dir="/dev/shm" if os.access("/dev/shm", os.W_OK) else None))
     shape = Shape(servers=told.servers, shards=told.shards, clients=told.clients, seed=told.seed)
-    settings = Settings(directory, shape, program_of(told.program), told.seconds, CALM if told.calm else ROUGH, parts_of(told.parts), tuple(told.bug),
+    settings = Settings(directory, shape, program_of(told.program), told.seconds, CALM if told.calm else ROUGH, told.parts, tuple(told.bug),
                         pause=told.pause, is_busy=told.busy)
     try:
         result = asyncio.run(Run(settings).run())

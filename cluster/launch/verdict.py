@@ -66,7 +66,7 @@ async def play(program: list[str], lines: list[str], audits: dict[str, Line]) ->
         told = await reply
         journal.told.append(told)
         journal.orders += told.get("orders", [])
-        journal.replies[f"{json.loads(text)['do']}: {next(it for it in told if it != 'id')}"] += 1
+        journal.replies[f"{json.loads(text).get('do')}: {next(it for it in told if it != 'id')}"] += 1
     journal.state = (await session.ask({"do": "state"}))["state"]
     # (there is no map before the first opening, where a planted bug may have lost that)
     journal.shown = (await session.ask({"do": "map"})).get("map", [])
