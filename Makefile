@@ -25,7 +25,7 @@ build: ## proves and builds build/smplan and build/smpland, in up to an hour
 	cp crates/smpland/out/smpland build/smpland
 	@scripts/keep-verdict build/rt.log
 
-install: ## installs build/smplan, the tools and the docs below PREFIX (/usr/local), in the folder DESTDIR if it is given
+install: ## installs build/smplan, build/smpland, the tools and the docs below PREFIX (/usr/local), in the folder DESTDIR if it is given
 	scripts/install-tree "$(DESTDIR)" "$(PREFIX)"
 
 uninstall: ## removes what install has put there
