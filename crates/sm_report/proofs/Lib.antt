@@ -1,6 +1,7 @@
 pub mod Onward
 pub mod Inputs
 pub mod PlanAnswers
+pub mod KnownNames
 pub mod OneReport
 pub mod SomeReport
 pub mod EventTurns
