@@ -1,9 +1,11 @@
 //! Lines that are no commands.
+ghost use Rattle.std.specs.Prelude.{◌≡◌, ◌++◌, OnOk};
+ghost use Rattle.sm_commands.specs.Refusals.{TellsBad, bad_members};
 
 use crate::command_member::CommandMember;
 use crate::line_part::LinePart;
+use crate::writer::Writer;
 use crate::writing::write_text;
-use json::Writer;
 use sm_plan_text::{Member, TextFault};
 use std::alloc::{AllocError, Global};
 
@@ -143,16 +145,32 @@ fn push_inner(out: &mut String, member: Option<&str>) -> Result<(), AllocError> 
     }
 }
 
+/// Writes the members of what is wrong with a line.
+fn write_bad_members(
+    writer: &mut Writer,
+    kind: &str,
+    at: &str,
+    text: &str,
+) -> Result<(), AllocError>
+    ensures { OnOk result (writer.new.tokens ≡ writer.old.tokens ++ bad_members kind.now at.now text.now) }
+{
+    write_text(writer, "kind", kind)?;
+    write_text(writer, "at", at)?;
+    write_text(writer, "text", text)?;
+    Ok(())
+}
+
 /// Writes what is wrong with a line, as a member of its reply.
-pub fn write_bad(writer: &mut Writer, alloc: Global, bad: BadLine) -> Result<(), AllocError> {
+pub fn write_bad(writer: &mut Writer, alloc: Global, bad: BadLine) -> Result<(), AllocError>
+    ensures { OnOk result (TellsBad writer.old.tokens writer.new.tokens) }
+{
     let mut path = String::new(alloc);
     bad.push_path(&mut path)?;
     let mut words = String::new(alloc);
     bad.push_words(&mut words)?;
     writer.key("bad")?;
     writer.begin_object()?;
-    write_text(writer, "kind", bad.kind())?;
-    write_text(writer, "at", path.as_str())?;
-    write_text(writer, "text", words.as_str())?;
-    writer.end_object()
+    write_bad_members(writer, bad.kind(), path.as_str(), words.as_str())?;
+    writer.end_object()?;
+    Ok(())
 }

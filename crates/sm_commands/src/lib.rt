@@ -19,6 +19,7 @@ mod refused_plans;
 mod reopening_lines;
 mod row;
 mod slots;
+mod writer;
 mod writing;
 
 pub use bad_line::{BadLine, write_bad};
@@ -32,4 +33,5 @@ pub use moves::read_moves_in;
 pub use refusals::{refuse_log, refuse_open, server_name, shard_name};
 pub use refused_plans::{refuse_begin, refuse_check};
 pub use slots::{CellKind, PartyText, SlotNeeds, SlotText, read_slots};
+pub use writer::Writer;
 pub use writing::{write_id, write_name, write_number, write_text};

@@ -1,13 +1,18 @@
 //! Refusals of openings, in the words of `smplan`.
+ghost use Rattle.std.specs.Prelude.{◌≡◌, OnOk};
+ghost use Rattle.sm_commands.specs.Members.{server_text, shard_text};
+ghost use Rattle.sm_commands.specs.Refusals.{TellsRefused};
 
 use crate::field::{Field, write_refusal};
-use json::Writer;
+use crate::writer::Writer;
 use sm_placement::{Config, OpenFault};
 use sm_server::{ServerId, ShardId};
 use std::alloc::{AllocError, Global};
 
 /// Returns the name of a server. It is empty if there is no such server.
-pub fn server_name<'a>(config: &'a Config, server: ServerId) -> &'a str {
+pub fn server_name<'a>(config: &'a Config, server: ServerId) -> &'a str
+    ensures { result.now ≡ server_text config.now server }
+{
     match config.servers().get(server.number() as usize) {
         Some(server) => server.name.as_str(),
         None => "",
@@ -15,7 +20,9 @@ pub fn server_name<'a>(config: &'a Config, server: ServerId) -> &'a str {
 }
 
 /// Returns the name of a shard. It is empty if there is no such shard.
-pub fn shard_name<'a>(config: &'a Config, shard: ShardId) -> &'a str {
+pub fn shard_name<'a>(config: &'a Config, shard: ShardId) -> &'a str
+    ensures { result.now ≡ shard_text config.now shard }
+{
     match config.shards().get(shard.number() as usize) {
         Some(shard) => shard.name.as_str(),
         None => "",
@@ -28,7 +35,9 @@ pub fn refuse_open(
     alloc: Global,
     config: &Config,
     fault: OpenFault,
-) -> Result<(), AllocError> {
+) -> Result<(), AllocError>
+    ensures { OnOk result (TellsRefused writer.old.tokens writer.new.tokens) }
+{
     let front = "placement refused: ";
     match fault {
         OpenFault::NoMemory => write_refusal(writer, alloc, front, 1, "NoMemory", &[]),
@@ -60,6 +69,8 @@ pub fn refuse_open(
 }
 
 /// Writes that a log has no room for the restarts under way.
-pub fn refuse_log(writer: &mut Writer, alloc: Global) -> Result<(), AllocError> {
+pub fn refuse_log(writer: &mut Writer, alloc: Global) -> Result<(), AllocError>
+    ensures { OnOk result (TellsRefused writer.old.tokens writer.new.tokens) }
+{
     write_refusal(writer, alloc, "log refused: ", 2, "LogFull", &[])
 }

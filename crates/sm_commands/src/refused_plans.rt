@@ -1,8 +1,10 @@
 //! Refusals of plans, in the words of `smplan`.
+ghost use Rattle.std.specs.Prelude.{OnOk};
+ghost use Rattle.sm_commands.specs.Refusals.{TellsRefused};
 
 use crate::field::{Field, write_refusal};
 use crate::refusals::{server_name, shard_name};
-use json::Writer;
+use crate::writer::Writer;
 use sm_placement::Config;
 use sm_plan_code::Why;
 use sm_protocol::BeginFault;
@@ -28,7 +30,9 @@ fn why_name(why: Why) -> &'static str {
 }
 
 /// Writes why a plan does not pass the check.
-pub fn refuse_check(writer: &mut Writer, alloc: Global, fault: &Fault) -> Result<(), AllocError> {
+pub fn refuse_check(writer: &mut Writer, alloc: Global, fault: &Fault) -> Result<(), AllocError>
+    ensures { OnOk result (TellsRefused writer.old.tokens writer.new.tokens) }
+{
     let front = "refused: ";
     match fault {
         Fault::NoMemory => write_refusal(writer, alloc, front, 1, "NoMemory", &[]),
@@ -69,7 +73,9 @@ fn refuse_key(
     number: u32,
     kind: &str,
     key: Key,
-) -> Result<(), AllocError> {
+) -> Result<(), AllocError>
+    ensures { OnOk result (TellsRefused writer.old.tokens writer.new.tokens) }
+{
     let front = "held: ";
     match key {
         Key::CellRight { shard, server } => {
@@ -105,7 +111,9 @@ fn refuse_short(
     of: Field<'_>,
     free: u64,
     declared: u64,
-) -> Result<(), AllocError> {
+) -> Result<(), AllocError>
+    ensures { OnOk result (TellsRefused writer.old.tokens writer.new.tokens) }
+{
     let free = Field::Number("free", free);
     let declared = Field::Number("declared", declared);
     write_refusal(writer, alloc, "held: ", number, kind, &[of, free, declared])
@@ -117,7 +125,9 @@ fn refuse_holding(
     alloc: Global,
     config: &Config,
     holding: Holding,
-) -> Result<(), AllocError> {
+) -> Result<(), AllocError>
+    ensures { OnOk result (TellsRefused writer.old.tokens writer.new.tokens) }
+{
     match holding {
         Holding::Untrue { key } => refuse_key(writer, alloc, config, 1, "Untrue", key),
         Holding::Taken { key } => refuse_key(writer, alloc, config, 2, "Taken", key),
@@ -150,7 +160,9 @@ pub fn refuse_begin(
     alloc: Global,
     config: &Config,
     fault: BeginFault,
-) -> Result<(), AllocError> {
+) -> Result<(), AllocError>
+    ensures { OnOk result (TellsRefused writer.old.tokens writer.new.tokens) }
+{
     let front = "not begun: ";
     match fault {
         BeginFault::NoMemory => write_refusal(writer, alloc, front, 1, "NoMemory", &[]),

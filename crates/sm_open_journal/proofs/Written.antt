@@ -2,12 +2,8 @@
 use Rattle.std.proofs.Common.{◌≡◌, ◌∙◌, ◌+◌, ◌<◌, ◌++◌, ◌∷◌, [], ℕ, Bool, true, false, List, length, get_or, take, map, sym, ap, refl, arith}
 use Rattle.std.specs.Prelude.{if◌then◌else◌}
 use Rattle.std.specs.List.{filter, flat_map, range_with_len}
-use Rattle.std.proofs.lemmas.List.{append_assoc, flat_map_more, map-id, take_more}
+use Rattle.std.proofs.lemmas.List.{flat_map_more, map-id, take_more}
 use Rattle.std.proofs.lemmas.List.FromFn.{map-range_with_len_more}
-
--- what is written behind what was written
-pub next : {A : Type 0} {mid new : List A} (old ts us : List A) → mid ≡ old ++ ts → new ≡ mid ++ us → new ≡ old ++ (ts ++ us)
-next old ts us e f = f ∙ ap (λ xs. xs ++ us) e ∙ append_assoc old ts us
 
 -- the numbers below n + 1 are those below n, and n
 range_more : (n : ℕ) → range_with_len 0 (n + 1) ≡ range_with_len 0 n ++ n ∷ []

@@ -4,9 +4,9 @@ use Rattle.json.specs.Token.{Token}
 use Rattle.sm_plan_code.specs.Instr.{is_call}
 use Rattle.sm_protocol.specs.State.{plan_at, stream_count}
 use Rattle.sm_driver.specs.Driver.{DriverModel, record_of}
-use Rattle.sm_open_journal.specs.Members.{number_member}
+use Rattle.sm_commands.specs.Members.{number_member, object_member}
 use Rattle.sm_open_journal.specs.declared.begun_plan.BegunPlan.{BegunPlan}
-use Rattle.sm_open_journal.specs.Replies.{object_member, plan_members}
+use Rattle.sm_open_journal.specs.Replies.{plan_members}
 
 -- a plan of a driver: how many calls and streams it has
 abbrev pub begun_plan : DriverModel → ℕ → BegunPlan

@@ -8,7 +8,7 @@ use Rattle.sm_server.specs.declared.call.Call.TheVariants.{Add, Drop, Change, Pr
 use Rattle.sm_placement.specs.declared.entry.Entry.{Entry}
 use Rattle.sm_placement.specs.Setup.{Setup}
 use Rattle.sm_plan_code.specs.declared.call.ServerCall.{ServerCall}
-use Rattle.sm_open_journal.specs.Members.{name_member, number_member, server_text, shard_text, text_member}
+use Rattle.sm_commands.specs.Members.{name_member, number_member, server_text, shard_text, text_member}
 
 -- the word for a role
 abbrev pub word_of_role : Role → List ℕ

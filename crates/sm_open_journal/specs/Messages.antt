@@ -15,7 +15,7 @@ use Rattle.sm_network.specs.Net.{Order}
 use Rattle.sm_network.specs.World.{Publication}
 use Rattle.sm_driver.specs.Driver.{DriverModel, base, order_number, record_of}
 use Rattle.sm_driver.specs.Orders.{NetMessage, OfOrder, OfPublication, message_of}
-use Rattle.sm_open_journal.specs.Members.{list_member, name_member, number_member, object, server_text, text_member}
+use Rattle.sm_commands.specs.Members.{list_member, name_member, number_member, object, server_text, text_member}
 use Rattle.sm_open_journal.specs.Calls.{asked_members, published_members, size_members}
 
 -- an order as it leaves a driver: the network's letter

@@ -2,12 +2,12 @@
 -- `message_if_new` and `new_message` are internal: you need not read them for the public contracts.
 use Rattle.std.specs.Prelude.{ℕ, Bool, true, ◌==◌, List, [], ◌∷◌, ◌++◌, Option, Some, None, codes, decimal, map, not, slice_get, if◌then◌else◌}
 use Rattle.std.specs.List.{filter, list_any, range_with_len}
-use Rattle.json.specs.Token.{Token, key, number}
+use Rattle.json.specs.Token.{Token, number}
 use Rattle.sm_reservation.specs.declared.stream_id.StreamId.{StreamId}
 use Rattle.sm_protocol.specs.State.{State, is_begun, progress_of, stream_count, stream_id}
 use Rattle.sm_protocol.specs.Next.{since_of, unfinished_plans}
 use Rattle.sm_driver.specs.Driver.{DriverModel, record_of}
-use Rattle.sm_open_journal.specs.Members.{list_member, number_member, object}
+use Rattle.sm_commands.specs.Members.{list_member, number_member, object_member}
 use Rattle.sm_open_journal.specs.Messages.{stream_message, orders_member}
 
 -- the streams of a plan
@@ -26,10 +26,6 @@ stands_else w id (Some since) = not (since == since_of w id)
 -- the streams of a plan that have come to where they stand since they stood so
 abbrev pub gone_on : State → ℕ → List ℕ → List StreamId
 gone_on w k sinces = filter (λ id. stands_else w id (slice_get sinces id.stream)) (plan_streams w k)
-
--- an object of these members, as a member
-abbrev pub object_member : List ℕ → List Token → List Token
-object_member name members = key name ∷ object members
 
 -- a plan's number, unless it is one of those that go on
 abbrev pub ended_text : State → ℕ → List Token

@@ -3,9 +3,8 @@ ghost use Rattle.std.specs.Prelude.{◌≡◌, ◌<◌, length};
 
 use crate::cells::{cell_above, write_cell};
 use crate::opened::Opened;
-use json::Writer;
 use sm_commands::{
-    BadLine, CellKind, CommandMember, LinePart, PartyText, SlotText, shard_name, write_bad,
+    BadLine, CellKind, CommandMember, LinePart, PartyText, SlotText, Writer, shard_name, write_bad,
     write_name, write_number, write_text,
 };
 use sm_driver::{Driver, StreamOrder};

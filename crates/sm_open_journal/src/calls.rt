@@ -2,8 +2,7 @@
 ghost use Rattle.std.specs.Prelude.{◌≡◌, ◌++◌, OnOk};
 ghost use Rattle.sm_open_journal.specs.Calls.{call_members, word_of_call, change_members, handover_members, word_of_role};
 
-use crate::members::{server_name, write_number, write_text};
-use json::Writer;
+use sm_commands::{Writer, server_name, write_number, write_text};
 use sm_placement::Config;
 use sm_server::{Call, Role, ServerId};
 use std::alloc::AllocError;

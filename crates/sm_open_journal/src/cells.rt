@@ -1,7 +1,6 @@
 //! Cells in replies.
 
-use json::Writer;
-use sm_commands::{server_name, shard_name, write_number, write_text};
+use sm_commands::{Writer, server_name, shard_name, write_number, write_text};
 use sm_placement::Config;
 use sm_server::{Cell, ServerId, ShardId};
 use std::alloc::AllocError;

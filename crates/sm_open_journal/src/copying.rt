@@ -1,6 +1,7 @@
 //! Copies of JSON from a text.
 
-use json::{Reader, Scratch, Token, Writer};
+use json::{Reader, Scratch, Token};
+use sm_commands::Writer;
 use std::alloc::{AllocError, Global};
 
 /// Writes the tokens of a text of JSON.

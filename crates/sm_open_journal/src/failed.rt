@@ -2,8 +2,7 @@
 
 use crate::opened::Opened;
 use crate::restored::write_bits;
-use json::Writer;
-use sm_commands::{FailedAnswer, write_text};
+use sm_commands::{FailedAnswer, Writer, write_text};
 use sm_driver::StreamMessage;
 use sm_reservation::StreamId;
 use std::alloc::{AllocError, Global};

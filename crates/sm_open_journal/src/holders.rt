@@ -4,11 +4,10 @@ ghost use Rattle.std.specs.List.{flat_map, range_with_len};
 ghost use Rattle.sm_server.specs.Cell.{is_absent};
 ghost use Rattle.sm_placement.specs.Lead.{lead_of};
 ghost use Rattle.sm_placement.specs.Layout.{place_of};
-ghost use Rattle.sm_open_journal.specs.Members.{name_member, server_text};
+ghost use Rattle.sm_commands.specs.Members.{name_member, server_text};
 ghost use Rattle.sm_open_journal.specs.Messages.{holder_members, owner_under, replica_text, replicas_member};
 
-use crate::members::server_name;
-use json::Writer;
+use sm_commands::{Writer, server_name};
 use sm_placement::{Config, Lead, Placement};
 use sm_server::{ServerId, ShardId};
 use std::alloc::AllocError;

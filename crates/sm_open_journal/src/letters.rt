@@ -10,9 +10,8 @@ ghost use Rattle.sm_open_journal.specs.Messages.{head_members, letter_by, letter
 
 use crate::calls::{call_word, write_call};
 use crate::holders::{write_holders, write_listed};
-use crate::members::{server_name, shard_name, write_name, write_number, write_text};
 use crate::messages::Messages;
-use json::Writer;
+use sm_commands::{Writer, server_name, shard_name, write_name, write_number, write_text};
 use sm_driver::{StreamMessage, StreamOrder, StreamPublication};
 use sm_placement::{Config, Placement};
 use sm_plan_code::ServerCall;

@@ -11,7 +11,6 @@ mod given_permits;
 mod history;
 mod holders;
 mod letters;
-mod members;
 mod messages;
 mod moved;
 mod notices;

@@ -8,7 +8,7 @@ ghost use Rattle.sm_driver.specs.Orders.{awaiting_of};
 ghost use Rattle.sm_open_journal.specs.Messages.{stream_message, orders_member};
 ghost use Rattle.sm_open_journal.specs.Replies.{ended_member, ended_text, gone_on, message_if_new, new_message, plan_members, sinces_of, stands_else};
 
-use json::Writer;
+use sm_commands::Writer;
 use sm_driver::Driver;
 use sm_machine::Machine;
 use sm_reservation::StreamId;

@@ -3,9 +3,8 @@ ghost use Rattle.std.specs.Prelude.{◌≡◌, ◌++◌, OnOk};
 ghost use Rattle.sm_driver.specs.Driver.{record_of};
 ghost use Rattle.sm_open_journal.specs.Replies.{moved_member, position_of, step_members, taken_members};
 
-use crate::members::write_number;
 use crate::messages::Messages;
-use json::Writer;
+use sm_commands::{Writer, write_number};
 use sm_reservation::StreamId;
 use std::alloc::AllocError;
 

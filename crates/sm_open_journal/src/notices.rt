@@ -1,8 +1,7 @@
 //! Notices to servers that were carried over.
 
 use crate::opened::Opened;
-use json::Writer;
-use sm_commands::{server_name, write_number, write_text};
+use sm_commands::{Writer, server_name, write_number, write_text};
 use sm_server::ServerId;
 use std::alloc::AllocError;
 

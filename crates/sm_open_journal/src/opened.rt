@@ -11,6 +11,7 @@ use crate::messages::Messages;
 use crate::restored::{ToldRestore, told_last, told_restores};
 use crate::streams::calls_of;
 use json::Writer;
+use sm_commands::{Writer, server_name, write_number, write_text};
 use sm_driver::Driver;
 use sm_names::Names;
 use sm_reservation::StreamId;

@@ -3,8 +3,7 @@ ghost use Rattle.std.specs.Prelude.{◌<◌, length};
 
 use crate::holders::write_listed;
 use crate::opened::Opened;
-use json::Writer;
-use sm_commands::{shard_name, write_number, write_text};
+use sm_commands::{Writer, shard_name, write_number, write_text};
 use sm_server::ShardId;
 use std::alloc::AllocError;
 

@@ -5,8 +5,7 @@ ghost use Rattle.sm_driver.specs.Driver.{record_of};
 use crate::cells::write_slots;
 use crate::copying::copy_text;
 use crate::opened::Opened;
-use json::Writer;
-use sm_commands::{server_name, write_number, write_text};
+use sm_commands::{Writer, server_name, write_number, write_text};
 use sm_driver::ServerRestore;
 use sm_server::ServerId;
 use std::alloc::{AllocError, Global};
@@ -58,12 +57,12 @@ fn told_restore(
     restore: &ServerRestore,
 ) -> Result<ToldRestore, AllocError> {
     let config = opened.driver.machine().config();
-    let mut writer = Writer::new(Vec::new(alloc));
+    let mut writer = Writer::new(alloc);
     write_restore(opened, alloc, &mut writer, server, restore)?;
     Ok(ToldRestore {
         server: String::from_str(alloc, server_name(config, server))?,
         nonce: restore.nonce(),
-        text: writer.into_inner(),
+        text: writer.into_text(),
     })
 }
 

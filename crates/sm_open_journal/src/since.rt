@@ -2,8 +2,7 @@
 
 use crate::opened::Opened;
 use crate::published::write_entry;
-use json::Writer;
-use sm_commands::write_number;
+use sm_commands::{Writer, write_number};
 use sm_plan_code::MOST_STREAMS;
 use sm_reservation::StreamId;
 use sm_server::ShardId;

@@ -6,9 +6,8 @@ ghost use Rattle.sm_driver.specs.Driver.{record_of};
 use crate::cells::{cell_above, write_cell};
 use crate::holders::write_listed;
 use crate::opened::Opened;
-use json::Writer;
 use sm_commands::{
-    BadLine, CommandMember, Field, LinePart, refuse, server_name, shard_name, write_bad,
+    BadLine, CommandMember, Field, LinePart, Writer, refuse, server_name, shard_name, write_bad,
     write_name, write_number, write_text,
 };
 use sm_reservation::StreamId;

@@ -1,7 +1,6 @@
 //! Lines about the proposal, and about the progress of a reopening.
 use crate::sent::party_name;
-use json::Writer;
-use sm_commands::{server_name, shard_name, write_number, write_text};
+use sm_commands::{Writer, server_name, shard_name, write_number, write_text};
 use sm_document_reopening::{DocumentReopening, Proposal, ShortFloor, Stage};
 use sm_placement::Config;
 use sm_reopening::Party;

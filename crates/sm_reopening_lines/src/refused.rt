@@ -1,9 +1,9 @@
 //! Why a reopening does not begin, and why nothing is confirmed.
+ghost use Rattle.std.specs.Prelude.{OnOk};
+ghost use Rattle.sm_commands.specs.Refusals.{TellsRefused};
+
 use crate::sent::party_name;
-use json::Writer;
-use sm_commands::{
-    Field, refuse, refuse_log, refuse_open, server_name, shard_name, write_name, write_text,
-};
+use sm_commands::{Field, Writer, refuse, refuse_log, refuse_open, server_name, shard_name};
 use sm_document_reopening::{ConfirmRefusal, DocumentReopening, ReopenFault};
 use sm_placement::{Config, OpenFault};
 use sm_reopening::{ConfirmFault, Party};
@@ -16,7 +16,9 @@ pub fn refuse_reopen(
     alloc: Global,
     document: &Config,
     fault: ReopenFault,
-) -> Result<(), AllocError> {
+) -> Result<(), AllocError>
+    ensures { OnOk result (TellsRefused writer.old.tokens writer.new.tokens) }
+{
     match fault {
         ReopenFault::NoMemory => Err(AllocError),
         ReopenFault::DoubleCell { shard, server } => {
@@ -40,17 +42,12 @@ fn refuse_missing(
     alloc: Global,
     reopening: &DocumentReopening,
     party: Party,
-) -> Result<(), AllocError> {
+) -> Result<(), AllocError>
+    ensures { OnOk result (TellsRefused writer.old.tokens writer.new.tokens) }
+{
     match party_name(reopening, party) {
         Some(name) => refuse(writer, alloc, "Missing", &[Field::Name("server", name)]),
-        None => {
-            writer.key("refused")?;
-            writer.begin_object()?;
-            write_text(writer, "kind", "Missing")?;
-            write_name(writer, "server", None)?;
-            write_text(writer, "text", "refused: Missing map")?;
-            writer.end_object()
-        }
+        None => refuse(writer, alloc, "Missing", &[Field::MapOwner("server")]),
     }
 }
 
@@ -62,7 +59,9 @@ fn refuse_cell(
     kind: &str,
     shard: ShardId,
     server: ServerId,
-) -> Result<(), AllocError> {
+) -> Result<(), AllocError>
+    ensures { OnOk result (TellsRefused writer.old.tokens writer.new.tokens) }
+{
     let shard = Field::Name("shard", shard_name(numbering, shard));
     let server = Field::Name("server", server_name(numbering, server));
     refuse(writer, alloc, kind, &[shard, server])
@@ -74,7 +73,9 @@ fn refuse_cells(
     alloc: Global,
     reopening: &DocumentReopening,
     fault: ConfirmFault,
-) -> Result<(), AllocError> {
+) -> Result<(), AllocError>
+    ensures { OnOk result (TellsRefused writer.old.tokens writer.new.tokens) }
+{
     let numbering = reopening.numbering();
     match fault {
         ConfirmFault::Confirmed => refuse(writer, alloc, "Confirmed", &[]),
@@ -114,7 +115,9 @@ fn refuse_stray(
     writer: &mut Writer,
     alloc: Global,
     reopening: &DocumentReopening,
-) -> Result<(), AllocError> {
+) -> Result<(), AllocError>
+    ensures { OnOk result (TellsRefused writer.old.tokens writer.new.tokens) }
+{
     match reopening.first_stray() {
         Some(stray) => {
             let shard = Field::Name("shard", stray.shard.as_str());
@@ -136,7 +139,9 @@ pub fn refuse_confirm(
     alloc: Global,
     reopening: &DocumentReopening,
     refusal: ConfirmRefusal,
-) -> Result<(), AllocError> {
+) -> Result<(), AllocError>
+    ensures { OnOk result (TellsRefused writer.old.tokens writer.new.tokens) }
+{
     match refusal {
         ConfirmRefusal::NoMemory => Err(AllocError),
         ConfirmRefusal::Missing { party } => refuse_missing(writer, alloc, reopening, party),

@@ -1,6 +1,5 @@
 //! Fences and settles as they go out.
-use json::Writer;
-use sm_commands::{server_name, shard_name, write_name, write_number, write_text};
+use sm_commands::{Writer, server_name, shard_name, write_name, write_number, write_text};
 use sm_document_reopening::DocumentReopening;
 use sm_placement::Placement;
 use sm_reopening::{Party, Settle};

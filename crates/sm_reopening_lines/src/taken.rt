@@ -1,5 +1,5 @@
 //! The lines that a reopening takes once it has begun.
-ghost use Rattle.std.specs.Prelude.{◌≡◌, ◌⊎◌, IfOk, IfSome, Some, false, is_some, true};
+ghost use Rattle.std.specs.Prelude.{◌≡◌, ◌⊎◌, IfOk, IfSome, OnOk, Some, false, is_some, true};
 ghost use Rattle.sm_network.specs.ReopeningLaws.{AllTook};
 ghost use Rattle.sm_reopening.specs.States.{fits_told};
 ghost use Rattle.sm_reopening.specs.Ongoing.{net_reopening, shards_of};
@@ -9,10 +9,9 @@ use crate::proposed::{write_proposal, write_waiting};
 use crate::refused::refuse_confirm;
 use crate::sent::write_settles;
 use crate::told::{Told, told_by_slots, told_unknown};
-use json::Writer;
 use json_tree::Tree;
 use sm_commands::{
-    ShardChoice, SlotNeeds, ToldText, read_choices, read_slots, write_bad, write_text,
+    ShardChoice, SlotNeeds, ToldText, Writer, read_choices, read_slots, write_bad, write_text,
 };
 use sm_document_reopening::{Choice, DocumentReopening};
 use sm_reopening::{FencedEffect, Party, SettledEffect};
@@ -263,7 +262,9 @@ fn write_settled(
     writer: &mut Writer,
     reopening: &DocumentReopening,
     effect: SettledEffect,
-) -> Result<(), AllocError> {
+) -> Result<(), AllocError>
+    ensures { OnOk result (effect ≡ SettledEffect.Complete → writer.new.tokens ≡ writer.old.tokens) }
+{
     match effect {
         SettledEffect::Old => write_text(writer, "ignored", "old"),
         SettledEffect::Waiting => {
@@ -286,6 +287,7 @@ pub fn take_settled(
     ensures confirmed { IfOk result (λ effect. effect ≡ SettledEffect.Complete → is_some (net_reopening reopening.new.ongoing).settlement ≡ true) }
     ensures complete { IfOk result (λ effect. effect ≡ SettledEffect.Complete → AllTook (net_reopening reopening.new.ongoing)) }
     ensures unchanged { IfOk result (λ effect. effect ≡ SettledEffect.Old → reopening.new ≡ reopening.old) }
+    ensures quiet { IfOk result (λ effect. effect ≡ SettledEffect.Complete → writer.new.tokens ≡ writer.old.tokens) }
 {
     let effect = settle_named(reopening, server, base);
     write_settled(alloc, writer, reopening, effect)?;

@@ -5,8 +5,7 @@ ghost use Rattle.sm_open_journal.specs.Replies.{sinces_of, taken_members};
 ghost use Rattle.sm_session.specs.Changes.{TakesAnswer};
 
 use crate::standing::Standing;
-use json::Writer;
-use sm_commands::write_text;
+use sm_commands::{Writer, write_text};
 use sm_driver::{AnswerEffect, StreamMessage};
 use sm_open_journal::{Opened, note_answered};
 use sm_reservation::StreamId;

@@ -5,9 +5,8 @@ ghost use Rattle.sm_names.specs.Names.{value_of};
 ghost use Rattle.sm_session.specs.Changes.{ApprovesRestart};
 
 use crate::standing::Standing;
-use json::Writer;
 use sm_commands::{
-    BadLine, CommandMember, Field, LinePart, refuse, server_name, shard_name, write_bad,
+    BadLine, CommandMember, Field, LinePart, Writer, refuse, server_name, shard_name, write_bad,
     write_number, write_refusal, write_text,
 };
 use sm_open_journal::{GivenAt, Opened};

@@ -10,9 +10,8 @@ ghost use Rattle.sm_session.specs.Replies.{TellsBegun};
 
 use crate::planning::read_plan;
 use crate::standing::Standing;
-use json::Writer;
 use json_tree::Tree;
-use sm_commands::{refuse, refuse_begin, refuse_check};
+use sm_commands::{Writer, refuse, refuse_begin, refuse_check};
 use sm_machine::{ReadyPlan, make_ready};
 use sm_open_journal::{Opened, note_begun};
 use sm_plan_code::Plan;

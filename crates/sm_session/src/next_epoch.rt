@@ -3,8 +3,7 @@ ghost use Rattle.std.specs.Prelude.{◌≡◌, IfOk, false, true};
 ghost use Rattle.sm_session.specs.Changes.{OpensNext};
 
 use crate::standing::Standing;
-use json::Writer;
-use sm_commands::{Field, refuse, shard_name};
+use sm_commands::{Field, Writer, refuse, shard_name};
 use sm_driver::EpochFault;
 use sm_open_journal::Opened;
 use std::alloc::{AllocError, Global};

@@ -6,9 +6,8 @@ ghost use Rattle.sm_placement.specs.Lead.{IsSettled};
 ghost use Rattle.sm_session.specs.Changes.{HasDriven, driver_of};
 
 use crate::standing::Standing;
-use json::Writer;
 use json_tree::Tree;
-use sm_commands::{BadLine, CommandMember, refuse, refuse_log, refuse_open, write_bad};
+use sm_commands::{BadLine, CommandMember, Writer, refuse, refuse_log, refuse_open, write_bad};
 use sm_driver::Driver;
 use sm_open_journal::Opened;
 use sm_placement::{OpenFault, Placement};

@@ -2,10 +2,9 @@
 ghost use Rattle.std.specs.Prelude.{◌≡◌, IfOk, IfSome, length};
 ghost use Rattle.sm_plan_code.specs.Plan.{IsKnownPlan};
 
-use json::Writer;
 use json_tree::Tree;
 use sm_commands::{
-    BadLine, CommandMember, Field, LinePart, read_moves_in, refuse_begin, refuse_check,
+    BadLine, CommandMember, Field, LinePart, Writer, read_moves_in, refuse_begin, refuse_check,
     server_name, shard_name, write_bad, write_number, write_refusal,
 };
 use sm_machine::Machine;

@@ -6,8 +6,8 @@ ghost use Rattle.sm_session.specs.Changes.{SessionChanges};
 
 use crate::answering::answered_again;
 use crate::session::{LineEffect, Session};
-use json::{Scratch, Writer};
-use sm_commands::{LineCommand, parse_line, read_command};
+use json::Scratch;
+use sm_commands::{LineCommand, Writer, parse_line, read_command};
 use sm_reservation::StreamId;
 use std::alloc::{AllocError, Global};
 
@@ -58,8 +58,7 @@ impl Session {
         {
             return self.take_answer(alloc, StreamId { plan, stream }, number);
         }
-        let mut unread = Writer::new(Vec::new(alloc));
-        unread.begin_object()?;
+        let mut unread = Writer::new(alloc);
         self.carry_out(alloc, command, &mut unread)
     }
 

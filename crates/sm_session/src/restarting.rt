@@ -4,8 +4,7 @@ ghost use Rattle.sm_session.specs.Changes.{EndsRestart};
 
 use crate::answering::write_ignored;
 use crate::standing::Standing;
-use json::Writer;
-use sm_commands::{Field, refuse, server_name, write_text};
+use sm_commands::{Field, Writer, refuse, server_name, write_text};
 use sm_driver::RestartEffect;
 use sm_open_journal::Opened;
 use std::alloc::{AllocError, Global};

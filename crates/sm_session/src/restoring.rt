@@ -3,8 +3,7 @@ ghost use Rattle.std.specs.Prelude.{◌≡◌, IfOk, false, true};
 ghost use Rattle.sm_session.specs.Changes.{RestoresServer};
 
 use crate::standing::Standing;
-use json::Writer;
-use sm_commands::{BadLine, CommandMember, Field, LinePart, refuse, write_bad};
+use sm_commands::{BadLine, CommandMember, Field, LinePart, Writer, refuse, write_bad};
 use sm_driver::RestoreFault;
 use sm_open_journal::Opened;
 use sm_reservation::StreamId;

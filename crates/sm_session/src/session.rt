@@ -1,5 +1,5 @@
 //! Sessions.
-ghost use Rattle.std.specs.Prelude.{◌≡◌, ℕ, List, ◌++◌, IfOk, OnOk, None, false};
+ghost use Rattle.std.specs.Prelude.{◌≡◌, ℕ, List, [], ◌∷◌, ◌++◌, IfOk, OnOk, None, false};
 ghost use Rattle.journal_lines.specs.Objects.{IsObject};
 ghost use Rattle.sm_session.specs.declared.session.LineEffect.TheVariants as did;
 
@@ -8,10 +8,10 @@ use crate::opening::open;
 use crate::reopening::{UnderWay, confirm, fenced, reopen, settled};
 use crate::standing::Standing;
 use journal_lines::is_object;
-use json::{Scratch, Writer};
+use json::Scratch;
 use json_tree::Tree;
 use sm_commands::{
-    BadLine, LineCommand, LinePart, id_of, parse_line, read_command, write_bad, write_id,
+    BadLine, LineCommand, LinePart, Writer, id_of, parse_line, read_command, write_bad, write_id,
 };
 use sm_open_journal::Opened;
 use sm_placement::Config;
@@ -26,6 +26,16 @@ const MOST_BYTES: usize = 67_108_864;
 pub enum LineEffect {
     Changed,
     Unchanged,
+}
+
+/// Adds these members, in braces, behind what is there.
+fn push_object(out: &mut Vec<u8>, members: &[u8]) -> Result<(), AllocError>
+    ensures { OnOk result (out.new.items ≡ out.old.items ++ 123 ∷ (members.now ++ 125 ∷ [])) }
+{
+    out.push(b'{')?;
+    out.extend_from_slice(members)?;
+    out.push(b'}')?;
+    Ok(())
 }
 
 /// A driver under commands, from the first line on.
@@ -77,12 +87,10 @@ impl Session {
         ensures object { IfOk result (λ applied. applied ≡ did.Changed → IsObject line.now) }
         ensures behind { OnOk result ((text : List ℕ) × (reply.new.items ≡ reply.old.items ++ text)) }
     {
-        let mut writer = Writer::new(Vec::new(alloc));
-        writer.begin_object()?;
+        let mut writer = Writer::new(alloc);
         let changed = self.answer(alloc, line, &mut writer)?;
-        writer.end_object()?;
-        let text = writer.into_inner();
-        reply.extend_from_slice(text.as_slice())?;
+        let members = writer.into_text();
+        push_object(reply, members.as_slice())?;
         if !changed {
             return Ok(LineEffect::Unchanged);
         }

@@ -3,10 +3,9 @@
 use crate::answering::write_ignored;
 use crate::planning::{write_check, write_drain, write_moves};
 use crate::session::Session;
-use json::Writer;
 use sm_commands::{
-    LineCommand, SlotNeeds, StateOf, read_slots, refuse, write_bad, write_name, write_number,
-    write_text,
+    LineCommand, SlotNeeds, StateOf, Writer, read_slots, refuse, write_bad, write_name,
+    write_number, write_text,
 };
 use sm_open_journal::{
     Opened, write_audit, write_audited, write_failed, write_map, write_notices, write_plan_of,

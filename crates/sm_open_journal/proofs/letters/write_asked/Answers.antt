@@ -1,4 +1,4 @@
-use Rattle.sm_open_journal.proofs.Written.{next}
+use Rattle.sm_commands.proofs.Written.{next}
 use Rattle.sm_open_journal.proofs.letters.write_asked.Goals as goal
 
 pub returns : goal.returns

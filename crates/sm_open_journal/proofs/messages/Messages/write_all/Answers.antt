@@ -2,7 +2,7 @@ use Rattle.std.proofs.Common.{◌++◌, ◌∙◌, List, ap}
 use Rattle.std.specs.List.{flat_map}
 use Rattle.sm_reservation.specs.declared.stream_id.StreamId.{StreamId}
 use Rattle.sm_open_journal.specs.Messages.{stream_message}
-use Rattle.sm_open_journal.proofs.Written.{next}
+use Rattle.sm_commands.proofs.Written.{next}
 use Rattle.sm_open_journal.proofs.messages.Messages.write_all.Goals as goal
 
 -- The messages of the streams that wait for answers.

@@ -5,7 +5,8 @@ use Rattle.sm_protocol.specs.State.{stream_count, stream_id}
 use Rattle.sm_driver.specs.Driver.{record_of}
 use Rattle.sm_open_journal.specs.Messages.{stream_message}
 use Rattle.sm_open_journal.specs.Replies.{stands_else}
-use Rattle.sm_open_journal.proofs.Written.{flat_kept, next}
+use Rattle.sm_commands.proofs.Written.{next}
+use Rattle.sm_open_journal.proofs.Written.{flat_kept}
 use Rattle.sm_open_journal.proofs.messages.Messages.write_new.Goals as goal
 
 -- The messages of the streams that have gone on.

@@ -4,7 +4,7 @@ use Rattle.sm_placement.specs.Layout.{place_of}
 use Rattle.sm_placement.specs.Place.{Place}
 use Rattle.sm_open_journal.specs.Calls.{asked_members, size_members}
 use Rattle.sm_open_journal.specs.Messages.{holder_members}
-use Rattle.sm_open_journal.proofs.Written.{next}
+use Rattle.sm_commands.proofs.Written.{next}
 use Rattle.sm_open_journal.proofs.messages.Messages.write_order.Goals as goal
 
 -- The members by the names, sizes and cells that the driver has.

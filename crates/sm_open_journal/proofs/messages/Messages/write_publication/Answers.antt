@@ -1,7 +1,7 @@
 use Rattle.std.proofs.Common.{◌++◌, ◌∙◌, ap}
 use Rattle.sm_placement.specs.Setup.{Setup}
 use Rattle.sm_open_journal.specs.Calls.{published_members}
-use Rattle.sm_open_journal.proofs.Written.{next}
+use Rattle.sm_commands.proofs.Written.{next}
 use Rattle.sm_open_journal.proofs.messages.Messages.write_publication.Goals as goal
 
 pub returns : goal.returns

@@ -1,0 +1,8 @@
+use Rattle.std.proofs.Common.{None}
+use Rattle.sm_commands.proofs.field.refuse.Goals as goal
+
+pub returns-clause-refused : goal.returns-clause-refused
+returns-clause-refused c = (
+  record { kind = c.args.kind.now; number = None; fields = c.args.fields.now; text = c.as_str.result.now },
+  c.in_ok-write_refused.ensures,
+)
