@@ -1,4 +1,5 @@
 pub mod Begun
 pub mod Calls
 pub mod Messages
+pub mod Permits
 pub mod Replies

@@ -6,16 +6,13 @@ ghost use Rattle.sm_open_journal.specs.Begun.{begun_member, begun_members, begun
 use crate::begun_plan::BegunPlan;
 use crate::given_permits::{GivenAt, GivenPermits};
 use crate::history::History;
-use crate::members::{server_name, write_number, write_text};
 use crate::messages::Messages;
 use crate::restored::{ToldRestore, told_last, told_restores};
 use crate::streams::calls_of;
-use json::Writer;
-use sm_commands::{Writer, server_name, write_number, write_text};
+use sm_commands::{Writer, write_number};
 use sm_driver::Driver;
 use sm_names::Names;
 use sm_reservation::StreamId;
-use sm_server::ServerId;
 use std::alloc::{AllocError, Global};
 
 /// A journal that is open: its driver, and what was given names.
@@ -198,34 +195,6 @@ impl Opened {
         };
         let given = self.driver.permits().get(server.number() as usize);
         given == Some(&Some(permit))
-    }
-
-    /// Writes, as a member, the permits of the servers that are down.
-    fn write_permits(&self, writer: &mut Writer) -> Result<(), AllocError> {
-        let config = self.driver.machine().config();
-        let mut number = 0;
-        writer.key("permits")?;
-        writer.begin_array()?;
-        for permit in self.driver.permits() {
-            if let Some(permit) = permit {
-                writer.begin_object()?;
-                write_text(writer, "server", server_name(config, ServerId::new(number)))?;
-                write_number(writer, "permit", *permit)?;
-                writer.end_object()?;
-            }
-            number = number.saturating_add(1);
-        }
-        writer.end_array()
-    }
-
-    /// Writes, as a member of a reply, that the journal is open.
-    pub fn write_opened(&self, writer: &mut Writer) -> Result<(), AllocError> {
-        writer.key("opened")?;
-        writer.begin_object()?;
-        write_text(writer, "journal", self.journal.as_str())?;
-        write_number(writer, "epoch", u64::from(self.driver.epoch()))?;
-        self.write_permits(writer)?;
-        writer.end_object()
     }
 
     /// Returns how many plans have begun in the present epoch.

@@ -7,27 +7,13 @@ ghost use Rattle.sm_session.specs.Changes.{ApprovesRestart};
 use crate::standing::Standing;
 use sm_commands::{
     BadLine, CommandMember, Field, LinePart, Writer, refuse, server_name, shard_name, write_bad,
-    write_number, write_refusal, write_text,
+    write_refusal,
 };
-use sm_open_journal::{GivenAt, Opened};
+use sm_open_journal::{GivenAt, Opened, write_permit};
 use sm_placement::Config;
 use sm_server::ServerId;
 use sm_task_controller::Denied;
 use std::alloc::{AllocError, Global};
-
-/// Writes, as a member of a reply, a permit of a server.
-fn write_permit(
-    writer: &mut Writer,
-    word: &str,
-    server: &str,
-    permit: u64,
-) -> Result<(), AllocError> {
-    writer.key(word)?;
-    writer.begin_object()?;
-    write_text(writer, "server", server)?;
-    write_number(writer, "permit", permit)?;
-    writer.end_object()
-}
 
 /// Writes why a restart is denied.
 fn write_denied(

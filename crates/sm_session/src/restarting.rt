@@ -43,8 +43,7 @@ pub fn restarted(
     }
     match opened.driver.restarted(permit, base) {
         RestartEffect::Up(server) => {
-            let config = opened.driver.machine().config();
-            write_text(writer, "up", server_name(config, server))?;
+            write_text(writer, "up", opened.name_of(server))?;
             Ok(true)
         }
         RestartEffect::Unsettled(server) => {

@@ -1,0 +1,33 @@
+-- Permits of restarts in replies, and the reply to an opening, which has those of the servers that are down.
+use Rattle.std.specs.Prelude.{ℕ, List, [], ◌++◌, codes, length}
+use Rattle.std.specs.List.{flat_map, range_with_len}
+use Rattle.std.specs.Option.{option_map_or}
+use Rattle.json.specs.Token.{Token}
+use Rattle.sm_driver.specs.Driver.{DriverModel}
+use Rattle.sm_driver.specs.Permits.{permit_of}
+use Rattle.sm_commands.specs.Members.{list_member, number_member, object, object_member, server_text, text_member}
+
+-- a permit of a server
+abbrev pub permit_members : List ℕ → ℕ → List Token
+permit_members server permit = text_member (codes "server") server ++ number_member (codes "permit") permit
+
+-- the same under a word, as a member
+abbrev pub permit_member : List ℕ → List ℕ → ℕ → List Token
+permit_member word server permit = object_member word (permit_members server permit)
+
+-- the permit under which a server is down, if it is
+abbrev pub permit_text : DriverModel → ℕ → List Token
+permit_text d v =
+    option_map_or (λ permit. object (permit_members (server_text d.machine.placement.setup v) permit)) (permit_of d.permits v) []
+
+-- those of all servers, as a member
+abbrev pub permits_member : DriverModel → List Token
+permits_member d = list_member (codes "permits") (flat_map (permit_text d) (range_with_len 0 (length d.machine.placement.setup.servers)))
+
+-- the journal is open in an epoch, with these permits
+abbrev pub opened_members : List ℕ → DriverModel → List Token
+opened_members journal d = text_member (codes "journal") journal ++ number_member (codes "epoch") d.epoch ++ permits_member d
+
+-- the same as a member
+abbrev pub opened_member : List ℕ → DriverModel → List Token
+opened_member journal d = object_member (codes "opened") (opened_members journal d)

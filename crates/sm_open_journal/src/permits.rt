@@ -1,0 +1,111 @@
+//! Permits of restarts in replies.
+ghost use Rattle.std.specs.Prelude.{◌≡◌, ◌++◌, OnOk, length, string_bytes};
+ghost use Rattle.std.specs.List.{flat_map, range_with_len};
+ghost use Rattle.sm_driver.specs.Permits.{permit_of};
+ghost use Rattle.sm_commands.specs.Members.{server_text};
+ghost use Rattle.sm_open_journal.specs.Permits.{opened_member, opened_members, permit_member, permit_members, permit_text, permits_member};
+
+use crate::opened::Opened;
+use sm_commands::{Writer, server_name, write_number, write_text};
+use sm_server::ServerId;
+use std::alloc::AllocError;
+
+/// Writes the members of a server's permit.
+fn write_permit_members(writer: &mut Writer, server: &str, permit: u64) -> Result<(), AllocError>
+    ensures { OnOk result (writer.new.tokens ≡ writer.old.tokens ++ permit_members server.now permit) }
+{
+    write_text(writer, "server", server)?;
+    write_number(writer, "permit", permit)?;
+    Ok(())
+}
+
+/// Writes a server's permit, as a member of a reply.
+pub fn write_permit(
+    writer: &mut Writer,
+    word: &str,
+    server: &str,
+    permit: u64,
+) -> Result<(), AllocError>
+    ensures { OnOk result (writer.new.tokens ≡ writer.old.tokens ++ permit_member word.now server.now permit) }
+{
+    writer.key(word)?;
+    writer.begin_object()?;
+    write_permit_members(writer, server, permit)?;
+    writer.end_object()?;
+    Ok(())
+}
+
+impl Opened {
+    /// Returns the permit under which a server is down, if it is.
+    fn permit_of(&self, server: ServerId) -> Option<u64>
+        ensures { result ≡ permit_of self.now.driver.permits server }
+    {
+        self.driver
+            .permits()
+            .get(server.number() as usize)
+            .copied()
+            .flatten()
+    }
+
+    /// Returns the name of a server.
+    pub fn name_of(&self, server: ServerId) -> &str
+        ensures { result.now ≡ server_text self.now.driver.machine.placement.setup server }
+    {
+        server_name(self.driver.machine().config(), server)
+    }
+
+    /// Writes the permit under which a server is down, if it is.
+    fn write_permit_of(&self, writer: &mut Writer, server: ServerId) -> Result<(), AllocError>
+        ensures { OnOk result (writer.new.tokens ≡ writer.old.tokens ++ permit_text self.now.driver server) }
+    {
+        if let Some(permit) = self.permit_of(server) {
+            writer.begin_object()?;
+            write_permit_members(writer, self.name_of(server), permit)?;
+            writer.end_object()?;
+        }
+        Ok(())
+    }
+
+    /// Writes the permits under which servers are down.
+    fn write_each_permit(&self, writer: &mut Writer) -> Result<(), AllocError>
+        ensures { OnOk result (writer.new.tokens
+            ≡ writer.old.tokens ++ flat_map (permit_text self.now.driver) (range_with_len 0 (length self.now.driver.machine.placement.setup.servers))) }
+    {
+        for number in 0..self.driver.machine().config().server_count() {
+            self.write_permit_of(writer, ServerId::new(number))?;
+        }
+        Ok(())
+    }
+
+    /// Writes them, as a member.
+    fn write_permits(&self, writer: &mut Writer) -> Result<(), AllocError>
+        ensures { OnOk result (writer.new.tokens ≡ writer.old.tokens ++ permits_member self.now.driver) }
+    {
+        writer.key("permits")?;
+        writer.begin_array()?;
+        self.write_each_permit(writer)?;
+        writer.end_array()?;
+        Ok(())
+    }
+
+    /// Writes the members of the reply that the journal is open.
+    fn write_opened_members(&self, writer: &mut Writer) -> Result<(), AllocError>
+        ensures { OnOk result (writer.new.tokens ≡ writer.old.tokens ++ opened_members (string_bytes self.now.journal) self.now.driver) }
+    {
+        write_text(writer, "journal", self.journal.as_str())?;
+        write_number(writer, "epoch", u64::from(self.driver.epoch()))?;
+        self.write_permits(writer)?;
+        Ok(())
+    }
+
+    /// Writes, as a member of a reply, that the journal is open.
+    pub fn write_opened(&self, writer: &mut Writer) -> Result<(), AllocError>
+        ensures { OnOk result (writer.new.tokens ≡ writer.old.tokens ++ opened_member (string_bytes self.now.journal) self.now.driver) }
+    {
+        writer.key("opened")?;
+        writer.begin_object()?;
+        self.write_opened_members(writer)?;
+        writer.end_object()?;
+        Ok(())
+    }
+}
