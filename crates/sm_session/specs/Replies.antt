@@ -1,12 +1,93 @@
--- Replies about a plan that has begun.
--- `TellsBegun` is internal: you need not read it for the public contracts.
-use Rattle.std.specs.Prelude.{◌≡◌, ℕ, List, ◌++◌}
+-- Replies to lines: what is told of a line that changed something, by what it has done.
+-- `ignored_answer` is internal: you need not read it for the public contracts.
+use Rattle.std.specs.Prelude.{◌≡◌, ℕ, ◌||◌, Bool, List, [], ◌++◌, Option, Some, None, codes, if◌then◌else◌, string_bytes, true}
 use Rattle.json.specs.Token.{Token}
+use Rattle.json.specs.Print.{print}
+use Rattle.sm_reservation.specs.declared.stream_id.StreamId.{StreamId}
 use Rattle.sm_plan_code.specs.Plan.{PlanModel}
-use Rattle.sm_driver.specs.Driver.{DriverModel, HasBegunPlan}
+use Rattle.sm_driver.specs.Driver.{DriverModel, HasApproved, HasBegunPlan, HasEndedRestart, HasTakenStep, is_due, is_past, record_of}
+use Rattle.sm_commands.specs.declared.command.Id.{Id}
+use Rattle.sm_commands.specs.Members.{id_members, object, server_text, text_member}
+use Rattle.sm_commands.specs.Writer.{HasNoLineFeed}
+use Rattle.sm_open_journal.specs.declared.opened.Opened.{Opened}
 use Rattle.sm_open_journal.specs.Begun.{begun_members, begun_plan}
+use Rattle.sm_open_journal.specs.Permits.{opened_member, permit_member}
+use Rattle.sm_open_journal.specs.Replies.{sinces_of, taken_members}
+use Rattle.sm_session.specs.Changes.{ComesInForce, HasGoneOn, HasReopened, OpensNext, RestoresServer}
+use Rattle.sm_session.specs.declared.reopening.UnderWay.{UnderWay}
+use Rattle.sm_session.specs.declared.session.LineEffect.{LineEffect}
+use Rattle.sm_session.specs.declared.session.LineEffect.TheVariants.{Changed}
+use Rattle.sm_session.specs.declared.session.Session.{Session}
 
 -- a plan has begun, and behind what was written is told that it has, with the messages of its streams
 abbrev pub TellsBegun : DriverModel → DriverModel → List ℕ → List Token → List Token → Type 0
 TellsBegun old new journal before after =
     (plan : PlanModel) × (number : ℕ) × HasBegunPlan plan number old new × (after ≡ before ++ begun_members journal new (begun_plan new number))
+
+-- a stream has made the step whose answer it waited for, and it is told where it stands, with the messages that came up in its plan
+abbrev pub TellsMoved : DriverModel → DriverModel → List ℕ → List Token → List Token → Type 0
+TellsMoved old new journal before after =
+    (id : StreamId) × (number : ℕ) × (is_due old id number ≡ true) × HasTakenStep id old new
+    × (after ≡ before ++ taken_members journal new id (sinces_of (record_of old) id.plan))
+
+-- why an answer that is not due tells nothing new: its stream has gone on, or a reopening is under way; otherwise it is not known
+abbrev pub ignored_answer : Bool → DriverModel → StreamId → ℕ → List ℕ
+ignored_answer is_reopening d id number = if is_reopening || is_past d id number then codes "old" else codes "unknown"
+
+-- the restart of a server was approved, and its permit is told
+abbrev pub TellsApproved : DriverModel → DriverModel → List Token → List Token → Type 0
+TellsApproved old new before after =
+    (server : ℕ) × (permit : ℕ) × HasApproved server permit old new
+    × (after ≡ before ++ permit_member (codes "approved") (server_text new.machine.placement.setup server) permit)
+
+-- the restart of a server has ended, and it is told which is up
+abbrev pub TellsUp : DriverModel → DriverModel → List Token → List Token → Type 0
+TellsUp old new before after =
+    (server : ℕ) × (permit : ℕ) × (base : Option ℕ) × HasEndedRestart server permit base old new
+    × (after ≡ before ++ text_member (codes "up") (server_text new.machine.placement.setup server))
+
+-- the next epoch has opened, and that is told
+abbrev pub TellsNext : DriverModel → DriverModel → List ℕ → List Token → List Token → Type 0
+TellsNext old new journal before after = OpensNext old new × (after ≡ before ++ opened_member journal new)
+
+-- The effect of a command on the driver of an open journal, and what is told of it. A restore is told too: not said here.
+pub data TellsChange (old new : DriverModel) (journal : List ℕ) (before after : List Token) : Type 0 where
+  Begun : TellsBegun old new journal before after → TellsChange old new journal before after
+  Moved : TellsMoved old new journal before after → TellsChange old new journal before after
+  Approved : TellsApproved old new before after → TellsChange old new journal before after
+  Up : TellsUp old new before after → TellsChange old new journal before after
+  Restored : RestoresServer old new → TellsChange old new journal before after
+  Next : TellsNext old new journal before after → TellsChange old new journal before after
+
+-- what is told of the journal that is open
+abbrev pub TellsOpened : Option Opened → List Token → List Token → Type 0
+TellsOpened (Some o) before after = after ≡ before ++ opened_member (string_bytes o.journal) o.driver
+TellsOpened None before after = ⊥
+
+-- what is told of a command on an open journal, or of its first opening
+abbrev pub TellsDriven : Option Opened → Option Opened → List Token → List Token → Type 0
+TellsDriven None new before after = TellsOpened new before after
+TellsDriven (Some old) (Some new) before after = TellsChange old.driver new.driver (string_bytes new.journal) before after
+TellsDriven (Some old) None before after = ⊥
+
+-- What is told of a line that changed something. Of a reopening it is said only that the last settle tells that the journal is open.
+pub data TellsChanges (opened : Option Opened) (under : Option UnderWay) (new : Option Opened) (after_it : Option UnderWay) (before after : List Token) : Type 0 where
+  Drives : under ≡ None → after_it ≡ None → TellsDriven opened new before after → TellsChanges opened under new after_it before after
+  Reopens : HasReopened opened under after_it → TellsChanges opened under new after_it before after
+  Follows : HasGoneOn under after_it → TellsChanges opened under new after_it before after
+  Opens : ComesInForce under after_it new → TellsOpened new before after → TellsChanges opened under new after_it before after
+
+-- what a line that changed something made of a session, and told of it
+abbrev pub SessionTells : Session → Session → List Token → List Token → Type 0
+SessionTells old new before after = TellsChanges old.opened old.under_way new.opened new.under_way before after
+
+-- the same behind the line's id, if it has one
+abbrev pub TellsBehindId : Session → Session → List Token → List Token → Type 0
+TellsBehindId old new before after = (id : Option Id) × SessionTells old new (before ++ id_members id) after
+
+-- The reply to a line is one line: the text of some tokens in braces, which need not make an object. If the line has changed something, they tell it.
+pub record IsLineReply (old new : Session) (effect : LineEffect) (text : List ℕ) : Type 0 where
+  pub members : List Token
+  pub is : text ≡ print (object members)
+  pub one_line : HasNoLineFeed text
+  pub changed : effect ≡ Changed → TellsBehindId old new [] members

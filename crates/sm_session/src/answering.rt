@@ -1,8 +1,9 @@
 //! Answers to orders and publications.
-ghost use Rattle.std.specs.Prelude.{◌≡◌, ◌++◌, IfOk, OnOk, false, string_bytes, true};
-ghost use Rattle.sm_driver.specs.Driver.{record_of};
-ghost use Rattle.sm_open_journal.specs.Replies.{sinces_of, taken_members};
+ghost use Rattle.std.specs.Prelude.{◌≡◌, ◌++◌, IfOk, OnOk, codes, false, string_bytes, true};
+ghost use Rattle.sm_commands.specs.Members.{text_member};
+ghost use Rattle.sm_open_journal.specs.Replies.{taken_members};
 ghost use Rattle.sm_session.specs.Changes.{TakesAnswer};
+ghost use Rattle.sm_session.specs.Replies.{TellsMoved, ignored_answer};
 
 use crate::standing::Standing;
 use sm_commands::{Writer, write_text};
@@ -12,7 +13,9 @@ use sm_reservation::StreamId;
 use std::alloc::{AllocError, Global};
 
 /// Writes that a command tells nothing new.
-pub fn write_ignored(writer: &mut Writer, why: &str) -> Result<(), AllocError> {
+pub fn write_ignored(writer: &mut Writer, why: &str) -> Result<(), AllocError>
+    ensures { OnOk result (writer.new.tokens ≡ writer.old.tokens ++ text_member (codes "ignored") why.now) }
+{
     write_text(writer, "ignored", why)
 }
 
@@ -61,8 +64,10 @@ pub fn answered(
     ensures moved { IfOk result (λ moved. moved ≡ true → TakesAnswer opened.old.driver opened.new.driver) }
     ensures unchanged { IfOk result (λ moved. moved ≡ false → opened.new ≡ opened.old) }
     ensures in_force { IfOk result (λ moved. moved ≡ true → at.is_reopening ≡ false) }
-    ensures told { IfOk result (λ moved. moved ≡ true → writer.new.tokens
-        ≡ writer.old.tokens ++ taken_members (string_bytes opened.new.journal) opened.new.driver id (sinces_of (record_of opened.old.driver) id.plan)) }
+    ensures told { IfOk result (λ moved. moved ≡ true
+        → TellsMoved opened.old.driver opened.new.driver (string_bytes opened.new.journal) writer.old.tokens writer.new.tokens) }
+    ensures ignored { IfOk result (λ moved. moved ≡ false → writer.new.tokens
+        ≡ writer.old.tokens ++ text_member (codes "ignored") (ignored_answer at.is_reopening opened.old.driver id number)) }
 {
     if at.is_reopening {
         write_ignored(writer, "old")?;

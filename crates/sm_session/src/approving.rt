@@ -3,6 +3,7 @@ ghost use Rattle.std.specs.Prelude.{◌≡◌, ◌<◌, IfOk, None, false, true}
 ghost use Rattle.sm_driver.specs.Driver.{record_of};
 ghost use Rattle.sm_names.specs.Names.{value_of};
 ghost use Rattle.sm_session.specs.Changes.{ApprovesRestart};
+ghost use Rattle.sm_session.specs.Replies.{TellsApproved};
 
 use crate::standing::Standing;
 use sm_commands::{
@@ -74,6 +75,8 @@ fn approve_now(
     requires new { value_of opened.old.approvals by.now ≡ None }
     ensures approved { IfOk result (λ approved. approved ≡ true → ApprovesRestart opened.old.driver opened.new.driver) }
     ensures unchanged { IfOk result (λ approved. approved ≡ false → opened.new ≡ opened.old) }
+    ensures told { IfOk result (λ approved. approved ≡ true
+        → TellsApproved opened.old.driver opened.new.driver writer.old.tokens writer.new.tokens) }
 {
     match opened.driver.approve(server) {
         Ok(permit) => {
@@ -103,6 +106,8 @@ pub fn approve(
     ensures approved { IfOk result (λ approved. approved ≡ true → ApprovesRestart opened.old.driver opened.new.driver) }
     ensures unchanged { IfOk result (λ approved. approved ≡ false → opened.new ≡ opened.old) }
     ensures in_force { IfOk result (λ approved. approved ≡ true → at.is_reopening ≡ false) }
+    ensures told { IfOk result (λ approved. approved ≡ true
+        → TellsApproved opened.old.driver opened.new.driver writer.old.tokens writer.new.tokens) }
 {
     if let Some(given) = opened.approvals.get(by) {
         write_given(opened, alloc, writer, given, server)?;

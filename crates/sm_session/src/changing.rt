@@ -1,6 +1,7 @@
 //! Commands that change a journal that is open.
-ghost use Rattle.std.specs.Prelude.{◌≡◌, IfOk, false, true};
+ghost use Rattle.std.specs.Prelude.{◌≡◌, IfOk, false, string_bytes, true};
 ghost use Rattle.sm_session.specs.Changes.{Changes};
+ghost use Rattle.sm_session.specs.Replies.{TellsChange};
 
 use crate::answering::{answered, write_ignored};
 use crate::approving::approve;
@@ -25,6 +26,8 @@ pub fn change(
     ensures changed { IfOk result (λ changed. changed ≡ true → Changes opened.old.driver opened.new.driver) }
     ensures unchanged { IfOk result (λ changed. changed ≡ false → opened.new ≡ opened.old) }
     ensures in_force { IfOk result (λ changed. changed ≡ true → at.is_reopening ≡ false) }
+    ensures told { IfOk result (λ changed. changed ≡ true
+        → TellsChange opened.old.driver opened.new.driver (string_bytes opened.new.journal) writer.old.tokens writer.new.tokens) }
 {
     match command {
         LineCommand::Begin { plan, name } => begin(opened, at, alloc, writer, plan, name),

@@ -1,6 +1,7 @@
 //! The opening of the next epoch.
-ghost use Rattle.std.specs.Prelude.{◌≡◌, IfOk, false, true};
+ghost use Rattle.std.specs.Prelude.{◌≡◌, IfOk, false, string_bytes, true};
 ghost use Rattle.sm_session.specs.Changes.{OpensNext};
+ghost use Rattle.sm_session.specs.Replies.{TellsNext};
 
 use crate::standing::Standing;
 use sm_commands::{Field, Writer, refuse, shard_name};
@@ -40,6 +41,8 @@ pub fn open_next(
     ensures opened { IfOk result (λ is_open. is_open ≡ true → OpensNext opened.old.driver opened.new.driver) }
     ensures unchanged { IfOk result (λ is_open. is_open ≡ false → opened.new ≡ opened.old) }
     ensures in_force { IfOk result (λ is_open. is_open ≡ true → at.is_reopening ≡ false) }
+    ensures told { IfOk result (λ is_open. is_open ≡ true
+        → TellsNext opened.old.driver opened.new.driver (string_bytes opened.new.journal) writer.old.tokens writer.new.tokens) }
 {
     if at.is_reopening {
         refuse(writer, alloc, "Reopening", &[])?;

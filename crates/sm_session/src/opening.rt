@@ -4,6 +4,7 @@ ghost use Rattle.sm_placement.specs.Setup.{sizes_of};
 ghost use Rattle.sm_placement.specs.Layout.{place_of};
 ghost use Rattle.sm_placement.specs.Lead.{IsSettled};
 ghost use Rattle.sm_session.specs.Changes.{HasDriven, driver_of};
+ghost use Rattle.sm_session.specs.Replies.{TellsDriven, TellsOpened};
 
 use crate::standing::Standing;
 use json_tree::Tree;
@@ -19,7 +20,9 @@ pub fn read_document(
     alloc: Global,
     value: &Tree<'_>,
     writer: &mut Writer,
-) -> Result<Option<Document>, AllocError> {
+) -> Result<Option<Document>, AllocError>
+    ensures { IfOk result (λ found. IfSome found (λ document. writer.new.tokens ≡ writer.old.tokens)) }
+{
     match read_document_value(alloc, value) {
         Ok(document) => Ok(Some(document)),
         Err(TextFault::NoMemory) => Err(AllocError),
@@ -40,7 +43,8 @@ fn read_placement(
     document: &Document,
     writer: &mut Writer,
 ) -> Result<Option<Placement>, AllocError>
-    ensures { IfOk result (λ found. IfSome found (λ placement. IsSettled (sizes_of placement.setup) (place_of placement))) }
+    ensures settled { IfOk result (λ found. IfSome found (λ placement. IsSettled (sizes_of placement.setup) (place_of placement))) }
+    ensures quiet { IfOk result (λ found. IfSome found (λ placement. writer.new.tokens ≡ writer.old.tokens)) }
 {
     match document.open(alloc) {
         Ok(placement) => Ok(Some(placement)),
@@ -61,7 +65,8 @@ fn take(
     driver: Driver,
     log_room: u32,
 ) -> Result<(), AllocError>
-    ensures { OnOk result (driver_of opened.new ≡ Some driver) }
+    ensures driver { OnOk result (driver_of opened.new ≡ Some driver) }
+    ensures told { OnOk result (TellsOpened opened.new writer.old.tokens writer.new.tokens) }
 {
     let journal = driver.journal();
     let text = match format!(in alloc; "{journal:x}") {
@@ -93,6 +98,7 @@ pub fn open(
     ensures changed { IfOk result (λ changed. changed ≡ true → HasDriven (driver_of opened.old) (driver_of opened.new)) }
     ensures unchanged { IfOk result (λ changed. changed ≡ false → opened.new ≡ opened.old) }
     ensures in_force { IfOk result (λ changed. changed ≡ true → at.is_reopening ≡ false) }
+    ensures told { IfOk result (λ changed. changed ≡ true → TellsDriven opened.old opened.new writer.old.tokens writer.new.tokens) }
 {
     if opened.is_some() || at.is_reopening {
         refuse(writer, alloc, "AlreadyOpened", &[])?;

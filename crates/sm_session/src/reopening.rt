@@ -3,6 +3,7 @@ ghost use Rattle.std.specs.Prelude.{◌≡◌, ◌<◌, ◌⊎◌, IfOk, IfSome,
 ghost use Rattle.std.specs.Option.{ForSome};
 ghost use Rattle.sm_reopening.specs.Ongoing.{net_reopening};
 ghost use Rattle.sm_session.specs.Changes.{BeginsReopening, ComesInForce, HasGoneOn, HasReopened, OpensOf, driver_of, reopening_under_way};
+ghost use Rattle.sm_session.specs.Replies.{TellsOpened};
 
 use crate::answering::write_ignored;
 use crate::opening::read_document;
@@ -265,7 +266,8 @@ fn put_in_force(
     writer: &mut Writer,
 ) -> Result<(), AllocError>
     requires { is_some (net_reopening under_way.reopening.ongoing).settlement ≡ true }
-    ensures { OnOk result (OpensOf under_way.reopening opened.new) }
+    ensures in_force { OnOk result (OpensOf under_way.reopening opened.new) }
+    ensures told { OnOk result (TellsOpened opened.new writer.old.tokens writer.new.tokens) }
 {
     let UnderWay { reopening, journal } = under_way;
     let log_room = reopening.log_room();
@@ -295,6 +297,7 @@ pub(crate) fn settled(
     ensures stays { IfOk result (λ effect. effect ≡ SettledEffect.Waiting → opened.new ≡ opened.old) }
     ensures waiting { IfOk result (λ effect. effect ≡ SettledEffect.Waiting → HasGoneOn under_way.old under_way.new) }
     ensures complete { IfOk result (λ effect. effect ≡ SettledEffect.Complete → ComesInForce under_way.old under_way.new opened.new) }
+    ensures told { IfOk result (λ effect. effect ≡ SettledEffect.Complete → TellsOpened opened.new writer.old.tokens writer.new.tokens) }
 {
     let Some(mut current) = under_way.take() else {
         write_ignored(writer, "old")?;

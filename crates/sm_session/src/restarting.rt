@@ -1,6 +1,7 @@
 //! Ends of restarts.
 ghost use Rattle.std.specs.Prelude.{◌≡◌, IfOk, false, true};
 ghost use Rattle.sm_session.specs.Changes.{EndsRestart};
+ghost use Rattle.sm_session.specs.Replies.{TellsUp};
 
 use crate::answering::write_ignored;
 use crate::standing::Standing;
@@ -36,6 +37,7 @@ pub fn restarted(
     ensures ended { IfOk result (λ ended. ended ≡ true → EndsRestart permit base opened.old.driver opened.new.driver) }
     ensures unchanged { IfOk result (λ ended. ended ≡ false → opened.new ≡ opened.old) }
     ensures in_force { IfOk result (λ ended. ended ≡ true → at.is_reopening ≡ false) }
+    ensures told { IfOk result (λ ended. ended ≡ true → TellsUp opened.old.driver opened.new.driver writer.old.tokens writer.new.tokens) }
 {
     if at.is_reopening {
         wait_for_reopening(opened, alloc, writer, permit)?;

@@ -50,6 +50,7 @@ pub struct Session {
 impl Session {
     ghost use Rattle.std.specs.Prelude.{true};
     ghost use Rattle.sm_session.specs.Changes.{SessionChanges};
+    ghost use Rattle.sm_session.specs.Replies.{IsLineReply, SessionTells, TellsBehindId};
 
     /// Returns a session before its first line.
     pub fn new() -> Self {
@@ -86,6 +87,7 @@ impl Session {
         // A journal can take a line that changed something as an entry.
         ensures object { IfOk result (λ applied. applied ≡ did.Changed → IsObject line.now) }
         ensures behind { OnOk result ((text : List ℕ) × (reply.new.items ≡ reply.old.items ++ text)) }
+        ensures told { IfOk result (λ applied. (text : List ℕ) × (reply.new.items ≡ reply.old.items ++ text) × IsLineReply self.old self.new applied text) }
     {
         let mut writer = Writer::new(alloc);
         let changed = self.answer(alloc, line, &mut writer)?;
@@ -107,6 +109,7 @@ impl Session {
     ) -> Result<bool, AllocError>
         ensures changed { IfOk result (λ changed. changed ≡ true → SessionChanges self.old self.new) }
         ensures unchanged { IfOk result (λ changed. changed ≡ false → self.new ≡ self.old) }
+        ensures told { IfOk result (λ changed. changed ≡ true → TellsBehindId self.old self.new writer.old.tokens writer.new.tokens) }
         ensures object { IfOk result (λ changed. changed ≡ true → IsObject line.now) }
     {
         if line.len() > MOST_BYTES {
@@ -138,6 +141,7 @@ impl Session {
     ) -> Result<bool, AllocError>
         ensures changed { IfOk result (λ changed. changed ≡ true → SessionChanges self.old self.new) }
         ensures unchanged { IfOk result (λ changed. changed ≡ false → self.new ≡ self.old) }
+        ensures told { IfOk result (λ changed. changed ≡ true → TellsBehindId self.old self.new writer.old.tokens writer.new.tokens) }
     {
         write_id(writer, id_of(line))?;
         match read_command(alloc, line, self.config())? {
@@ -176,6 +180,7 @@ impl Session {
     ) -> Result<bool, AllocError>
         ensures changed { IfOk result (λ changed. changed ≡ true → SessionChanges self.old self.new) }
         ensures unchanged { IfOk result (λ changed. changed ≡ false → self.new ≡ self.old) }
+        ensures told { IfOk result (λ changed. changed ≡ true → SessionTells self.old self.new writer.old.tokens writer.new.tokens) }
     {
         let at = self.standing();
         match command {
@@ -222,6 +227,7 @@ impl Session {
     ) -> Result<bool, AllocError>
         ensures changed { IfOk result (λ changed. changed ≡ true → SessionChanges self.old self.new) }
         ensures unchanged { IfOk result (λ changed. changed ≡ false → self.new ≡ self.old) }
+        ensures told { IfOk result (λ changed. changed ≡ true → SessionTells self.old self.new writer.old.tokens writer.new.tokens) }
     {
         match command {
             LineCommand::Reopen {

@@ -3,6 +3,7 @@ use Rattle.std.proofs.Common.{◌≡◌, ◌∙◌, Some, Option, inl, inr, subs
 use Rattle.sm_document_reopening.specs.Reopening.{ReopeningModel}
 use Rattle.sm_session.specs.Changes.{SettlesTo, reopening_under_way}
 use Rattle.sm_session.specs.declared.reopening.UnderWay.{UnderWay}
+use Rattle.sm_session.proofs.Told.{told_opened}
 use Rattle.sm_session.proofs.reopening.settled.Goals as goal
 
 pub returns-in_ok-put_in_force-in-Complete-clause-complete :
@@ -16,5 +17,11 @@ returns-in_ok-put_in_force-in-Complete-clause-complete c e =
         | inr taken ↦ taken
       ]),
       c.take.ensures.after,
-      c.in_ok-put_in_force-in-Complete.ensures,
+      c.in_ok-put_in_force-in-Complete.ensures.in_force,
     )
+
+-- The last answer itself tells nothing.
+pub returns-in_ok-put_in_force-in-Complete-clause-told :
+    goal.returns-in_ok-put_in_force-in-Complete-clause-told
+returns-in_ok-put_in_force-in-Complete-clause-told c e =
+    told_opened _ _ _ _ (c.in_ok-effect.ensures.quiet e) c.in_ok-put_in_force-in-Complete.ensures.told

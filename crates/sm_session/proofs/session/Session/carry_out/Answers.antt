@@ -2,6 +2,7 @@ use Rattle.std.proofs.Common.{◌≡◌, Bool, true, false, Option, Some, None, 
 use Rattle.sm_open_journal.specs.declared.opened.Opened.{Opened}
 use Rattle.sm_session.specs.declared.reopening.UnderWay.{UnderWay}
 use Rattle.sm_session.specs.Changes.{Changes, Drives, HasChanged}
+use Rattle.sm_session.proofs.Told.{told_driven}
 use Rattle.sm_session.proofs.session.Session.carry_out.Goals as goal
 
 -- The effect of a command on the driver, as long as no reopening is under way.
@@ -17,3 +18,8 @@ pub returns-in-Some-clause-changed : goal.returns-in-Some-clause-changed
 returns-in-Some-clause-changed c =
     driven c.change.result _ _ _ _ c.in-Some.opened c.change.new.opened c.standing-at.result.is_reopening
     c.in-Some.is refl refl c.standing-at.ensures c.change.ensures.changed c.change.ensures.in_force
+
+pub returns-in-Some-clause-told : goal.returns-in-Some-clause-told
+returns-in-Some-clause-told c =
+    told_driven c.change.result _ _ _ _ c.in-Some.opened c.change.new.opened c.standing-at.result.is_reopening _ _
+    c.in-Some.is refl refl c.standing-at.ensures c.change.ensures.told c.change.ensures.in_force
