@@ -1,7 +1,10 @@
 pub mod Choices
 pub mod Commands
+pub mod Lines
 pub mod Members
 pub mod Reading
 pub mod Refusals
 pub mod Slots
+pub mod Texts
+pub mod Values
 pub mod Writer

@@ -1,5 +1,5 @@
 -- What is written of a reply.
-use Rattle.std.specs.Prelude.{◌≡◌, ◌≢◌, ℕ, List, All, refl}
+use Rattle.std.specs.Prelude.{◌≢◌, ℕ, List, All, refl}
 use Rattle.std.specs.Coded.{Coded, code_by}
 use Rattle.json.specs.Token.{Token, tokens_code}
 

@@ -1,6 +1,11 @@
 //! Lines that ask, and change nothing.
-ghost use Rattle.std.specs.Prelude.{◌≡◌, IfOk};
+ghost use Rattle.std.specs.Prelude.{◌≡◌, IfOk, IfSome, Some, codes, true};
+ghost use Rattle.json_tree.specs.View.{view};
 ghost use Rattle.sm_commands.specs.Commands.{IsKnownAnywhere, IsKnownCommand};
+ghost use Rattle.sm_commands.specs.Lines.{OfWord, failed_word};
+ghost use Rattle.sm_commands.specs.Reading.{ReadsOn, is_clean, object_data};
+ghost use Rattle.sm_commands.specs.Values.{text_at};
+ghost use Rattle.sm_commands.specs.declared.command_member.CommandMember.TheVariants as members;
 
 use crate::bad_line::BadLine;
 use crate::command::{FailedAnswer, LineCommand, StateOf};
@@ -25,7 +30,8 @@ pub fn read_plain<'t, 'a>(
 
 /// Reads the question whether a plan would begin.
 pub fn read_check<'t, 'a>(line: &'t Tree<'a>) -> Result<LineCommand<'t, 'a>, BadLine>
-    ensures { IfOk result IsKnownAnywhere }
+    ensures known { IfOk result IsKnownAnywhere }
+    ensures told { OfWord (codes "check") (view line.now) result }
 {
     let mut reader = Reader::of_line(line, &[CommandMember::Plan]);
     let plan = reader.object(Row::One(CommandMember::Plan));
@@ -37,7 +43,8 @@ pub fn read_check<'t, 'a>(line: &'t Tree<'a>) -> Result<LineCommand<'t, 'a>, Bad
 
 /// Reads the question for a plan of moves.
 pub fn read_moves<'t, 'a>(line: &'t Tree<'a>) -> Result<LineCommand<'t, 'a>, BadLine>
-    ensures { IfOk result IsKnownAnywhere }
+    ensures known { IfOk result IsKnownAnywhere }
+    ensures told { OfWord (codes "moves") (view line.now) result }
 {
     let mut reader = Reader::of_line(line, &[CommandMember::Moves]);
     let moves = reader.list(Row::One(CommandMember::Moves), MOST_MOVES);
@@ -52,7 +59,8 @@ pub fn read_drain<'t, 'a>(
     line: &'t Tree<'a>,
     config: Option<&Config>,
 ) -> Result<LineCommand<'t, 'a>, BadLine>
-    ensures { IfOk result (IsKnownCommand config.entry) }
+    ensures known { IfOk result (IsKnownCommand config.entry) }
+    ensures told { OfWord (codes "drain") (view line.now) result }
 {
     let mut reader = Reader::of_line(line, &[CommandMember::Server]);
     let server = reader.server_name(Row::One(CommandMember::Server), config);
@@ -67,7 +75,8 @@ pub fn read_state<'t, 'a>(
     line: &'t Tree<'a>,
     config: Option<&Config>,
 ) -> Result<LineCommand<'t, 'a>, BadLine>
-    ensures { IfOk result (IsKnownCommand config.entry) }
+    ensures known { IfOk result (IsKnownCommand config.entry) }
+    ensures told { OfWord (codes "state") (view line.now) result }
 {
     let mut reader = Reader::of_line(line, &[CommandMember::Shard, CommandMember::Plan]);
     let shard = reader.shard_name(Row::Maybe(CommandMember::Shard), config);
@@ -82,7 +91,8 @@ pub fn read_state<'t, 'a>(
 
 /// Reads the question for what has come up since a place.
 pub fn read_since<'t, 'a>(line: &'t Tree<'a>) -> Result<LineCommand<'t, 'a>, BadLine>
-    ensures { IfOk result IsKnownAnywhere }
+    ensures known { IfOk result IsKnownAnywhere }
+    ensures told { OfWord (codes "since") (view line.now) result }
 {
     let mut reader = Reader::of_line(line, &[CommandMember::Place]);
     let place = reader.number(Row::One(CommandMember::Place), MOST_EXACT);
@@ -98,7 +108,8 @@ pub fn read_audit<'t, 'a>(
     line: &'t Tree<'a>,
     config: Option<&Config>,
 ) -> Result<Result<LineCommand<'t, 'a>, BadLine>, AllocError>
-    ensures { IfOk result (λ read. IfOk read (IsKnownCommand config.entry)) }
+    ensures known { IfOk result (λ read. IfOk read (IsKnownCommand config.entry)) }
+    ensures told { IfOk result (OfWord (codes "audit") (view line.now)) }
 {
     let names = &[
         CommandMember::Server,
@@ -120,7 +131,9 @@ pub fn read_audit<'t, 'a>(
 }
 
 /// Returns the answer that a word names.
-fn failed_answer(word: &str) -> Option<FailedAnswer> {
+fn failed_answer(word: &str) -> Option<FailedAnswer>
+    ensures { IfSome result (λ answer. failed_word answer ≡ word.now) }
+{
     match word {
         "old" => Some(FailedAnswer::Old),
         "refused" => Some(FailedAnswer::Refused),
@@ -131,7 +144,11 @@ fn failed_answer(word: &str) -> Option<FailedAnswer> {
 }
 
 /// Returns the answer that a line has to name.
-fn answer_in(reader: &mut Reader<'_, '_>) -> Option<FailedAnswer> {
+fn answer_in(reader: &mut Reader<'_, '_>) -> Option<FailedAnswer>
+    ensures on { ReadsOn reader.old reader.new }
+    ensures told { is_clean reader.new.faults ≡ true
+        → IfSome result (λ answer. text_at members.Answer (object_data reader.old) ≡ Some (failed_word answer)) }
+{
     let row = Row::One(CommandMember::Answer);
     let value = reader.value(row)?;
     reader.shaped(row, value.as_str().and_then(failed_answer))
@@ -139,7 +156,8 @@ fn answer_in(reader: &mut Reader<'_, '_>) -> Option<FailedAnswer> {
 
 /// Reads the question what to do about an order that has failed.
 pub fn read_failed<'t, 'a>(line: &'t Tree<'a>) -> Result<LineCommand<'t, 'a>, BadLine>
-    ensures { IfOk result IsKnownAnywhere }
+    ensures known { IfOk result IsKnownAnywhere }
+    ensures told { OfWord (codes "failed") (view line.now) result }
 {
     let names = &[
         CommandMember::Plan,

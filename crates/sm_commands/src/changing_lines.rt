@@ -1,6 +1,8 @@
 //! Lines of plans and restarts, which change something.
-ghost use Rattle.std.specs.Prelude.{IfOk};
+ghost use Rattle.std.specs.Prelude.{IfOk, codes};
+ghost use Rattle.json_tree.specs.View.{view};
 ghost use Rattle.sm_commands.specs.Commands.{IsKnownAnywhere, IsKnownCommand};
+ghost use Rattle.sm_commands.specs.Lines.{OfWord};
 
 use crate::bad_line::BadLine;
 use crate::command::LineCommand;
@@ -13,7 +15,8 @@ use sm_placement::Config;
 
 /// Reads an opening.
 pub fn read_open<'t, 'a>(line: &'t Tree<'a>) -> Result<LineCommand<'t, 'a>, BadLine>
-    ensures { IfOk result IsKnownAnywhere }
+    ensures known { IfOk result IsKnownAnywhere }
+    ensures told { OfWord (codes "open") (view line.now) result }
 {
     let names = &[
         CommandMember::Document,
@@ -36,7 +39,8 @@ pub fn read_open<'t, 'a>(line: &'t Tree<'a>) -> Result<LineCommand<'t, 'a>, BadL
 
 /// Reads the begin of a plan.
 pub fn read_begin<'t, 'a>(line: &'t Tree<'a>) -> Result<LineCommand<'t, 'a>, BadLine>
-    ensures { IfOk result IsKnownAnywhere }
+    ensures known { IfOk result IsKnownAnywhere }
+    ensures told { OfWord (codes "begin") (view line.now) result }
 {
     let mut reader = Reader::of_line(line, &[CommandMember::Plan, CommandMember::Name]);
     let plan = reader.object(Row::One(CommandMember::Plan));
@@ -49,7 +53,8 @@ pub fn read_begin<'t, 'a>(line: &'t Tree<'a>) -> Result<LineCommand<'t, 'a>, Bad
 
 /// Reads an answer to an order or a publication.
 pub fn read_answered<'t, 'a>(line: &'t Tree<'a>) -> Result<LineCommand<'t, 'a>, BadLine>
-    ensures { IfOk result IsKnownAnywhere }
+    ensures known { IfOk result IsKnownAnywhere }
+    ensures told { OfWord (codes "answered") (view line.now) result }
 {
     let names = &[
         CommandMember::Plan,
@@ -75,7 +80,8 @@ pub fn read_approve<'t, 'a>(
     line: &'t Tree<'a>,
     config: Option<&Config>,
 ) -> Result<LineCommand<'t, 'a>, BadLine>
-    ensures { IfOk result (IsKnownCommand config.entry) }
+    ensures known { IfOk result (IsKnownCommand config.entry) }
+    ensures told { OfWord (codes "approve") (view line.now) result }
 {
     let mut reader = Reader::of_line(line, &[CommandMember::Server, CommandMember::By]);
     let server = reader.server_name(Row::One(CommandMember::Server), config);
@@ -88,7 +94,8 @@ pub fn read_approve<'t, 'a>(
 
 /// Reads the end of a restart.
 pub fn read_restarted<'t, 'a>(line: &'t Tree<'a>) -> Result<LineCommand<'t, 'a>, BadLine>
-    ensures { IfOk result IsKnownAnywhere }
+    ensures known { IfOk result IsKnownAnywhere }
+    ensures told { OfWord (codes "restarted") (view line.now) result }
 {
     let mut reader = Reader::of_line(line, &[CommandMember::Permit, CommandMember::Base]);
     let permit = reader.number(Row::One(CommandMember::Permit), MOST_EXACT);
@@ -104,7 +111,8 @@ pub fn read_restore<'t, 'a>(
     line: &'t Tree<'a>,
     config: Option<&Config>,
 ) -> Result<LineCommand<'t, 'a>, BadLine>
-    ensures { IfOk result (IsKnownCommand config.entry) }
+    ensures known { IfOk result (IsKnownCommand config.entry) }
+    ensures told { OfWord (codes "restore") (view line.now) result }
 {
     let mut reader = Reader::of_line(line, &[CommandMember::Server, CommandMember::Nonce]);
     let server = reader.server_name(Row::One(CommandMember::Server), config);

@@ -49,8 +49,13 @@ const TEXTS: [&str; 35] = [
 ];
 
 impl CommandMember {
+    ghost use Rattle.std.specs.Prelude.{◌≡◌};
+    ghost use Rattle.sm_commands.specs.Texts.{member_text};
+
     /// Returns the member as it is written.
-    pub const fn text(self) -> &'static str {
+    pub const fn text(self) -> &'static str
+        ensures { result.now ≡ member_text self }
+    {
         TEXTS[self as usize]
     }
 }

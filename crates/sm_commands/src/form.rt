@@ -1,5 +1,9 @@
 //! The forms of values in lines.
-ghost use Rattle.std.specs.Prelude.{◌≢◌, IfSome};
+ghost use Rattle.std.specs.Prelude.{◌≡◌, ◌≢◌, IfSome};
+ghost use Rattle.std.specs.Str.Parse.{digits_value};
+ghost use Rattle.json_tree.specs.View.{view};
+ghost use Rattle.sm_commands.specs.Lines.{IsId};
+ghost use Rattle.sm_commands.specs.Values.{is_hexadecimal};
 
 use crate::command::Id;
 use json_tree::Tree;
@@ -22,7 +26,9 @@ pub fn is_label(text: &str) -> bool {
 }
 
 /// Returns what a value tells a line by, if it is a label or a whole number.
-pub fn id_in<'a>(value: &Tree<'a>) -> Option<Id<'a>> {
+pub fn id_in<'a>(value: &Tree<'a>) -> Option<Id<'a>>
+    ensures { IfSome result (IsId (view value.now)) }
+{
     match value.as_str() {
         Some(text) if is_label(text) => Some(Id::Text(text)),
         Some(_) => None,
@@ -33,32 +39,28 @@ pub fn id_in<'a>(value: &Tree<'a>) -> Option<Id<'a>> {
     }
 }
 
-/// Returns the value of a hexadecimal digit.
-fn digit(byte: u8) -> Option<u64> {
-    match byte {
-        b'0'..=b'9' => Some(u64::from(byte - b'0')),
-        b'a'..=b'f' => Some(u64::from(byte - b'a') + 10),
-        _ => None,
-    }
+/// Returns whether a byte is a hexadecimal digit as lines write them.
+fn is_digit(byte: u8) -> bool
+    ensures { result ≡ is_hexadecimal byte }
+{
+    matches!(byte, b'0'..=b'9' | b'a'..=b'f')
 }
 
 /// Returns the number that 1 to 16 hexadecimal digits write.
-fn hexadecimal(text: &str) -> Option<u64> {
+fn hexadecimal(text: &str) -> Option<u64>
+    ensures { IfSome result (λ number. number ≡ digits_value 16 text.now) }
+{
     let bytes = text.as_bytes();
-    if bytes.is_empty() || bytes.len() > 16 {
+    if bytes.len() > 16 || !bytes.iter().all(|&byte| is_digit(byte)) {
         return None;
     }
-    let mut number: u64 = 0;
-    for byte in bytes {
-        let digit = digit(*byte)?;
-        number = (number << 4) | digit;
-    }
-    Some(number)
+    u64::from_str_radix(text, 16).ok()
 }
 
 /// Returns the number, not 0, that 1 to 16 hexadecimal digits write.
 pub fn random_bits(text: &str) -> Option<u64>
-    ensures { IfSome result (λ bits. bits ≢ 0) }
+    ensures random { IfSome result (λ bits. bits ≢ 0) }
+    ensures written { IfSome result (λ bits. bits ≡ digits_value 16 text.now) }
 {
     match hexadecimal(text) {
         Some(0) | None => None,

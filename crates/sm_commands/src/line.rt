@@ -1,6 +1,9 @@
 //! Lines, and what they ask for.
-ghost use Rattle.std.specs.Prelude.{IfOk};
+ghost use Rattle.std.specs.Prelude.{◌≡◌, IfOk, IfSome, Some};
+ghost use Rattle.json_tree.specs.View.{view};
+ghost use Rattle.sm_plan_text.specs.Reading.{data_of};
 ghost use Rattle.sm_commands.specs.Commands.{IsKnownCommand};
+ghost use Rattle.sm_commands.specs.Lines.{HasId, OfWord, Says};
 
 use crate::asking_lines::{
     read_audit, read_check, read_drain, read_failed, read_moves, read_plain, read_since, read_state,
@@ -24,7 +27,9 @@ pub fn parse_line<'a>(
     alloc: Global,
     line: &'a [u8],
     scratch: &'a mut Scratch,
-) -> Result<Option<Tree<'a>>, AllocError> {
+) -> Result<Option<Tree<'a>>, AllocError>
+    ensures { IfOk result (λ found. IfSome found (λ tree. data_of line.now ≡ Some (view tree))) }
+{
     let Ok(text) = str::from_utf8(line) else {
         return Ok(None);
     };
@@ -36,7 +41,9 @@ pub fn parse_line<'a>(
 }
 
 /// Returns the id of a line, if it has one that is in its form.
-pub fn id_of<'a>(line: &Tree<'a>) -> Option<Id<'a>> {
+pub fn id_of<'a>(line: &Tree<'a>) -> Option<Id<'a>>
+    ensures { IfSome result (HasId (view line.now)) }
+{
     line.get("id").and_then(id_in)
 }
 
@@ -46,7 +53,8 @@ fn read_worded<'t, 'a>(
     line: &'t Tree<'a>,
     config: Option<&Config>,
 ) -> Result<LineCommand<'t, 'a>, BadLine>
-    ensures { IfOk result (IsKnownCommand config.entry) }
+    ensures known { IfOk result (IsKnownCommand config.entry) }
+    ensures told { OfWord word.now (view line.now) result }
 {
     match word {
         "open" => read_open(line),
@@ -77,7 +85,8 @@ pub fn read_command<'t, 'a>(
     line: &'t Tree<'a>,
     config: Option<&Config>,
 ) -> Result<Result<LineCommand<'t, 'a>, BadLine>, AllocError>
-    ensures { IfOk result (λ read. IfOk read (IsKnownCommand config.entry)) }
+    ensures known { IfOk result (λ read. IfOk read (IsKnownCommand config.entry)) }
+    ensures told { IfOk result (λ read. IfOk read (Says (view line.now))) }
 {
     if !line.is_object() {
         return Ok(Err(BadLine::Malformed(LinePart::Line)));

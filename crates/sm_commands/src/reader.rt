@@ -1,9 +1,12 @@
 //! An object of a line, with the faults that are met on the way.
-ghost use Rattle.std.specs.Prelude.{◌≡◌, ◌≢◌, ◌≤◌, ◌<◌, IfOk, IfSome, false, is_some, length, true};
+ghost use Rattle.std.specs.Prelude.{◌≡◌, ◌≢◌, ◌≤◌, ◌<◌, IfOk, IfSome, false, is_some, length, option_map, true};
 ghost use Rattle.sm_placement.specs.Names.{is_name};
 ghost use Rattle.sm_plan_code.specs.declared.limits.TheConstants.{MOST_RIGHTS};
 ghost use Rattle.sm_commands.specs.Commands.{IsServerOf, IsShardOf};
-ghost use Rattle.sm_commands.specs.Reading.{IsRead, is_clean};
+ghost use Rattle.json_tree.specs.View.{items_view, view};
+ghost use Rattle.sm_commands.specs.Lines.{IsNameOrNull};
+ghost use Rattle.sm_commands.specs.Reading.{IsRead, IsValueOf, ReadsOn, is_clean, object_data, row_member};
+ghost use Rattle.sm_commands.specs.Values.{bits_at, truth_at, list_at, text_at, value_at, whole_at};
 
 use crate::bad_line::BadLine;
 use crate::command_member::CommandMember;
@@ -67,7 +70,9 @@ pub struct Reader<'t, 'a> {
 /// Each call that reads a member notes what is wrong with it, and answers None then, and for one that may be missing and is.
 impl<'t, 'a> Reader<'t, 'a> {
     /// Begins to read a part of a line, whose members have these names.
-    pub fn new(object: &'t Tree<'a>, part: LinePart, names: &[CommandMember]) -> Self {
+    pub fn new(object: &'t Tree<'a>, part: LinePart, names: &[CommandMember]) -> Self
+        ensures { object_data result ≡ view object.now }
+    {
         let mut reader = Reader {
             object,
             part,
@@ -80,7 +85,9 @@ impl<'t, 'a> Reader<'t, 'a> {
     }
 
     /// Begins to read a line, whose members beside those of each command have these names.
-    pub fn of_line(line: &'t Tree<'a>, names: &[CommandMember]) -> Self {
+    pub fn of_line(line: &'t Tree<'a>, names: &[CommandMember]) -> Self
+        ensures { object_data result ≡ view line.now }
+    {
         let mut reader = Reader {
             object: line,
             part: LinePart::Line,
@@ -97,7 +104,8 @@ impl<'t, 'a> Reader<'t, 'a> {
 
     /// Takes the next fault.
     pub fn note(&mut self, fault: BadLine)
-        ensures { is_clean self.new.faults ≡ false }
+        ensures on { ReadsOn self.old self.new }
+        ensures fault { is_clean self.new.faults ≡ false }
     {
         self.faults.note(fault);
     }
@@ -119,13 +127,16 @@ impl<'t, 'a> Reader<'t, 'a> {
     }
 
     /// Returns a member as it stands.
-    pub fn find(&self, member: CommandMember) -> Option<&'t Tree<'a>> {
+    pub fn find(&self, member: CommandMember) -> Option<&'t Tree<'a>>
+        ensures { option_map (λ value. view value.now) result ≡ value_at member (object_data self.now) }
+    {
         self.object.get(member.text())
     }
 
     /// Returns a member, and notes if it has to be there and is missing.
     pub fn value(&mut self, row: Row) -> Option<&'t Tree<'a>>
-        ensures { IsRead self.old.faults self.new.faults row (is_some result) }
+        ensures read { IsRead self.old self.new row (is_some result) }
+        ensures told { option_map (λ value. view value.now) result ≡ value_at (row_member row) (object_data self.old) }
     {
         let found = self.find(row.member());
         if found.is_none()
@@ -139,7 +150,7 @@ impl<'t, 'a> Reader<'t, 'a> {
     /// Returns what was found in a member, and notes that the member is not in its form if that is nothing.
     pub fn shaped<T: Copy>(&mut self, row: Row, found: Option<T>) -> Option<T>
         ensures found { result ≡ found }
-        ensures kept { is_clean self.new.faults ≡ true → is_clean self.old.faults ≡ true }
+        ensures on { ReadsOn self.old self.new }
         ensures there { is_clean self.new.faults ≡ true → is_some found ≡ true }
     {
         if found.is_none() {
@@ -150,7 +161,8 @@ impl<'t, 'a> Reader<'t, 'a> {
 
     /// Returns the object that a member has to be.
     pub fn object(&mut self, row: Row) -> Option<&'t Tree<'a>>
-        ensures { IsRead self.old.faults self.new.faults row (is_some result) }
+        ensures read { IsRead self.old self.new row (is_some result) }
+        ensures told { IsValueOf self.old self.new value_at row (option_map (λ value. view value.now) result) }
     {
         let value = self.value(row)?;
         self.shaped(row, if value.is_object() { Some(value) } else { None })
@@ -158,7 +170,8 @@ impl<'t, 'a> Reader<'t, 'a> {
 
     /// Returns the text that a member has to be.
     pub fn text(&mut self, row: Row) -> Option<&'a str>
-        ensures { IsRead self.old.faults self.new.faults row (is_some result) }
+        ensures read { IsRead self.old self.new row (is_some result) }
+        ensures told { IsValueOf self.old self.new text_at row (option_map (λ text. text.now) result) }
     {
         let value = self.value(row)?;
         self.shaped(row, value.as_str())
@@ -166,7 +179,8 @@ impl<'t, 'a> Reader<'t, 'a> {
 
     /// Returns the flag that a member has to be.
     pub fn flag(&mut self, row: Row) -> Option<bool>
-        ensures { IsRead self.old.faults self.new.faults row (is_some result) }
+        ensures read { IsRead self.old self.new row (is_some result) }
+        ensures told { IsValueOf self.old self.new truth_at row result }
     {
         let value = self.value(row)?;
         self.shaped(row, value.as_bool())
@@ -174,7 +188,8 @@ impl<'t, 'a> Reader<'t, 'a> {
 
     /// Returns the label that a member has to be.
     pub fn label(&mut self, row: Row) -> Option<&'a str>
-        ensures { IsRead self.old.faults self.new.faults row (is_some result) }
+        ensures read { IsRead self.old self.new row (is_some result) }
+        ensures told { IsValueOf self.old self.new text_at row (option_map (λ text. text.now) result) }
     {
         let value = self.value(row)?;
         self.shaped(row, value.as_str().filter(|text| is_label(text)))
@@ -182,7 +197,8 @@ impl<'t, 'a> Reader<'t, 'a> {
 
     /// Returns the name, known or not, that a member has to be.
     pub fn name(&mut self, row: Row) -> Option<&'a str>
-        ensures read { IsRead self.old.faults self.new.faults row (is_some result) }
+        ensures read { IsRead self.old self.new row (is_some result) }
+        ensures told { IsValueOf self.old self.new text_at row (option_map (λ text. text.now) result) }
         ensures name { IfSome result (λ name. is_name name.now ≡ true) }
     {
         let value = self.value(row)?;
@@ -191,7 +207,8 @@ impl<'t, 'a> Reader<'t, 'a> {
 
     /// Returns the name, known or not, that a member has to be, and None within for null.
     pub fn name_or_null(&mut self, row: Row) -> Option<Option<&'a str>>
-        ensures { IsRead self.old.faults self.new.faults row (is_some result) }
+        ensures read { IsRead self.old self.new row (is_some result) }
+        ensures told { is_clean self.new.faults ≡ true → IfSome result (IsNameOrNull (row_member row) (object_data self.old)) }
     {
         match self.find(row.member()) {
             Some(value) if value.is_null() => Some(None),
@@ -201,7 +218,8 @@ impl<'t, 'a> Reader<'t, 'a> {
 
     /// Returns the number, not 0, that a member has to be as 1 to 16 hexadecimal digits.
     pub fn bits(&mut self, row: Row) -> Option<u64>
-        ensures read { IsRead self.old.faults self.new.faults row (is_some result) }
+        ensures read { IsRead self.old self.new row (is_some result) }
+        ensures told { IsValueOf self.old self.new bits_at row result }
         ensures random { IfSome result (λ bits. bits ≢ 0) }
     {
         let value = self.value(row)?;
@@ -210,7 +228,8 @@ impl<'t, 'a> Reader<'t, 'a> {
 
     /// Returns the whole number up to a limit that a member has to be.
     pub fn number(&mut self, row: Row, most: u64) -> Option<u64>
-        ensures read { IsRead self.old.faults self.new.faults row (is_some result) }
+        ensures read { IsRead self.old self.new row (is_some result) }
+        ensures told { IsValueOf self.old self.new whole_at row result }
         ensures most { IfSome result (λ number. number ≤ most) }
     {
         let value = self.value(row)?;
@@ -229,7 +248,8 @@ impl<'t, 'a> Reader<'t, 'a> {
 
     /// Returns the whole number up to a limit that a member has to be unless it is null.
     pub fn number_unless_null(&mut self, row: Row, most: u64) -> Option<u64>
-        ensures kept { is_clean self.new.faults ≡ true → is_clean self.old.faults ≡ true }
+        ensures on { ReadsOn self.old self.new }
+        ensures told { IsValueOf self.old self.new whole_at row result }
         ensures most { IfSome result (λ number. number ≤ most) }
     {
         match self.find(row.member()) {
@@ -240,7 +260,8 @@ impl<'t, 'a> Reader<'t, 'a> {
 
     /// Returns the whole number below 2^32 that a member has to be.
     pub fn small(&mut self, row: Row) -> Option<u32>
-        ensures { IsRead self.old.faults self.new.faults row (is_some result) }
+        ensures read { IsRead self.old self.new row (is_some result) }
+        ensures told { IsValueOf self.old self.new whole_at row result }
     {
         let number = self.number(row, u64::from(u32::MAX))?;
         u32::try_from(number).ok()
@@ -248,7 +269,8 @@ impl<'t, 'a> Reader<'t, 'a> {
 
     /// Returns the list, up to a number of entries, that a member has to be.
     pub fn list(&mut self, row: Row, most: usize) -> Option<&'t [Tree<'a>]>
-        ensures read { IsRead self.old.faults self.new.faults row (is_some result) }
+        ensures read { IsRead self.old self.new row (is_some result) }
+        ensures told { IsValueOf self.old self.new list_at row (option_map (λ entries. items_view entries.now) result) }
         ensures most { IfSome result (λ entries. length entries.now ≤ most) }
     {
         let value = self.value(row)?;
@@ -262,7 +284,8 @@ impl<'t, 'a> Reader<'t, 'a> {
 
     /// Returns the list, up to a number of names, known or not, that a member has to be.
     pub fn names(&mut self, row: Row, most: usize) -> Option<&'t [Tree<'a>]>
-        ensures read { IsRead self.old.faults self.new.faults row (is_some result) }
+        ensures read { IsRead self.old self.new row (is_some result) }
+        ensures told { IsValueOf self.old self.new list_at row (option_map (λ entries. items_view entries.now) result) }
         ensures most { IfSome result (λ entries. length entries.now ≤ most) }
     {
         let found = self.list(row, most);
@@ -282,7 +305,8 @@ impl<'t, 'a> Reader<'t, 'a> {
         row: Row,
         key: CommandMember,
     ) -> Result<Option<&'t [Tree<'a>]>, AllocError>
-        ensures read { IfOk result (λ found. IsRead self.old.faults self.new.faults row (is_some found)) }
+        ensures read { IfOk result (λ found. IsRead self.old self.new row (is_some found)) }
+        ensures told { IfOk result (λ found. IsValueOf self.old self.new list_at row (option_map (λ entries. items_view entries.now) found)) }
         ensures most { IfOk result (λ found. IfSome found (λ entries. length entries.now ≤ MOST_RIGHTS)) }
     {
         let found = self.list(row, MOST_RIGHTS);
@@ -297,7 +321,7 @@ impl<'t, 'a> Reader<'t, 'a> {
 
     /// Returns the server that a member has to name.
     pub fn server(&mut self, row: Row, config: &Config) -> Option<ServerId>
-        ensures read { IsRead self.old.faults self.new.faults row (is_some result) }
+        ensures read { IsRead self.old self.new row (is_some result) }
         ensures known { IfSome result (λ server. server < length config.now.servers) }
     {
         let name = self.text(row)?;
@@ -310,7 +334,7 @@ impl<'t, 'a> Reader<'t, 'a> {
 
     /// Returns the shard that a member has to name.
     pub fn shard(&mut self, row: Row, config: &Config) -> Option<ShardId>
-        ensures read { IsRead self.old.faults self.new.faults row (is_some result) }
+        ensures read { IsRead self.old self.new row (is_some result) }
         ensures known { IfSome result (λ shard. shard < length config.now.shards) }
     {
         let name = self.text(row)?;
@@ -323,7 +347,8 @@ impl<'t, 'a> Reader<'t, 'a> {
 
     /// Returns the name that a member has to be: that of a server of the configuration, if there is one.
     pub fn server_name(&mut self, row: Row, config: Option<&Config>) -> Option<&'a str>
-        ensures read { IsRead self.old.faults self.new.faults row (is_some result) }
+        ensures read { IsRead self.old self.new row (is_some result) }
+        ensures told { IsValueOf self.old self.new text_at row (option_map (λ text. text.now) result) }
         ensures known { IfSome result (λ name. IsServerOf config.entry name.now) }
     {
         let name = self.text(row)?;
@@ -338,7 +363,8 @@ impl<'t, 'a> Reader<'t, 'a> {
 
     /// Returns the name that a member has to be: that of a shard of the configuration, if there is one.
     pub fn shard_name(&mut self, row: Row, config: Option<&Config>) -> Option<&'a str>
-        ensures read { IsRead self.old.faults self.new.faults row (is_some result) }
+        ensures read { IsRead self.old self.new row (is_some result) }
+        ensures told { IsValueOf self.old self.new text_at row (option_map (λ text. text.now) result) }
         ensures known { IfSome result (λ name. IsShardOf config.entry name.now) }
     {
         let name = self.text(row)?;

@@ -1,8 +1,14 @@
 //! Lines of reopenings, which change something.
-ghost use Rattle.std.specs.Prelude.{◌≡◌, ◌≢◌, ◌≤◌, IfNone, IfOk, IfSome, length};
+ghost use Rattle.std.specs.Prelude.{◌≡◌, ◌≢◌, ◌≤◌, IfNone, IfOk, IfSome, codes, length};
 ghost use Rattle.std.specs.Option.{ForSome};
 ghost use Rattle.sm_plan_code.specs.declared.limits.TheConstants.{MOST_RIGHTS};
+ghost use Rattle.json_tree.specs.View.{view};
 ghost use Rattle.sm_commands.specs.Commands.{IsKnownAnywhere, IsToldBy};
+ghost use Rattle.sm_commands.specs.Lines.{TellsFound, OfWord};
+ghost use Rattle.sm_commands.specs.Reading.{IsValueOf, ReadsOn};
+ghost use Rattle.sm_commands.specs.Values.{whole_at};
+ghost use Rattle.sm_commands.specs.declared.command_member.CommandMember.TheVariants as members;
+ghost use Rattle.sm_commands.specs.declared.row.Row.TheVariants as rows;
 
 use crate::bad_line::BadLine;
 use crate::command::{LineCommand, ToldText};
@@ -19,7 +25,9 @@ use std::alloc::{AllocError, Global};
 const MOST_WHY: usize = 4_096;
 
 /// Checks the reason of a reopening.
-fn check_why(reader: &mut Reader<'_, '_>) {
+fn check_why(reader: &mut Reader<'_, '_>)
+    ensures { ReadsOn reader.old reader.new }
+{
     match reader.text(Row::Maybe(CommandMember::Why)) {
         Some(why) if why.len() > MOST_WHY => {
             reader.note(BadLine::TooMany(LinePart::Line, CommandMember::Why));
@@ -30,7 +38,9 @@ fn check_why(reader: &mut Reader<'_, '_>) {
 
 /// Returns the epoch of a reopening, if there is one. It is not 0, since nobody takes a fence of base 0.
 fn epoch_in(reader: &mut Reader<'_, '_>) -> Option<u32>
-    ensures { IfSome result (λ epoch. epoch ≢ 0) }
+    ensures on { ReadsOn reader.old reader.new }
+    ensures told { IsValueOf reader.old reader.new whole_at (rows.Maybe members.Epoch) result }
+    ensures any { IfSome result (λ epoch. epoch ≢ 0) }
 {
     match reader.small(Row::Maybe(CommandMember::Epoch)) {
         Some(0) => {
@@ -54,7 +64,8 @@ fn entries_or_none<'t, 'a>(list: Option<&'t [Tree<'a>]>) -> &'t [Tree<'a>]
 
 /// Reads the begin of a reopening.
 pub fn read_reopen<'t, 'a>(line: &'t Tree<'a>) -> Result<LineCommand<'t, 'a>, BadLine>
-    ensures { IfOk result IsKnownAnywhere }
+    ensures known { IfOk result IsKnownAnywhere }
+    ensures told { OfWord (codes "reopen") (view line.now) result }
 {
     let names = &[
         CommandMember::Document,
@@ -81,7 +92,9 @@ pub fn read_reopen<'t, 'a>(line: &'t Tree<'a>) -> Result<LineCommand<'t, 'a>, Ba
 }
 
 /// Notes what is wrong with the members of an answer to a fence beside each other.
-fn note_told(reader: &mut Reader<'_, '_>) {
+fn note_told(reader: &mut Reader<'_, '_>)
+    ensures { ReadsOn reader.old reader.new }
+{
     let has_slots = reader.find(CommandMember::Slots).is_some();
     let has_nonce = reader.find(CommandMember::Unknown).is_some();
     let is_map = reader
@@ -107,7 +120,8 @@ fn told_in<'t, 'a>(
 ) -> Option<ToldText<'t, 'a>>
     requires few { ForSome slots (λ slots. length slots.now ≤ MOST_RIGHTS) }
     requires random { ForSome nonce (λ nonce. nonce ≢ 0) }
-    ensures { IfSome server.entry (λ server. IfSome result (IsToldBy server)) }
+    ensures known { IfSome server.entry (λ server. IfSome result (IsToldBy server)) }
+    ensures told { IfSome result (TellsFound slots.entry nonce) }
 {
     match (server, slots, nonce) {
         (Some(None), None, None) => Some(ToldText::Map),
@@ -122,7 +136,8 @@ pub fn read_fenced<'t, 'a>(
     alloc: Global,
     line: &'t Tree<'a>,
 ) -> Result<Result<LineCommand<'t, 'a>, BadLine>, AllocError>
-    ensures { IfOk result (λ read. IfOk read IsKnownAnywhere) }
+    ensures known { IfOk result (λ read. IfOk read IsKnownAnywhere) }
+    ensures told { IfOk result (OfWord (codes "fenced") (view line.now)) }
 {
     let names = &[
         CommandMember::Server,
@@ -154,7 +169,8 @@ pub fn read_confirm<'t, 'a>(
     alloc: Global,
     line: &'t Tree<'a>,
 ) -> Result<Result<LineCommand<'t, 'a>, BadLine>, AllocError>
-    ensures { IfOk result (λ read. IfOk read IsKnownAnywhere) }
+    ensures known { IfOk result (λ read. IfOk read IsKnownAnywhere) }
+    ensures told { IfOk result (OfWord (codes "confirm") (view line.now)) }
 {
     let mut reader = Reader::of_line(line, &[CommandMember::Base, CommandMember::Cells]);
     let base = reader.number(Row::One(CommandMember::Base), MOST_EXACT);
@@ -174,7 +190,8 @@ pub fn read_confirm<'t, 'a>(
 
 /// Reads an answer to a settle.
 pub fn read_settled<'t, 'a>(line: &'t Tree<'a>) -> Result<LineCommand<'t, 'a>, BadLine>
-    ensures { IfOk result IsKnownAnywhere }
+    ensures known { IfOk result IsKnownAnywhere }
+    ensures told { OfWord (codes "settled") (view line.now) result }
 {
     let mut reader = Reader::of_line(line, &[CommandMember::Server, CommandMember::Base]);
     let server = reader.name_or_null(Row::One(CommandMember::Server));

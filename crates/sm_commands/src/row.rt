@@ -12,11 +12,12 @@ pub enum Row {
 }
 
 impl Row {
-    ghost use Rattle.sm_commands.specs.Reading.{is_needed};
+    ghost use Rattle.sm_commands.specs.Reading.{is_needed, row_member};
 
     /// Returns the row of a member that has to be there if it is needed.
     pub const fn needed_if(needed: bool, member: CommandMember) -> Row
-        ensures { is_needed result ≡ needed }
+        ensures needed { is_needed result ≡ needed }
+        ensures member { row_member result ≡ member }
     {
         if needed {
             Row::One(member)
@@ -26,7 +27,9 @@ impl Row {
     }
 
     /// Returns the row's member.
-    pub const fn member(self) -> CommandMember {
+    pub const fn member(self) -> CommandMember
+        ensures { result ≡ row_member self }
+    {
         match self {
             Row::One(member) | Row::Maybe(member) => member,
         }

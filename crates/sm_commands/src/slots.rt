@@ -1,6 +1,6 @@
 //! The slots that a server tells.
 ghost use Rattle.std.specs.Prelude.{◌≡◌, All, IfOk, true};
-ghost use Rattle.sm_commands.specs.Reading.{is_clean};
+ghost use Rattle.sm_commands.specs.Reading.{ReadsOn, is_clean};
 ghost use Rattle.sm_commands.specs.Slots.{IsSlotFor, is_handover, is_named, needs_position, needs_reached};
 
 use crate::bad_line::BadLine;
@@ -108,7 +108,7 @@ fn cell_kind(word: &str) -> Option<CellKind> {
 /// Returns the cell that a slot has to tell. If it tells none, which is noted, returns the cell that needs nothing
 /// else.
 fn cell_in(reader: &mut Reader<'_, '_>) -> CellKind
-    ensures { is_clean reader.new.faults ≡ true → is_clean reader.old.faults ≡ true }
+    ensures { ReadsOn reader.old reader.new }
 {
     let row = Row::One(CommandMember::Cell);
     match reader.value(row) {
@@ -122,7 +122,7 @@ fn cell_in(reader: &mut Reader<'_, '_>) -> CellKind
 
 /// Returns the other party as a slot tells it. In a handover it has to be named.
 fn party_in<'a>(reader: &mut Reader<'_, 'a>, in_handover: bool) -> PartyText<'a>
-    ensures kept { is_clean reader.new.faults ≡ true → is_clean reader.old.faults ≡ true }
+    ensures on { ReadsOn reader.old reader.new }
     ensures named { is_clean reader.new.faults ≡ true → in_handover ≡ true → is_named result ≡ true }
 {
     if in_handover {

@@ -2,6 +2,7 @@
 ghost use Rattle.std.specs.Prelude.{◌≡◌, ◌++◌, IfOk, OnOk, codes, false, string_bytes, true};
 ghost use Rattle.sm_commands.specs.Members.{text_member};
 ghost use Rattle.sm_open_journal.specs.Replies.{taken_members};
+ghost use Rattle.sm_session.specs.Asked.{TakesAnswerOf};
 ghost use Rattle.sm_session.specs.Changes.{TakesAnswer};
 ghost use Rattle.sm_session.specs.Replies.{TellsMoved, ignored_answer};
 
@@ -63,6 +64,7 @@ pub fn answered(
 ) -> Result<bool, AllocError>
     ensures moved { IfOk result (λ moved. moved ≡ true → TakesAnswer opened.old.driver opened.new.driver) }
     ensures unchanged { IfOk result (λ moved. moved ≡ false → opened.new ≡ opened.old) }
+    ensures asked { IfOk result (λ moved. moved ≡ true → TakesAnswerOf id number opened.old.driver opened.new.driver) }
     ensures in_force { IfOk result (λ moved. moved ≡ true → at.is_reopening ≡ false) }
     ensures told { IfOk result (λ moved. moved ≡ true
         → TellsMoved opened.old.driver opened.new.driver (string_bytes opened.new.journal) writer.old.tokens writer.new.tokens) }

@@ -1,7 +1,8 @@
 //! Approvals of restarts.
-ghost use Rattle.std.specs.Prelude.{◌≡◌, ◌<◌, IfOk, None, false, true};
-ghost use Rattle.sm_driver.specs.Driver.{record_of};
+ghost use Rattle.std.specs.Prelude.{◌≡◌, ◌<◌, ℕ, IfOk, None, false, true};
+ghost use Rattle.sm_driver.specs.Driver.{HasApproved, record_of};
 ghost use Rattle.sm_names.specs.Names.{value_of};
+ghost use Rattle.sm_session.specs.Asked.{ApprovesRestartOf};
 ghost use Rattle.sm_session.specs.Changes.{ApprovesRestart};
 ghost use Rattle.sm_session.specs.Replies.{TellsApproved};
 
@@ -74,6 +75,7 @@ fn approve_now(
     requires known { server < (record_of opened.old.driver).sizes.servers }
     requires new { value_of opened.old.approvals by.now ≡ None }
     ensures approved { IfOk result (λ approved. approved ≡ true → ApprovesRestart opened.old.driver opened.new.driver) }
+    ensures asked { IfOk result (λ approved. approved ≡ true → (permit : ℕ) × HasApproved server permit opened.old.driver opened.new.driver) }
     ensures unchanged { IfOk result (λ approved. approved ≡ false → opened.new ≡ opened.old) }
     ensures told { IfOk result (λ approved. approved ≡ true
         → TellsApproved opened.old.driver opened.new.driver writer.old.tokens writer.new.tokens) }
@@ -104,6 +106,7 @@ pub fn approve(
     by: &str,
 ) -> Result<bool, AllocError>
     ensures approved { IfOk result (λ approved. approved ≡ true → ApprovesRestart opened.old.driver opened.new.driver) }
+    ensures asked { IfOk result (λ approved. approved ≡ true → ApprovesRestartOf server.now opened.old.driver opened.new.driver) }
     ensures unchanged { IfOk result (λ approved. approved ≡ false → opened.new ≡ opened.old) }
     ensures in_force { IfOk result (λ approved. approved ≡ true → at.is_reopening ≡ false) }
     ensures told { IfOk result (λ approved. approved ≡ true

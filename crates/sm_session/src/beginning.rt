@@ -1,10 +1,13 @@
 //! The begin of a plan.
-ghost use Rattle.std.specs.Prelude.{◌≡◌, ◌++◌, IfOk, IfSome, None, OnOk, length, false, string_bytes, true};
+ghost use Rattle.std.specs.Prelude.{◌≡◌, ◌++◌, ℕ, IfOk, IfSome, None, OnOk, length, false, string_bytes, true};
 ghost use Rattle.sm_placement.specs.Setup.{sizes_of};
 ghost use Rattle.sm_names.specs.Names.{value_of};
 ghost use Rattle.sm_plan_code.specs.Plan.{IsKnownPlan};
 ghost use Rattle.sm_verifier.specs.Plan.{IsCheckedPlan};
 ghost use Rattle.sm_open_journal.specs.Begun.{begun_members, begun_plan};
+ghost use Rattle.json_tree.specs.View.{view};
+ghost use Rattle.sm_driver.specs.Driver.{HasBegunPlan};
+ghost use Rattle.sm_session.specs.Asked.{BeginsPlanOf};
 ghost use Rattle.sm_session.specs.Changes.{BeginsPlan};
 ghost use Rattle.sm_session.specs.Replies.{TellsBegun};
 
@@ -28,6 +31,7 @@ fn ready(
     requires { IsKnownPlan (length opened.now.driver.machine.placement.setup.shards) (length opened.now.driver.machine.placement.setup.servers) plan }
     ensures setup { IfOk result (λ found. IfSome found (λ ready. ready.setup ≡ opened.now.driver.machine.placement.setup)) }
     ensures checked { IfOk result (λ found. IfSome found (λ ready. IsCheckedPlan (sizes_of ready.setup) ready.plan)) }
+    ensures same { IfOk result (λ found. IfSome found (λ ready. ready.plan ≡ plan)) }
     ensures quiet { IfOk result (λ found. IfSome found (λ ready. writer.new.tokens ≡ writer.old.tokens)) }
 {
     match check(alloc, opened.driver.machine().config(), plan) {
@@ -78,6 +82,7 @@ fn start(
     requires checked { IsCheckedPlan (sizes_of ready.setup) ready.plan }
     requires new { value_of opened.old.plans name.now ≡ None }
     ensures begun { IfOk result (λ begun. begun ≡ true → BeginsPlan opened.old.driver opened.new.driver) }
+    ensures asked { IfOk result (λ begun. begun ≡ true → (number : ℕ) × HasBegunPlan ready.plan number opened.old.driver opened.new.driver) }
     ensures unchanged { IfOk result (λ begun. begun ≡ false → opened.new ≡ opened.old) }
     ensures told { IfOk result (λ begun. begun ≡ true
         → TellsBegun opened.old.driver opened.new.driver (string_bytes opened.new.journal) writer.old.tokens writer.new.tokens) }
@@ -106,6 +111,7 @@ pub fn begin(
     name: &str,
 ) -> Result<bool, AllocError>
     ensures begun { IfOk result (λ begun. begun ≡ true → BeginsPlan opened.old.driver opened.new.driver) }
+    ensures asked { IfOk result (λ begun. begun ≡ true → BeginsPlanOf (view value.now) opened.old.driver opened.new.driver) }
     ensures unchanged { IfOk result (λ begun. begun ≡ false → opened.new ≡ opened.old) }
     ensures in_force { IfOk result (λ begun. begun ≡ true → at.is_reopening ≡ false) }
     ensures told { IfOk result (λ begun. begun ≡ true

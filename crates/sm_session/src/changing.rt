@@ -1,5 +1,6 @@
 //! Commands that change a journal that is open.
 ghost use Rattle.std.specs.Prelude.{◌≡◌, IfOk, false, string_bytes, true};
+ghost use Rattle.sm_session.specs.Asked.{DoesToDriver};
 ghost use Rattle.sm_session.specs.Changes.{Changes};
 ghost use Rattle.sm_session.specs.Replies.{TellsChange};
 
@@ -24,6 +25,7 @@ pub fn change(
     command: LineCommand<'_, '_>,
 ) -> Result<bool, AllocError>
     ensures changed { IfOk result (λ changed. changed ≡ true → Changes opened.old.driver opened.new.driver) }
+    ensures asked { IfOk result (λ changed. changed ≡ true → DoesToDriver command.entry opened.old.driver opened.new.driver) }
     ensures unchanged { IfOk result (λ changed. changed ≡ false → opened.new ≡ opened.old) }
     ensures in_force { IfOk result (λ changed. changed ≡ true → at.is_reopening ≡ false) }
     ensures told { IfOk result (λ changed. changed ≡ true

@@ -1,8 +1,13 @@
 //! The first opening of a journal.
-ghost use Rattle.std.specs.Prelude.{◌≡◌, IfOk, IfSome, OnOk, Some, false, true};
+ghost use Rattle.std.specs.Prelude.{◌≡◌, IfOk, IfSome, Ok, OnOk, Some, false, true};
 ghost use Rattle.sm_placement.specs.Setup.{sizes_of};
 ghost use Rattle.sm_placement.specs.Layout.{place_of};
 ghost use Rattle.sm_placement.specs.Lead.{IsSettled};
+ghost use Rattle.json_tree.specs.View.{view};
+ghost use Rattle.sm_placement.specs.Opening.{opened_place};
+ghost use Rattle.sm_plan_text.specs.Opened.{opening_of};
+ghost use Rattle.sm_plan_text.specs.Reading.{read_data, rows_of};
+ghost use Rattle.sm_session.specs.Asked.{OpensOver};
 ghost use Rattle.sm_session.specs.Changes.{HasDriven, driver_of};
 ghost use Rattle.sm_session.specs.Replies.{TellsDriven, TellsOpened};
 
@@ -21,7 +26,8 @@ pub fn read_document(
     value: &Tree<'_>,
     writer: &mut Writer,
 ) -> Result<Option<Document>, AllocError>
-    ensures { IfOk result (λ found. IfSome found (λ document. writer.new.tokens ≡ writer.old.tokens)) }
+    ensures quiet { IfOk result (λ found. IfSome found (λ document. writer.new.tokens ≡ writer.old.tokens)) }
+    ensures said { IfOk result (λ found. IfSome found (λ document. read_data (Some (view value.now)) ≡ Ok (rows_of document))) }
 {
     match read_document_value(alloc, value) {
         Ok(document) => Ok(Some(document)),
@@ -44,6 +50,8 @@ fn read_placement(
     writer: &mut Writer,
 ) -> Result<Option<Placement>, AllocError>
     ensures settled { IfOk result (λ found. IfSome found (λ placement. IsSettled (sizes_of placement.setup) (place_of placement))) }
+    ensures setup { IfOk result (λ found. IfSome found (λ placement. placement.setup ≡ document.now.config)) }
+    ensures place { IfOk result (λ found. IfSome found (λ placement. place_of placement ≡ opened_place (opening_of (rows_of document.now)))) }
     ensures quiet { IfOk result (λ found. IfSome found (λ placement. writer.new.tokens ≡ writer.old.tokens)) }
 {
     match document.open(alloc) {
@@ -96,6 +104,7 @@ pub fn open(
     epoch: u32,
 ) -> Result<bool, AllocError>
     ensures changed { IfOk result (λ changed. changed ≡ true → HasDriven (driver_of opened.old) (driver_of opened.new)) }
+    ensures asked { IfOk result (λ changed. changed ≡ true → OpensOver (view document.now) journal epoch opened.old opened.new) }
     ensures unchanged { IfOk result (λ changed. changed ≡ false → opened.new ≡ opened.old) }
     ensures in_force { IfOk result (λ changed. changed ≡ true → at.is_reopening ≡ false) }
     ensures told { IfOk result (λ changed. changed ≡ true → TellsDriven opened.old opened.new writer.old.tokens writer.new.tokens) }

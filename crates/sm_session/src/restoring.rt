@@ -1,5 +1,6 @@
 //! Servers that have lost all they had.
 ghost use Rattle.std.specs.Prelude.{◌≡◌, IfOk, false, true};
+ghost use Rattle.sm_session.specs.Asked.{RestoresServerOf};
 ghost use Rattle.sm_session.specs.Changes.{RestoresServer};
 
 use crate::standing::Standing;
@@ -33,6 +34,7 @@ pub fn restore(
     nonce: u64,
 ) -> Result<bool, AllocError>
     ensures restored { IfOk result (λ restored. restored ≡ true → RestoresServer opened.old.driver opened.new.driver) }
+    ensures asked { IfOk result (λ restored. restored ≡ true → RestoresServerOf name.now nonce opened.old.driver opened.new.driver) }
     ensures unchanged { IfOk result (λ restored. restored ≡ false → opened.new ≡ opened.old) }
     ensures in_force { IfOk result (λ restored. restored ≡ true → at.is_reopening ≡ false) }
 {

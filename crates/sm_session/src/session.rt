@@ -49,6 +49,8 @@ pub struct Session {
 
 impl Session {
     ghost use Rattle.std.specs.Prelude.{true};
+    ghost use Rattle.json_tree.specs.View.{view};
+    ghost use Rattle.sm_session.specs.Asked.{DoesAsSaid, DoesAsTold, DoesToSession};
     ghost use Rattle.sm_session.specs.Changes.{SessionChanges};
     ghost use Rattle.sm_session.specs.Replies.{IsLineReply, SessionTells, TellsBehindId};
 
@@ -83,6 +85,7 @@ impl Session {
         reply: &mut Vec<u8>,
     ) -> Result<LineEffect, AllocError>
         ensures changed { IfOk result (λ applied. applied ≡ did.Changed → SessionChanges self.old self.new) }
+        ensures asked { IfOk result (λ applied. applied ≡ did.Changed → DoesAsSaid line.now self.old self.new) }
         ensures unchanged { IfOk result (λ applied. applied ≡ did.Unchanged → self.new ≡ self.old) }
         // A journal can take a line that changed something as an entry.
         ensures object { IfOk result (λ applied. applied ≡ did.Changed → IsObject line.now) }
@@ -108,6 +111,7 @@ impl Session {
         writer: &mut Writer,
     ) -> Result<bool, AllocError>
         ensures changed { IfOk result (λ changed. changed ≡ true → SessionChanges self.old self.new) }
+        ensures asked { IfOk result (λ changed. changed ≡ true → DoesAsSaid line.now self.old self.new) }
         ensures unchanged { IfOk result (λ changed. changed ≡ false → self.new ≡ self.old) }
         ensures told { IfOk result (λ changed. changed ≡ true → TellsBehindId self.old self.new writer.old.tokens writer.new.tokens) }
         ensures object { IfOk result (λ changed. changed ≡ true → IsObject line.now) }
@@ -140,6 +144,7 @@ impl Session {
         writer: &mut Writer,
     ) -> Result<bool, AllocError>
         ensures changed { IfOk result (λ changed. changed ≡ true → SessionChanges self.old self.new) }
+        ensures asked { IfOk result (λ changed. changed ≡ true → DoesAsTold (view line.now) self.old self.new) }
         ensures unchanged { IfOk result (λ changed. changed ≡ false → self.new ≡ self.old) }
         ensures told { IfOk result (λ changed. changed ≡ true → TellsBehindId self.old self.new writer.old.tokens writer.new.tokens) }
     {
@@ -179,6 +184,7 @@ impl Session {
         writer: &mut Writer,
     ) -> Result<bool, AllocError>
         ensures changed { IfOk result (λ changed. changed ≡ true → SessionChanges self.old self.new) }
+        ensures asked { IfOk result (λ changed. changed ≡ true → DoesToSession command self.old self.new) }
         ensures unchanged { IfOk result (λ changed. changed ≡ false → self.new ≡ self.old) }
         ensures told { IfOk result (λ changed. changed ≡ true → SessionTells self.old self.new writer.old.tokens writer.new.tokens) }
     {
@@ -226,6 +232,7 @@ impl Session {
         writer: &mut Writer,
     ) -> Result<bool, AllocError>
         ensures changed { IfOk result (λ changed. changed ≡ true → SessionChanges self.old self.new) }
+        ensures asked { IfOk result (λ changed. changed ≡ true → DoesToSession command self.old self.new) }
         ensures unchanged { IfOk result (λ changed. changed ≡ false → self.new ≡ self.old) }
         ensures told { IfOk result (λ changed. changed ≡ true → SessionTells self.old self.new writer.old.tokens writer.new.tokens) }
     {

@@ -19,21 +19,21 @@ finished needs slot faults (Err _) holds same clean = tt
 pub returns-in-Some : goal.returns-in-Some
 returns-in-Some c = finished c.args.needs _ _ c.finish.result
     (λ clean.
-    let at_position = c.flag-reached.ensures.kept clean in
-    let at_cut = c.number-position.ensures.read.kept at_position in
-    let at_load = c.number_unless_null-cut.ensures.kept at_cut in
-    let at_last = c.small-load.ensures.kept at_load in
-    let at_handover = c.number-last.ensures.read.kept at_last in
-    let at_party = c.number-handover.ensures.read.kept at_handover in
+    let at_position = c.flag-reached.ensures.read.on.kept clean in
+    let at_cut = c.number-position.ensures.read.on.kept at_position in
+    let at_load = c.number_unless_null-cut.ensures.on.kept at_cut in
+    let at_last = c.small-load.ensures.read.on.kept at_load in
+    let at_handover = c.number-last.ensures.read.on.kept at_last in
+    let at_party = c.number-handover.ensures.read.on.kept at_handover in
     record {
       shard = c.in-Some.ensures.name;
       party = λ it. c.party_in-party.ensures.named at_party (c.is_handover.ensures ∙ it);
       handover = λ it. c.number-handover.ensures.read.there at_handover
-          (c.needed_if-handover.ensures ∙ (c.is_handover-2.ensures ∙ it));
+          (c.needed_if-handover.ensures.needed ∙ (c.is_handover-2.ensures ∙ it));
       position = λ it. c.number-position.ensures.read.there at_position
-          (c.needed_if-position.ensures ∙ (c.position.ensures ∙ it));
-      reached = λ it. c.flag-reached.ensures.there clean
-          (c.needed_if-reached.ensures ∙ (c.reached.ensures ∙ it));
+          (c.needed_if-position.ensures.needed ∙ (c.position.ensures ∙ it));
+      reached = λ it. c.flag-reached.ensures.read.there clean
+          (c.needed_if-reached.ensures.needed ∙ (c.reached.ensures ∙ it));
       handover_most = c.number-handover.ensures.most;
       last_most = c.number-last.ensures.most;
       cut_most = c.number_unless_null-cut.ensures.most;

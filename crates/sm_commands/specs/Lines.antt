@@ -1,0 +1,127 @@
+-- Commands as lines say them: a line is an object, whose member `do` has the command's word, and whose other members have what it asks for.
+-- `TellsFound` and `OfWord` are internal: you need not read them for the public contracts.
+use Rattle.std.specs.Prelude.{◌≡◌, ℕ, List, codes, Option, Some, None, Result, IfOk}
+use Rattle.std.specs.Borrow.{Bor}
+use Rattle.serde_json.specs.Data.{Data, null}
+use Rattle.json_tree.specs.View.{view, items_view}
+use Rattle.json_tree.specs.declared.tree.Tree.{Tree}
+use Rattle.serde_json.specs.Find.{as_str}
+use Rattle.sm_commands.specs.Values.{bits_at, entries_at, list_at, text_at, value_at, whole, whole_at}
+use Rattle.sm_commands.specs.declared.bad_line.BadLine.{BadLine}
+use Rattle.sm_commands.specs.declared.command_member.CommandMember.{CommandMember}
+use Rattle.sm_commands.specs.declared.command_member.CommandMember.TheVariants as at
+use Rattle.sm_commands.specs.declared.command.FailedAnswer.{FailedAnswer}
+use Rattle.sm_commands.specs.declared.command.FailedAnswer.TheVariants.{Old, Refused, Foreign, NotReady}
+use Rattle.sm_commands.specs.declared.command.Id.{Id}
+use Rattle.sm_commands.specs.declared.command.Id.TheVariants.{Number, Text}
+use Rattle.sm_commands.specs.declared.command.StateOf.{StateOf}
+use Rattle.sm_commands.specs.declared.command.StateOf.TheVariants.{Whole, Shard, Plan}
+use Rattle.sm_commands.specs.declared.command.ToldText.{ToldText}
+use Rattle.sm_commands.specs.declared.command.ToldText.TheVariants as told
+use Rattle.sm_commands.specs.declared.command.LineCommand.{LineCommand}
+use Rattle.sm_commands.specs.declared.command.LineCommand.TheVariants as line
+
+-- the word of a command
+abbrev pub command_word : LineCommand → List ℕ
+command_word (line.Open _ _ _) = codes "open"
+command_word (line.Begin _ _) = codes "begin"
+command_word (line.Answered _ _ _) = codes "answered"
+command_word (line.Approve _ _) = codes "approve"
+command_word (line.Restarted _ _) = codes "restarted"
+command_word (line.Restore _ _) = codes "restore"
+command_word line.NewEpoch = codes "new_epoch"
+command_word (line.Reopen _ _ _ _) = codes "reopen"
+command_word (line.Fenced _ _ _) = codes "fenced"
+command_word (line.Confirm _ _) = codes "confirm"
+command_word (line.Settled _ _) = codes "settled"
+command_word (line.Check _) = codes "check"
+command_word (line.Moves _) = codes "moves"
+command_word (line.Drain _) = codes "drain"
+command_word line.Map = codes "map"
+command_word line.Orders = codes "orders"
+command_word line.Hello = codes "hello"
+command_word (line.State _) = codes "state"
+command_word (line.Since _) = codes "since"
+command_word (line.Audit _ _ _) = codes "audit"
+command_word (line.Failed _ _ _ _) = codes "failed"
+
+-- the word of an answer that failed
+abbrev pub failed_word : FailedAnswer → List ℕ
+failed_word Old = codes "old"
+failed_word Refused = codes "refused"
+failed_word Foreign = codes "foreign"
+failed_word NotReady = codes "not_ready"
+
+-- a member is a name, or null for none
+abbrev pub IsNameOrNull : CommandMember → Data → Option (Bor (List ℕ)) → Type 0
+IsNameOrNull member d (Some name) = text_at member d ≡ Some name.now
+IsNameOrNull member d None = value_at member d ≡ Some null
+
+-- who answers: the server that is named, or for null the map's owner
+abbrev pub IsFrom : Data → Option (Bor (List ℕ)) → Type 0
+IsFrom d server = IsNameOrNull at.Server d server
+
+-- the answer to a fence, that of the map's owner having no members of its own
+abbrev pub HasToldMembers : Data → ToldText → Type 0
+HasToldMembers d told.Map = Unit {0}
+HasToldMembers d (told.Slots slots) = list_at at.Slots d ≡ Some (items_view slots.now)
+HasToldMembers d (told.Unknown nonce) = bits_at at.Unknown d ≡ Some nonce
+
+-- the part of the state that is asked for: a shard rather than a plan, if both are named
+abbrev pub HasStateMembers : Data → StateOf → Type 0
+HasStateMembers d Whole = (text_at at.Shard d ≡ None) × (whole_at at.Plan d ≡ None)
+HasStateMembers d (Shard name) = text_at at.Shard d ≡ Some name.now
+HasStateMembers d (Plan plan) = (text_at at.Shard d ≡ None) × (whole_at at.Plan d ≡ Some plan)
+
+-- a plan, a stream of it, and the number of its order
+abbrev pub IsOfOrder : Data → ℕ → ℕ → ℕ → Type 0
+IsOfOrder d plan stream number =
+    (whole_at at.Plan d ≡ Some plan) × (whole_at at.Stream d ≡ Some stream) × (whole_at at.Number d ≡ Some number)
+
+-- the members of a command; a base or an epoch that is missing or null is none
+abbrev pub HasMembers : Data → LineCommand → Type 0
+HasMembers d (line.Open document journal epoch) =
+    (value_at at.Document d ≡ Some (view document.now)) × (bits_at at.Journal d ≡ Some journal) × (whole_at at.Epoch d ≡ Some epoch)
+HasMembers d (line.Begin plan name) = (value_at at.Plan d ≡ Some (view plan.now)) × (text_at at.Name d ≡ Some name.now)
+HasMembers d (line.Answered plan stream number) = IsOfOrder d plan stream number
+HasMembers d (line.Approve server by) = (text_at at.Server d ≡ Some server.now) × (text_at at.By d ≡ Some by.now)
+HasMembers d (line.Restarted permit base) = (whole_at at.Permit d ≡ Some permit) × (whole_at at.Base d ≡ base)
+HasMembers d (line.Restore server nonce) = (text_at at.Server d ≡ Some server.now) × (bits_at at.Nonce d ≡ Some nonce)
+HasMembers d (line.Reopen document lost journal epoch) =
+    (value_at at.Document d ≡ Some (view document.now)) × (entries_at at.Lost d ≡ items_view lost.now)
+    × (bits_at at.Journal d ≡ journal) × (whole_at at.Epoch d ≡ epoch)
+HasMembers d (line.Fenced server base told) = IsFrom d server × (whole_at at.Base d ≡ Some base) × HasToldMembers d told
+HasMembers d (line.Confirm base cells) = (whole_at at.Base d ≡ Some base) × (entries_at at.Cells d ≡ items_view cells.now)
+HasMembers d (line.Settled server base) = IsFrom d server × (whole_at at.Base d ≡ Some base)
+HasMembers d (line.Check plan) = value_at at.Plan d ≡ Some (view plan.now)
+HasMembers d (line.Moves moves) = list_at at.Moves d ≡ Some (items_view moves.now)
+HasMembers d (line.Drain server) = text_at at.Server d ≡ Some server.now
+HasMembers d (line.State of) = HasStateMembers d of
+HasMembers d (line.Since place) = whole_at at.Place d ≡ Some place
+HasMembers d (line.Audit server place slots) =
+    (text_at at.Server d ≡ Some server.now) × (whole_at at.Place d ≡ Some place) × (list_at at.Slots d ≡ Some (items_view slots.now))
+HasMembers d (line.Failed plan stream number answer) = IsOfOrder d plan stream number × (text_at at.Answer d ≡ Some (failed_word answer))
+HasMembers d _ = Unit {0}
+
+-- a line says a command
+abbrev pub Says : Data → LineCommand → Type 0
+Says d command = (text_at at.Do d ≡ Some (command_word command)) × HasMembers d command
+
+-- the answer to a fence has the slots or the nonce that were found, if it has some
+abbrev pub TellsFound : Option (Bor (List Tree)) → Option ℕ → ToldText → Type 0
+TellsFound slots bits told.Map = Unit {0}
+TellsFound slots bits (told.Slots found) = slots ≡ Some found
+TellsFound slots bits (told.Unknown found) = bits ≡ Some found
+
+-- an id by which a client tells its line
+abbrev pub IsId : Data → Id → Type 0
+IsId d (Text text) = as_str d ≡ Some text.now
+IsId d (Number number) = whole d ≡ Some number
+
+-- the id of a line
+abbrev pub HasId : Data → Id → Type 0
+HasId d id = (value : Data) × (value_at at.Id d ≡ Some value) × IsId value id
+
+-- what was read of a line whose word this is
+abbrev pub OfWord : List ℕ → Data → Result LineCommand BadLine → Type 0
+OfWord word d read = IfOk read (λ command. (command_word command ≡ word) × HasMembers d command)

@@ -1,0 +1,94 @@
+-- The effect of a line on a session, as its command asks for it.
+-- `IsOpenedBy` and `DoesToDriver` are internal: you need not read them for the public contracts.
+use Rattle.std.specs.Prelude.{◌≡◌, ◌⊎◌, ℕ, true, List, Option, Some, None, Ok}
+use Rattle.serde_json.specs.Data.{Data}
+use Rattle.json_tree.specs.View.{view}
+use Rattle.sm_placement.specs.Opening.{opened_place}
+use Rattle.sm_placement.specs.Setup.{Setup, names_of_servers, names_of_shards, server_named, sizes_of}
+use Rattle.sm_reservation.specs.declared.stream_id.StreamId.{StreamId}
+use Rattle.sm_plan_code.specs.Plan.{PlanModel}
+use Rattle.sm_plan_text.specs.Documents.{DocumentModel}
+use Rattle.sm_plan_text.specs.Opened.{opening_of}
+use Rattle.sm_plan_text.specs.Reading.{data_of, read_data, read_plan_data}
+use Rattle.sm_protocol.specs.State.{opened}
+use Rattle.sm_driver.specs.Driver.{DriverModel, HasApproved, HasBegunPlan, HasRestored, HasTakenStep, is_due, record_of}
+use Rattle.sm_commands.specs.Lines.{Says}
+use Rattle.sm_commands.specs.declared.command.LineCommand.{LineCommand}
+use Rattle.sm_commands.specs.declared.command.LineCommand.TheVariants as line
+use Rattle.sm_open_journal.specs.declared.opened.Opened.{Opened}
+use Rattle.sm_session.specs.Changes.{ComesInForce, EndsRestart, HasGoneOn, HasReopened, OpensNext}
+use Rattle.sm_session.specs.declared.reopening.UnderWay.{UnderWay}
+use Rattle.sm_session.specs.declared.session.Session.{Session}
+
+-- the plan that a value says over the names of servers and shards
+abbrev pub IsPlanOf : Setup → Data → PlanModel → Type 0
+IsPlanOf setup value plan = read_plan_data (names_of_shards setup) (names_of_servers setup) (Some value) ≡ Ok plan
+
+-- the plan of a value has begun
+abbrev pub BeginsPlanOf : Data → DriverModel → DriverModel → Type 0
+BeginsPlanOf value old new =
+    (plan : PlanModel) × (number : ℕ) × IsPlanOf old.machine.placement.setup value plan × HasBegunPlan plan number old new
+
+-- this stream has made the step whose answer came under this number
+abbrev pub TakesAnswerOf : StreamId → ℕ → DriverModel → DriverModel → Type 0
+TakesAnswerOf id number old new = (is_due old id number ≡ true) × HasTakenStep id old new
+
+-- the restart of the server with this name was approved
+abbrev pub ApprovesRestartOf : List ℕ → DriverModel → DriverModel → Type 0
+ApprovesRestartOf name old new =
+    (server : ℕ) × (permit : ℕ) × (server_named old.machine.placement.setup name ≡ Some server) × HasApproved server permit old new
+
+-- the server with this name was restored under this nonce
+abbrev pub RestoresServerOf : List ℕ → ℕ → DriverModel → DriverModel → Type 0
+RestoresServerOf name nonce old new =
+    (server : ℕ) × (server_named old.machine.placement.setup name ≡ Some server) × HasRestored server nonce old new
+
+-- the effect of a command on the driver of an open journal
+abbrev pub DoesToDriver : LineCommand → DriverModel → DriverModel → Type 0
+DoesToDriver (line.Begin plan _) old new = BeginsPlanOf (view plan.now) old new
+DoesToDriver (line.Answered plan stream number) old new = TakesAnswerOf (record { plan = plan; stream = stream }) number old new
+DoesToDriver (line.Approve server _) old new = ApprovesRestartOf server.now old new
+DoesToDriver (line.Restarted permit base) old new = EndsRestart permit base old new
+DoesToDriver (line.Restore server nonce) old new = RestoresServerOf server.now nonce old new
+DoesToDriver line.NewEpoch old new = OpensNext old new
+DoesToDriver _ old new = ⊥
+
+-- a driver is open over the document that a value says, in an epoch of a journal
+abbrev pub IsOpenedBy : Data → ℕ → ℕ → DriverModel → Type 0
+IsOpenedBy value journal epoch d =
+    (document : DocumentModel) × (read_data (Some value) ≡ Ok document)
+    × (d.machine.placement.setup ≡ document.setup)
+    × (record_of d ≡ opened (sizes_of document.setup) (opened_place (opening_of document)) document.log)
+    × (d.journal ≡ journal) × (d.epoch ≡ epoch)
+
+-- none was open, and now this one is
+abbrev pub OpensOver : Data → ℕ → ℕ → Option Opened → Option Opened → Type 0
+OpensOver value journal epoch None (Some new) = IsOpenedBy value journal epoch new.driver
+OpensOver value journal epoch old new = ⊥
+
+-- the journal that is open stays so, and this became of its driver
+abbrev pub StaysOpen : (DriverModel → DriverModel → Type 0) → Option Opened → Option Opened → Type 0
+StaysOpen P (Some old) (Some new) = P old.driver new.driver
+StaysOpen P old new = ⊥
+
+-- The effect of a command that changed something. A command of a reopening begins one, tells or confirms something of the one under way, or
+-- with the last settle puts it in force.
+abbrev pub Does : LineCommand → Option Opened → Option UnderWay → Option Opened → Option UnderWay → Type 0
+Does (line.Open document journal epoch) opened under new after = OpensOver (view document.now) journal epoch opened new
+Does (line.Reopen _ _ _ _) opened under new after = HasReopened opened under after
+Does (line.Fenced _ _ _) opened under new after = HasGoneOn under after
+Does (line.Confirm _ _) opened under new after = HasGoneOn under after
+Does (line.Settled _ _) opened under new after = HasGoneOn under after ⊎ ComesInForce under after new
+Does command opened under new after = StaysOpen (DoesToDriver command) opened new
+
+-- the effect of a command on a session
+abbrev pub DoesToSession : LineCommand → Session → Session → Type 0
+DoesToSession command old new = Does command old.opened old.under_way new.opened new.under_way
+
+-- a value says a command, and the session has done it
+abbrev pub DoesAsTold : Data → Session → Session → Type 0
+DoesAsTold value old new = (command : LineCommand) × Says value command × DoesToSession command old new
+
+-- so does the JSON value of a line
+abbrev pub DoesAsSaid : List ℕ → Session → Session → Type 0
+DoesAsSaid text old new = (value : Data) × (data_of text ≡ Some value) × DoesAsTold value old new
