@@ -1,5 +1,4 @@
 -- The effect of a line on a session, as its command asks for it.
--- `IsOpenedBy` and `DoesToDriver` are internal: you need not read them for the public contracts.
 use Rattle.std.specs.Prelude.{◌≡◌, ◌⊎◌, ℕ, true, List, Option, Some, None, Ok}
 use Rattle.serde_json.specs.Data.{Data}
 use Rattle.json_tree.specs.View.{view}
@@ -21,13 +20,13 @@ use Rattle.sm_session.specs.declared.reopening.UnderWay.{UnderWay}
 use Rattle.sm_session.specs.declared.session.Session.{Session}
 
 -- the plan that a value says over the names of servers and shards
-abbrev pub IsPlanOf : Setup → Data → PlanModel → Type 0
-IsPlanOf setup value plan = read_plan_data (names_of_shards setup) (names_of_servers setup) (Some value) ≡ Ok plan
+abbrev pub SaysPlan : Setup → Data → PlanModel → Type 0
+SaysPlan setup value plan = read_plan_data (names_of_shards setup) (names_of_servers setup) (Some value) ≡ Ok plan
 
 -- the plan of a value has begun
 abbrev pub BeginsPlanOf : Data → DriverModel → DriverModel → Type 0
 BeginsPlanOf value old new =
-    (plan : PlanModel) × (number : ℕ) × IsPlanOf old.machine.placement.setup value plan × HasBegunPlan plan number old new
+    (plan : PlanModel) × (number : ℕ) × SaysPlan old.machine.placement.setup value plan × HasBegunPlan plan number old new
 
 -- this stream has made the step whose answer came under this number
 abbrev pub TakesAnswerOf : StreamId → ℕ → DriverModel → DriverModel → Type 0

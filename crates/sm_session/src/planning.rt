@@ -2,7 +2,7 @@
 ghost use Rattle.std.specs.Prelude.{◌≡◌, IfOk, IfSome, length};
 ghost use Rattle.json_tree.specs.View.{view};
 ghost use Rattle.sm_plan_code.specs.Plan.{IsKnownPlan};
-ghost use Rattle.sm_session.specs.Asked.{IsPlanOf};
+ghost use Rattle.sm_session.specs.Asked.{SaysPlan};
 
 use json_tree::Tree;
 use sm_commands::{
@@ -28,7 +28,7 @@ pub fn read_plan(
     value: &Tree<'_>,
 ) -> Result<Option<Plan>, AllocError>
     ensures known { IfOk result (λ found. IfSome found (IsKnownPlan (length opened.now.driver.machine.placement.setup.shards) (length opened.now.driver.machine.placement.setup.servers))) }
-    ensures said { IfOk result (λ found. IfSome found (λ plan. IsPlanOf opened.now.driver.machine.placement.setup (view value.now) plan)) }
+    ensures said { IfOk result (λ found. IfSome found (λ plan. SaysPlan opened.now.driver.machine.placement.setup (view value.now) plan)) }
     ensures quiet { IfOk result (λ found. IfSome found (λ plan. writer.new.tokens ≡ writer.old.tokens)) }
 {
     match read_plan_value(alloc, opened.driver.machine().config(), value) {

@@ -184,7 +184,7 @@ impl Session {
         writer: &mut Writer,
     ) -> Result<bool, AllocError>
         ensures changed { IfOk result (λ changed. changed ≡ true → SessionChanges self.old self.new) }
-        ensures asked { IfOk result (λ changed. changed ≡ true → DoesToSession command self.old self.new) }
+        ensures asked { IfOk result (λ changed. changed ≡ true → DoesToSession command.entry self.old self.new) }
         ensures unchanged { IfOk result (λ changed. changed ≡ false → self.new ≡ self.old) }
         ensures told { IfOk result (λ changed. changed ≡ true → SessionTells self.old self.new writer.old.tokens writer.new.tokens) }
     {
@@ -232,7 +232,7 @@ impl Session {
         writer: &mut Writer,
     ) -> Result<bool, AllocError>
         ensures changed { IfOk result (λ changed. changed ≡ true → SessionChanges self.old self.new) }
-        ensures asked { IfOk result (λ changed. changed ≡ true → DoesToSession command self.old self.new) }
+        ensures asked { IfOk result (λ changed. changed ≡ true → DoesToSession command.entry self.old self.new) }
         ensures unchanged { IfOk result (λ changed. changed ≡ false → self.new ≡ self.old) }
         ensures told { IfOk result (λ changed. changed ≡ true → SessionTells self.old self.new writer.old.tokens writer.new.tokens) }
     {

@@ -1,6 +1,8 @@
 use Rattle.std.proofs.Common.{◌≡◌, ◌∙◌, IfOk, List, string_bytes, subst, true}
 use Rattle.json.specs.Token.{Token}
+use Rattle.json_tree.specs.View.{view}
 use Rattle.sm_session.specs.Replies.{TellsBegun}
+use Rattle.sm_session.proofs.Asked.{begun_as_said}
 use Rattle.sm_session.proofs.beginning.begin.Goals as goal
 
 -- Nothing was written before the plan began.
@@ -10,3 +12,8 @@ returns-in-Some-3-clause-told c =
     let quiet = (rw c.in-Some-3.is at c.in_ok-ready.ensures.quiet) ∙ (rw c.in-Some-2.is at c.in_ok-plan.ensures.quiet) in
     subst (λ (before : List Token). IfOk c.start.result (λ begun. begun ≡ true
     → TellsBegun c.args.opened.now.driver new.driver (string_bytes new.journal) before c.start.new.writer.tokens)) quiet c.start.ensures.told
+
+pub returns-in-Some-3-clause-asked : goal.returns-in-Some-3-clause-asked
+returns-in-Some-3-clause-asked c =
+    begun_as_said c.start.result (λ ready. ready.plan) _ _ c.in-Some-2.plan c.in-Some-3.ready (view c.args.value.now) c.args.opened.now.driver c.start.new.opened.driver
+    c.in-Some-2.is c.in-Some-3.is c.in_ok-plan.ensures.said c.in_ok-ready.ensures.same c.start.ensures.asked
