@@ -1,10 +1,10 @@
 //! Payment for the room that moves take.
-ghost use Rattle.std.specs.Prelude.{◌≡◌, ◌≤◌, ◌<◌, All, IfOk, OnOk, length, map, ◌++◌};
+ghost use Rattle.std.specs.Prelude.{◌≡◌, ◌≤◌, ◌<◌, ◌==◌, All, IfOk, OnOk, length, map, ◌++◌};
 ghost use Rattle.std.specs.List.{flat_map, range_with_len};
 ghost use Rattle.sm_placement.specs.Setup.{IsSetup};
 ghost use Rattle.sm_planner.specs.Basis.{basis_of, IsMoveOf};
 ghost use Rattle.sm_planner.specs.Payment.{overlap};
-ghost use Rattle.sm_planner.specs.Stretches.{stretch, paid_from, is_paid_by, handed_to};
+ghost use Rattle.sm_planner.specs.Stretches.{stretch, paid_from, is_paid_by, handed_to, IsFreedBehindPool};
 
 use crate::marks::Amounts;
 use sm_placement::Placement;
@@ -54,6 +54,13 @@ impl Placed {
         ensures within { result ≤ self.now.load }
     {
         overlap(self.takes_from, self.load, 0, self.pool)
+    }
+
+    /// Tells whether the move pays with room of the pool alone.
+    fn is_paid_by_pool(&self) -> bool
+        ensures { result ≡ (overlap self.now.takes_from self.now.load 0 self.now.pool == self.now.load) }
+    {
+        self.from_pool() == self.load
     }
 
     /// Returns the room, freed by an earlier one, that it pays with.
@@ -108,9 +115,13 @@ fn is_paid_by(order: &[Placed], k: usize, j: usize) -> bool
 
 /// Puts the room that is handed on to a placed move behind the signals so far.
 fn put_handed(order: &[Placed], k: usize, signals: &mut Vec<HandedRoom>) -> Result<(), AllocError>
-    requires { k < length order.now }
+    requires place { k < length order.now }
+    requires behind { IsFreedBehindPool order.now }
     ensures { OnOk result (signals.new.items ≡ signals.old.items ++ handed_to order.now k) }
 {
+    if order[k].is_paid_by_pool() {
+        return Ok(());
+    }
     for j in 0..k {
         if is_paid_by(order, k, j) {
             signals.push(HandedRoom {
@@ -124,6 +135,7 @@ fn put_handed(order: &[Placed], k: usize, signals: &mut Vec<HandedRoom>) -> Resu
 
 /// Returns the signals in their order.
 pub(crate) fn signals(alloc: Global, order: &[Placed]) -> Result<Vec<HandedRoom>, AllocError>
+    requires { IsFreedBehindPool order.now }
     ensures { IfOk result (λ signals. signals.items ≡ flat_map (handed_to order.now) (range_with_len 0 (length order.now))) }
 {
     let mut signals = Vec::new(alloc);

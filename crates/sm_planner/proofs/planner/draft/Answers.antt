@@ -9,7 +9,7 @@ use Rattle.sm_planner.specs.Spread.{first_too_close}
 use Rattle.sm_planner.specs.Payment.{signals_of}
 use Rattle.sm_planner.specs.Stretches.{stretch, IsGiven}
 use Rattle.sm_planner.proofs.Refusing.{refused_room, refused_signals, refused_not}
-use Rattle.sm_planner.proofs.Signalling.{ordered_known, signals_are, signals_given}
+use Rattle.sm_planner.proofs.Signalling.{ordered_known, freed_behind, signals_are, signals_given}
 use Rattle.sm_reservation.specs.Key.{IsOnce}
 use Rattle.sm_planner.specs.Refusal.{refusal, in_placed_order}
 use Rattle.sm_planner.specs.Plan.{moves_of, needs_by}
@@ -28,6 +28,11 @@ pub stretches-requires : goal.stretches-requires
 stretches-requires c =
     let e : c.deref.result.now ≡ map (move_at c.args.moves.now) c.in_ok-placing.placing.placed.items = c.deref.ensures.value ∙ c.in_ok-order.ensures in
     subst (All (IsMoveOf c.args.placement.now.setup)) (sym e) (ordered_known c.args.placement.now.setup c.args.moves.now c.in_ok-placing.placing.placed.items c.requires.known c.in_ok-placing.ensures.known)
+
+pub signals-requires : goal.signals-requires
+signals-requires c =
+    freed_behind (basis_of c.args.placement.now c.args.pool.now) c.in_ok-order.order.items c.deref-2.result.now
+    (c.deref-2.ensures.value ∙ c.in_ok-placed.ensures.placed ∙ ap (λ (x : List Move). map (stretch (basis_of c.args.placement.now c.args.pool.now) x) (range_with_len 0 (length x))) c.deref.ensures.value)
 
 left_none : (c : In_ok-order) → first_left c.args.moves.now c.in_ok-placing.placing.placed.items ≡ None
 left_none c = sym c.in_ok-placing.ensures.left ∙ sym c.first_left.ensures.first ∙ c.in_default.is
