@@ -2,9 +2,9 @@
 use Rattle.std.proofs.Common.{◌≡◌, ◌<◌, ◌≤◌, ◌∙◌, inl, inr, ℕ, zero, suc, Bool, true, false, ◌&&◌, ◌||◌, ◌==◌, List, [], ◌∷◌, length, sym, ap, refl, arith}
 use Rattle.std.specs.Prelude.{All, not, nat_lt}
 use Rattle.std.specs.List.{list_any}
-use Rattle.std.proofs.lemmas.Bool.{cases_Bool, eq-eqb, or_left, or_right, ltb-true}
+use Rattle.std.proofs.lemmas.Bool.{cases_Bool, cases_eq, eq-eqb, le-ltb, or_left, or_right}
 use Rattle.std.proofs.lemmas.List.Elements.{All-head, All-tail}
-use Rattle.sm_placement.specs.Sums.{any_below, count_below}
+use Rattle.sm_placement.specs.Sums.{any_below}
 use Rattle.sm_placement.specs.Setup.{Setup}
 use Rattle.sm_placement.specs.Place.{Place}
 use Rattle.sm_placement.proofs.Searches.{any_none_from, count_none_at}
@@ -40,6 +40,13 @@ none_pass setup has e (suc n) l k m =
     alone false y d q = refl
     alone true y d q = absurd (let z : not y ≡ true = ap not d in cc)
 
+-- a server that passes lies in a region
+pub some_region : (setup : Setup) (has : ℕ → Bool) (v : ℕ) → v < length setup.servers → has v ≡ true → 1 ≤ region_count setup has
+some_region setup has v l e = elim (cases_eq (region_count setup has) 0) [
+  | inl zero_count ↦ absurd (let away : has v ≡ false = none_pass setup has zero_count (length setup.servers) (omega arith) v l in let z : true ≡ false = sym e ∙ away in cc)
+  | inr some ↦ omega arith
+]
+
 -- a shard that is to lie in one region is not too close
 pub never_close : (setup : Setup) (p : Place) (moves : List Move) (s : ℕ) → All (IsMoveOf setup) moves → spread_of setup s ≤ 1 → is_too_close setup p moves s ≡ false
 never_close setup p moves s known low = elim (cases_Bool (list_any (λ m. m.shard == s) moves)) [
@@ -48,12 +55,7 @@ never_close setup p moves s known low = elim (cases_Bool (list_any (λ m. m.shar
       let goes = goes_somewhere setup moves s known some in
       let there : has_after p moves s goes.0 ≡ true =
       or_left (list_any (λ m. (m.shard == s) && (m.to == goes.0)) moves) (is_replica (p.cells s goes.0) && not (list_any (λ m. (m.shard == s) && (m.from == goes.0)) moves)) goes.2 in
-      elim (cases_Bool (nat_lt (region_count setup (has_after p moves s)) (spread_of setup s))) [
-        | inr wide ↦ ap (λ x. list_any (λ m. m.shard == s) moves && x) wide ∙ ap (λ x. x && false) some
-        | inl close ↦ absurd (
-            let less : region_count setup (has_after p moves s) < spread_of setup s = ltb-true (region_count setup (has_after p moves s)) (spread_of setup s) close in
-            let zero_count : region_count setup (has_after p moves s) ≡ 0 = omega (arith, less, low) in
-            let away : has_after p moves s goes.0 ≡ false = none_pass setup (has_after p moves s) zero_count (length setup.servers) (omega arith) goes.0 goes.1 in
-            let z : true ≡ false = sym there ∙ away in cc)
-      ]
+      let one = some_region setup (has_after p moves s) goes.0 goes.1 there in
+      ap (λ x. list_any (λ m. m.shard == s) moves && x) (le-ltb (region_count setup (has_after p moves s)) (spread_of setup s) (omega arith))
+      ∙ ap (λ x. x && false) some
 ]

@@ -6,7 +6,7 @@ use Rattle.sm_placement.specs.Sums.{any_below}
 use Rattle.sm_placement.specs.Setup.{Setup}
 use Rattle.sm_placement.specs.Place.{Place}
 use Rattle.sm_planner.specs.Basis.{is_replica}
-use Rattle.sm_planner.specs.Spread.{same_region, region_count}
+use Rattle.sm_planner.specs.Spread.{same_region, region_count, spread_of}
 
 -- the number of a server's region: of the servers that stand in it, the lowest
 pub record IsRegionOf (setup : Setup) (v r : ℕ) : Type 0 where
@@ -34,3 +34,7 @@ pub record IsOccupied (setup : Setup) (regions : List ℕ) (has : ℕ → Bool) 
 -- the server's replica of the shard stays when v is left
 abbrev pub stays : Place → ℕ → ℕ → ℕ → Bool
 stays p s v w = is_replica (p.cells s w) && not (w == v)
+
+-- the regions that are marked are those of the replicas that stay when v is left, if the shard is to lie in more than one
+abbrev pub AreStayingRegions : Setup → Place → List ℕ → ℕ → ℕ → List Bool → ℕ → Type 0
+AreStayingRegions setup p regions s v marks total = 1 < spread_of setup s → IsOccupied setup regions (stays p s v) marks total

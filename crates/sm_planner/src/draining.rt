@@ -8,7 +8,7 @@ ghost use Rattle.sm_reservation.specs.Amounts.{is_cell};
 ghost use Rattle.sm_reservation.specs.Pool.{pool_hold};
 ghost use Rattle.sm_planner.specs.Basis.{basis_of, is_replica, move_load, IsMoveOf};
 ghost use Rattle.sm_planner.specs.Spread.{region_count, spread_of};
-ghost use Rattle.sm_planner.specs.Regions.{AreRegions, IsOccupied, stays};
+ghost use Rattle.sm_planner.specs.Regions.{AreRegions, AreStayingRegions};
 ghost use Rattle.sm_planner.specs.Drain.{may_leave, first_stuck, drain_refusal, has_place, IsBestOf, AreStaying, IsRoomBeside, AreLeaving, IsStuck, AreDepartures, IsNoDrainFor};
 
 use crate::held::{has_absent, has_crown, has_secondary, is_absent, is_primary, is_secondary};
@@ -65,7 +65,7 @@ fn staying(
     Ok(has)
 }
 
-/// Returns the regions in which the replicas of a shard lie that stay.
+/// Returns the regions in which the replicas of a shard lie that stay, if the shard is to lie in more than one region.
 fn staying_regions(
     alloc: Global,
     placement: &Placement,
@@ -76,10 +76,16 @@ fn staying_regions(
     requires regions { AreRegions placement.now.setup regions.now }
     requires shard { shard < length placement.now.setup.shards }
     requires from { from < length placement.now.setup.servers }
-    ensures { IfOk result (λ kept. IsOccupied placement.now.setup regions.now (stays (place_of placement.now) shard from) kept.marks.items kept.count) }
+    ensures { IfOk result (λ kept. AreStayingRegions placement.now.setup (place_of placement.now) regions.now shard from kept.marks.items kept.count) }
 {
-    let has = staying(alloc, placement, shard, from)?;
     let config = placement.config();
+    if config.shard(shard).spread <= 1 {
+        return Ok(Occupied {
+            marks: Vec::new(alloc),
+            count: 0,
+        });
+    }
+    let has = staying(alloc, placement, shard, from)?;
     let kept = occupied_by(alloc, config, regions, &has)?;
     Ok(kept)
 }
@@ -88,12 +94,17 @@ fn staying_regions(
 fn is_spread(placement: &Placement, regions: &[u32], staying: &Occupied, leaving: &Move) -> bool
     requires leaving { IsMoveOf placement.now.setup leaving.now }
     requires regions { AreRegions placement.now.setup regions.now }
-    requires staying { IsOccupied placement.now.setup regions.now (stays (place_of placement.now) leaving.now.shard leaving.now.from) staying.now.marks.items staying.now.count }
+    requires staying { AreStayingRegions placement.now.setup (place_of placement.now) regions.now leaving.now.shard leaving.now.from staying.now.marks.items staying.now.count }
     ensures { result ≡ nat_le (spread_of placement.now.setup leaving.now.shard) (region_count placement.now.setup (λ w. (w == leaving.now.to) || (is_replica ((place_of placement.now).cells leaving.now.shard w) && not (w == leaving.now.from)))) }
 {
-    let region = regions[leaving.to.number() as usize] as usize;
     let config = placement.config();
-    config.shard(leaving.shard).spread <= staying.count_with(region)
+    let spread = config.shard(leaving.shard).spread;
+    // (the target lies in one region)
+    if spread <= 1 {
+        return true;
+    }
+    let region = regions[leaving.to.number() as usize] as usize;
+    spread <= staying.count_with(region)
 }
 
 /// Tells whether the server is another one, up, with nothing of the shard and the right to its cell in the pool, and
@@ -121,7 +132,7 @@ fn may_take(
 ) -> bool
     requires leaving { IsMoveOf placement.now.setup leaving.now }
     requires regions { AreRegions placement.now.setup regions.now }
-    requires staying { IsOccupied placement.now.setup regions.now (stays (place_of placement.now) leaving.now.shard leaving.now.from) staying.now.marks.items staying.now.count }
+    requires staying { AreStayingRegions placement.now.setup (place_of placement.now) regions.now leaving.now.shard leaving.now.from staying.now.marks.items staying.now.count }
     ensures { result ≡ has_place (basis_of placement.now pool.now) leaving.now.from (slice_index room.now) leaving.now.shard leaving.now.to }
 {
     is_open(placement, pool, room, leaving) && is_spread(placement, regions, staying, leaving)
@@ -150,7 +161,7 @@ fn target_with(
 ) -> Option<ServerId>
     requires leaving { IsMoveOf placement.now.setup leaving.now }
     requires regions { AreRegions placement.now.setup regions.now }
-    requires staying { IsOccupied placement.now.setup regions.now (stays (place_of placement.now) leaving.now.shard leaving.now.from) staying.now.marks.items staying.now.count }
+    requires staying { AreStayingRegions placement.now.setup (place_of placement.now) regions.now leaving.now.shard leaving.now.from staying.now.marks.items staying.now.count }
     requires best { IsBestOf (has_place (basis_of placement.now pool.now) leaving.now.from (slice_index room.now) leaving.now.shard) (slice_index room.now) leaving.now.to best }
     ensures { IsBestOf (has_place (basis_of placement.now pool.now) leaving.now.from (slice_index room.now) leaving.now.shard) (slice_index room.now) (leaving.now.to + 1) result }
 {

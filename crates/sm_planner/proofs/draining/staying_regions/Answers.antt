@@ -11,5 +11,5 @@ returns c =
     let kept = c.in_ok-kept.kept in
     let marks : ℕ → Bool = λ v. get_or c.deref.result.now v false in
     let is = subst (λ (x : Setup). IsOccupied x c.args.regions.now marks kept.marks.items kept.count) c.config-config.ensures.setup c.in_ok-kept.ensures in
-    occupied_same p.setup c.args.regions.now marks (stays (place_of p) c.args.shard c.args.from) kept.marks.items kept.count
+    λ more. occupied_same p.setup c.args.regions.now marks (stays (place_of p) c.args.shard c.args.from) kept.marks.items kept.count
     (λ v l. rw c.deref.ensures.value (c.in_ok-has.ensures.marked v l)) is
