@@ -83,6 +83,7 @@ pub record IsWithin (b : Basis) (moves : List Move) (room : List ℕ) (i : ℕ) 
   pub from : (move_at moves i).from < length room
   pub load : move_load b.setup (move_at moves i) ≤ MOST_LOAD
 
+-- the room of a server once a move takes some of it or frees some
 pub after_at : (setup : Setup) (m : Move) (room : List ℕ) (v : ℕ) → m.to < length room → m.from < length room →
     get_or (room_after setup m room) v 0 ≡ get_or room v 0 - taken_by setup v m + freed_by setup v m
 after_at setup m room v to from =

@@ -1,6 +1,7 @@
 pub mod Firsts
 pub mod Ranges
 pub mod Accounting
+pub mod Passing
 pub mod Stretching
 pub mod Drafting
 pub mod Regions

@@ -1,9 +1,9 @@
 //! The order in which moves are placed.
-ghost use Rattle.std.specs.Prelude.{◌≡◌, ◌<◌, ◌≤◌, ◌+◌, ◌^◌, ◌&&◌, ℕ, true, nat_le, All, IfOk, OnOk, IfSome, length, ◌++◌, ◌∷◌, [], slice_index, slice_set};
+ghost use Rattle.std.specs.Prelude.{◌≡◌, ◌<◌, ◌≤◌, ◌+◌, ◌^◌, ◌&&◌, ℕ, true, nat_le, All, IfOk, OnOk, IfSome, length, ◌++◌, ◌∷◌, [], false, slice_index, slice_index_or, slice_set};
 ghost use Rattle.sm_placement.specs.Opening.{first_below};
 ghost use Rattle.sm_planner.specs.Basis.{basis_of, IsMoveOf, move_at, move_load};
 ghost use Rattle.sm_planner.specs.Placing.{IsPlacing, first_left};
-ghost use Rattle.sm_planner.specs.Accounts.{is_next, is_left, room_after};
+ghost use Rattle.sm_planner.specs.Accounts.{is_next, is_left, room_after, awaited_with, ArePassedOver, IsStart};
 ghost use Rattle.sm_planner.specs.Refusal.{in_placed_order};
 ghost use Rattle.sm_placement.specs.declared.limits.TheConstants.{MOST_LOAD};
 
@@ -11,7 +11,47 @@ use crate::marks::{Amounts, is_marked, mark};
 use sm_placement::{Config, Placement};
 use sm_plan_code::Move;
 use sm_reservation::Pool;
+use sm_server::ServerId;
 use std::alloc::{AllocError, Global};
+use std::marker::Model;
+
+/// For each server, whether a move waits for room there.
+#[derive(Drop)]
+struct Awaited {
+    by_server: Vec<bool>,
+}
+
+impl Model for Awaited {
+    ghost use Rattle.std.specs.Prelude.{Bool, List};
+
+    ghost Value = { List Bool };
+
+    ghost view = { λ a. a.by_server.items };
+}
+
+impl Awaited {
+    /// Makes a list on which no move waits.
+    fn none(alloc: Global, config: &Config) -> Result<Awaited, AllocError>
+        ensures { IfOk result (λ awaited. length awaited ≡ length config.now.servers) }
+    {
+        let by_server = vec![in alloc; false; config.server_count() as usize]?;
+        Ok(Awaited { by_server })
+    }
+
+    /// Tells whether a move waits for room at the server.
+    fn at(&self, server: ServerId) -> bool
+        ensures { result ≡ slice_index_or self.now server false }
+    {
+        is_marked(&self.by_server, server.number() as usize)
+    }
+
+    /// Enters whether a move waits for room at the server.
+    fn set(&mut self, server: ServerId, waits: bool)
+        ensures { self.new ≡ slice_set self.old server waits }
+    {
+        mark(&mut self.by_server, server.number() as usize, waits);
+    }
+}
 
 /// Moves that are placed one after another.
 pub(crate) struct Placing {
@@ -49,15 +89,39 @@ impl Placing {
         u128::from(config.load(wanted.shard)) <= self.room.at(wanted.to)
     }
 
-    /// Returns the first move that is not placed and whose load fits.
-    fn first_fit(&self, config: &Config, moves: &[Move]) -> Option<usize>
-        requires { All (IsMoveOf config.now) moves.now }
-        ensures { result ≡ first_below (length moves.now) (is_next config.now moves.now self.now.marks.items self.now.room) }
+    /// Passes over a move that is not next: if it is not placed, it waits for room at its server.
+    fn pass_over(&self, i: usize, to: ServerId, awaited: &mut Awaited)
+        ensures { awaited.new ≡ awaited_with self.now.marks.items i to awaited.old }
     {
-        for (i, wanted) in moves.iter().enumerate() {
+        if !is_marked(&self.marks, i) {
+            awaited.set(to, true);
+        }
+    }
+
+    /// Returns the first move that is not placed and whose load fits. Those before a place of the list are known to be passed
+    /// over.
+    fn first_fit(
+        &self,
+        config: &Config,
+        moves: &[Move],
+        start: usize,
+        awaited: &mut Awaited,
+    ) -> Option<usize>
+        requires known { All (IsMoveOf config.now) moves.now }
+        requires wide { length awaited.old ≡ length config.now.servers }
+        requires within { start ≤ length moves.now }
+        requires before { ArePassedOver config.now moves.now self.now.marks.items self.now.room awaited.old start }
+        ensures first { result ≡ first_below (length moves.now) (is_next config.now moves.now self.now.marks.items self.now.room) }
+        ensures wide { length awaited.new ≡ length awaited.old }
+        ensures within { IfSome result (λ i. i < length moves.now) }
+        ensures before { IfSome result (ArePassedOver config.now moves.now self.now.marks.items self.now.room awaited.new) }
+    {
+        for i in start..moves.len() {
+            let wanted = &moves[i];
             if self.is_next(config, i, wanted) {
                 return Some(i);
             }
+            self.pass_over(i, wanted.to, awaited);
         }
         None
     }
@@ -106,6 +170,20 @@ impl Placing {
     }
 }
 
+/// Returns where to look for the next move once one is placed: behind it, or from the front if a move was passed over
+/// that waits for the room that it freed.
+fn start_after(i: usize, from: ServerId, awaited: &mut Awaited) -> usize
+    requires { i + 1 < 2 ^ 64 }
+    ensures wide { length awaited.new ≡ length awaited.old }
+    ensures start { IsStart i from awaited.old awaited.new result }
+{
+    if awaited.at(from) {
+        awaited.set(from, false);
+        return 0;
+    }
+    i + 1
+}
+
 /// Places moves as long as one fits.
 pub(crate) fn place_all(
     alloc: Global,
@@ -125,8 +203,11 @@ pub(crate) fn place_all(
         marks: vec![in alloc; false; moves.len()]?,
         room: Amounts::of_pool(alloc, config, pool)?,
     };
-    while let Some(i) = placing.first_fit(config, moves) {
+    let mut awaited = Awaited::none(alloc, config)?;
+    let mut start = 0;
+    while let Some(i) = placing.first_fit(config, moves, start, &mut awaited) {
         placing.place(config, i, moves)?;
+        start = start_after(i, moves[i].from, &mut awaited);
     }
     Ok(placing)
 }
