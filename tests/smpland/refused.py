@@ -28,6 +28,13 @@ ASKED = [
 ]
 ODD = [b"", b"{", b'{"do":"hello","id":1.5}', b'{"do":"open","document":{},"journal":"1","epoch":0}']
 
+# What the program says of a call on the journal that has failed. (A seek is a part of a read or a write.)
+SAID = {
+    "open": "the journal was not opened", "open-folder": "the folder of the journal was not opened", "lock": "the journal was not locked",
+    "seek": "the journal was not ", "read": "the journal was not read", "write": "the journal was not written", "cut": "the journal was not cut",
+    "sync": "the journal was not synced", "sync-folder": "the journal was not synced",
+}
+
 
 def told_by(words: list[str], lines: list[bytes]) -> list[bytes]:
     """Returns the replies of a process to lines."""
@@ -118,6 +125,14 @@ class Fault(NamedTuple):
             return {"REFUSED_ALLOCATION": str(number)}
         return {"REFUSED_KIND": self.kind, "REFUSED_HOW": self.how, "REFUSED_CALL": str(number)}
 
+    def said(self, journal: Path) -> list[str]:
+        """Returns what standard error says of a call that was refused: the journal, what was not done, and why."""
+        if self.kind not in SAID:
+            return ["error: "]
+        if self.status == 5:
+            return [f"error: {journal}: another process has the journal\n"]
+        return [f"error: {journal}: {SAID[self.kind]}", os.strerror(28 if self.how == "half" else int(self.how))]
+
 
 class Trial:
     """Runs in one folder, in which calls are refused by the libraries. What a run has wrong is a list of words."""
@@ -149,7 +164,9 @@ class Trial:
         does_without = fault.kind == "allocation" and done.returncode == 0
         status = fault.status if is_refused and not does_without else 0
         wrong = [] if done.returncode == status else [f"status {done.returncode}"]
-        wrong += [] if bool(done.stderr) == (status != 0) else [f"stderr {done.stderr!r}"]
+        said = done.stderr.decode(errors="replace")
+        is_said = all(it in said for it in fault.said(self.journal)) if status else not said
+        wrong += [] if is_said else [f"stderr {said!r}"]
         return is_refused, wrong + list(self.wrong_in(setting, done.stdout, status == 0))
 
     def wrong_in(self, setting: Setting, told: bytes, is_whole: bool) -> Iterator[str]:

@@ -146,15 +146,15 @@ whole_is_journal text batches whole one size long =
 pub never_damaged : {T : Type 0} (result : Result T RecoverFault) (why : RecoverFault) (fault : StoreFault) → result ≡ Err why → why ≡ recover_fault_of fault → (number : ℕ)
     → result ≡ Err (Damaged number) → ⊥
 never_damaged result why NoMemory is told number other = cc
-never_damaged result why Failed is told number other = cc
+never_damaged result why (Failed failure) is told number other = cc
 
 -- not as a command that does not fit,
 pub never_unfit : {T : Type 0} (result : Result T RecoverFault) (why : RecoverFault) (fault : StoreFault) → result ≡ Err why → why ≡ recover_fault_of fault → (number : ℕ)
     → result ≡ Err (Unfit number) → ⊥
 never_unfit result why NoMemory is told number other = cc
-never_unfit result why Failed is told number other = cc
+never_unfit result why (Failed failure) is told number other = cc
 
 -- and not as what is no journal
 pub never_foreign : {T : Type 0} (result : Result T RecoverFault) (why : RecoverFault) (fault : StoreFault) → result ≡ Err why → why ≡ recover_fault_of fault → result ≡ Err Foreign → ⊥
 never_foreign result why NoMemory is told other = cc
-never_foreign result why Failed is told other = cc
+never_foreign result why (Failed failure) is told other = cc

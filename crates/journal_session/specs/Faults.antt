@@ -9,9 +9,9 @@ use Rattle.journal_session.specs.declared.fault.ServeFault.TheVariants.{NoMemory
 -- by a recovery
 abbrev pub recover_fault_of : StoreFault → RecoverFault
 recover_fault_of NoMemory = RecoverNoMemory
-recover_fault_of Failed = RecoverFailed
+recover_fault_of (Failed failure) = RecoverFailed failure
 
 -- by a session
 abbrev pub serve_fault_of : StoreFault → ServeFault
 serve_fault_of NoMemory = ServeNoMemory
-serve_fault_of Failed = NotKept
+serve_fault_of (Failed failure) = NotKept failure

@@ -4,17 +4,17 @@ ghost use Rattle.journal_session.specs.declared.fault.RecoverFault.TheVariants.{
 ghost use Rattle.journal_session.specs.declared.fault.ServeFault.TheVariants.{NoMemory as NoneLeft};
 ghost use Rattle.journal_session.specs.Faults.{recover_fault_of, serve_fault_of};
 
-use journal_store::StoreFault;
+use journal_store::{StoreFailure, StoreFault};
 use std::alloc::AllocError;
 use thiserror::Error;
 
 /// The reasons why a journal was not recovered.
-#[derive(Clone, Copy, Debug, Drop, PartialEq, Eq, Error)]
+#[derive(Clone, Copy, Debug, Drop, Error)]
 pub enum RecoverFault {
     #[error("out of memory")]
     NoMemory,
-    #[error("the journal was not read, cut or synced")]
-    Failed,
+    #[error("{0}")]
+    Failed(StoreFailure),
     #[error("this is no journal")]
     Foreign,
     /// This line does not go on from those before it, and a whole line stands there or behind it: no crash leaves that.
@@ -39,13 +39,13 @@ impl From<StoreFault> for RecoverFault {
     fn from(fault: StoreFault) -> RecoverFault {
         match fault {
             StoreFault::NoMemory => RecoverFault::NoMemory,
-            StoreFault::Failed => RecoverFault::Failed,
+            StoreFault::Failed(failure) => RecoverFault::Failed(failure),
         }
     }
 }
 
 /// The reasons why a session ended before its input.
-#[derive(Clone, Copy, Debug, Drop, PartialEq, Eq, Error)]
+#[derive(Clone, Copy, Debug, Drop, Error)]
 pub enum ServeFault {
     #[error("out of memory")]
     NoMemory,
@@ -53,8 +53,8 @@ pub enum ServeFault {
     ReadFailed,
     #[error("the output was not written")]
     WriteFailed,
-    #[error("the journal was not written or synced")]
-    NotKept,
+    #[error("{0}")]
+    NotKept(StoreFailure),
 }
 
 impl From<AllocError> for ServeFault {
@@ -71,7 +71,7 @@ impl From<StoreFault> for ServeFault {
     fn from(fault: StoreFault) -> ServeFault {
         match fault {
             StoreFault::NoMemory => ServeFault::NoMemory,
-            StoreFault::Failed => ServeFault::NotKept,
+            StoreFault::Failed(failure) => ServeFault::NotKept(failure),
         }
     }
 }

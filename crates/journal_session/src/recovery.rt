@@ -16,8 +16,9 @@ use crate::pending::Pending;
 use crate::replay::replay_piece;
 use journal::Journal;
 use journal_lines::{Reading, Sum, journal_head};
-use journal_store::{Store, StoreFault};
+use journal_store::{Store, StoreFailure, StoreFault};
 use std::alloc::Global;
+use std::io::{self, ErrorKind};
 
 /// The number of bytes that one read asks for.
 const PIECE: usize = 1 << 16;
@@ -32,6 +33,13 @@ enum Beginning {
     Other,
     /// No more than a crash may have left of a head.
     NotBegun,
+}
+
+/// Returns what is said of a journal that is too long to be read.
+fn too_long() -> StoreFailure {
+    StoreFailure::Read {
+        cause: io::Error::from(ErrorKind::FileTooLarge),
+    }
 }
 
 /// Reads from a place on. It finds nothing only at the end or behind it.
@@ -65,7 +73,7 @@ fn read_front<S: Store>(alloc: Global, store: &mut S, most: usize) -> Result<Vec
             return Ok(text);
         }
     }
-    Err(StoreFault::Failed)
+    Err(StoreFault::Failed(too_long()))
 }
 
 /// Reads the beginning of a store.
@@ -138,7 +146,7 @@ fn replay<S: Store, A: Applies>(
     let mut at = journal_head().len() as u64;
     for _ in 0..u64::MAX {
         if at >= LONGEST_JOURNAL {
-            return Err(RecoverFault::Failed);
+            return Err(RecoverFault::Failed(too_long()));
         }
         let piece = read_at(alloc, store, at)?;
         let bytes = piece.as_slice();
@@ -148,7 +156,7 @@ fn replay<S: Store, A: Applies>(
         replay_piece(alloc, reading, state, &mut pending, bytes)?;
         at += bytes.len() as u64;
     }
-    Err(RecoverFault::Failed)
+    Err(RecoverFault::Failed(too_long()))
 }
 
 #[tactic(auto, unfolding(journal_lines::specs::Lines::head))]

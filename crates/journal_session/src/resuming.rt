@@ -19,7 +19,7 @@ use std::io::{Read, Write};
 use thiserror::Error;
 
 /// The reasons why not all lines of an input were served.
-#[derive(Clone, Copy, Debug, Drop, PartialEq, Eq, Error)]
+#[derive(Clone, Copy, Debug, Drop, Error)]
 pub enum ResumeFault {
     #[error("{0}")]
     Unrecovered(RecoverFault),

@@ -1,18 +1,24 @@
 //! A store in a file. Nothing is claimed of its bytes, as std claims nothing of files: its methods have to be read.
-use crate::store::{Store, StoreFault};
+ghost use Rattle.std.specs.Prelude.{◌≤◌, length, IfOk};
+
+use crate::store::{Store, StoreFailure, StoreFault};
 use std::fs::{File, OpenOptions, TryLockError};
-use std::io::{Read, Seek, SeekFrom, Write};
+use std::io::{self, Read, Seek, SeekFrom, Write};
 use std::path::Path;
 use std::rt::Files;
 use thiserror::Error;
 
 /// Why a file was not opened.
-#[derive(Clone, Copy, Debug, Drop, PartialEq, Eq, Error)]
+#[derive(Clone, Copy, Debug, Drop, Error)]
 pub enum OpenFailure {
-    #[error("the file is in use")]
+    #[error("another process has the journal")]
     InUse,
-    #[error("the file was not opened")]
-    Failed,
+    #[error("the journal was not opened: {cause}")]
+    File { cause: io::Error },
+    #[error("the journal was not locked: {cause}")]
+    Lock { cause: io::Error },
+    #[error("the folder of the journal was not opened: {cause}")]
+    Folder { cause: io::Error },
 }
 
 /// A file that this process alone has locked, and the folder that names it.
@@ -31,22 +37,46 @@ impl FileStore {
             .write(true)
             .create(true)
             .open(rt, path)
-            .or(Err(OpenFailure::Failed))?;
+            .map_err(|cause| OpenFailure::File { cause })?;
         match file.try_lock() {
             Ok(()) => {}
             Err(TryLockError::WouldBlock) => return Err(OpenFailure::InUse),
-            Err(TryLockError::Error(_)) => return Err(OpenFailure::Failed),
+            Err(TryLockError::Error(cause)) => return Err(OpenFailure::Lock { cause }),
         }
         let folder = match Path::new(path).parent().and_then(|folder| folder.to_str()) {
             Some("") | None => ".",
             Some(folder) => folder,
         };
-        let folder = File::open(rt, folder).or(Err(OpenFailure::Failed))?;
+        let folder = File::open(rt, folder).map_err(|cause| OpenFailure::Folder { cause })?;
         Ok(FileStore {
             file,
             folder,
             is_folder_synced: false,
         })
+    }
+
+    /// Reads bytes from a place on, and returns how many.
+    fn read_from(&mut self, at: u64, piece: &mut [u8]) -> io::Result<usize>
+        ensures { IfOk result (λ n. n ≤ length piece.old) }
+    {
+        self.file.seek(SeekFrom::Start(at))?;
+        self.file.read(piece)
+    }
+
+    /// Writes bytes behind the last.
+    fn write_behind(&mut self, bytes: &[u8]) -> io::Result<()> {
+        self.file.seek(SeekFrom::End(0))?;
+        self.file.write_all(bytes)
+    }
+
+    /// Syncs the file, and with the first sync the folder that names it.
+    fn sync_all(&mut self) -> io::Result<()> {
+        self.file.sync_all()?;
+        if !self.is_folder_synced {
+            self.folder.sync_all()?;
+            self.is_folder_synced = true;
+        }
+        Ok(())
     }
 }
 
@@ -62,29 +92,28 @@ impl Store for FileStore {
     ghost left_at = { λ _ _ _. ⊥ };
 
     fn read(&mut self, at: u64, piece: &mut [u8]) -> Result<usize, StoreFault> {
-        self.file
-            .seek(SeekFrom::Start(at))
-            .or(Err(StoreFault::Failed))?;
-        self.file.read(piece).or(Err(StoreFault::Failed))
+        let count = self
+            .read_from(at, piece)
+            .map_err(|cause| StoreFailure::Read { cause })?;
+        Ok(count)
     }
 
     fn append(&mut self, bytes: &[u8]) -> Result<(), StoreFault> {
-        self.file
-            .seek(SeekFrom::End(0))
-            .or(Err(StoreFault::Failed))?;
-        self.file.write_all(bytes).or(Err(StoreFault::Failed))
+        self.write_behind(bytes)
+            .map_err(|cause| StoreFailure::Append { cause })?;
+        Ok(())
     }
 
     fn cut(&mut self, least: u64) -> Result<(), StoreFault> {
-        self.file.set_len(least).or(Err(StoreFault::Failed))
+        self.file
+            .set_len(least)
+            .map_err(|cause| StoreFailure::Cut { cause })?;
+        Ok(())
     }
 
     fn sync(&mut self) -> Result<(), StoreFault> {
-        self.file.sync_all().or(Err(StoreFault::Failed))?;
-        if !self.is_folder_synced {
-            self.folder.sync_all().or(Err(StoreFault::Failed))?;
-            self.is_folder_synced = true;
-        }
+        self.sync_all()
+            .map_err(|cause| StoreFailure::Sync { cause })?;
         Ok(())
     }
 }

@@ -8,4 +8,4 @@ mod store;
 
 pub use file::{FileStore, OpenFailure};
 pub use memory::MemoryStore;
-pub use store::{Store, StoreFault};
+pub use store::{Store, StoreFailure, StoreFault};

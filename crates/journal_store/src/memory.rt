@@ -2,8 +2,14 @@
 ghost use Rattle.std.specs.Prelude.{◌≡◌, ◌<◌, ℕ, List, [], ◌∷◌, ◌++◌, false, length, IfOk, IfSome, OnOk, Some, slice_get, ◌⊎◌};
 
 use crate::shot::Shot;
-use crate::store::{Store, StoreFault};
+use crate::store::{Store, StoreFailure, StoreFault};
 use std::alloc::{AllocError, Global};
+use std::io;
+
+/// Returns the cause of each failure of a store that was told to fail.
+fn told() -> io::Error {
+    io::Error::other("the store was told to fail")
+}
 
 /// A store in memory. It has each moment of its past.
 #[derive(Drop)]
@@ -70,8 +76,8 @@ impl MemoryStore {
         self.present().crash(alloc, front, torn)
     }
 
-    /// Goes on to the next moment, and fails if it is told to.
-    fn go_on(&mut self, next: Shot) -> Result<(), StoreFault>
+    /// Goes on to the next moment. Fails in this way if the store is told to.
+    fn go_on(&mut self, next: Shot, failure: StoreFailure) -> Result<(), StoreFault>
         ensures ok { OnOk result (self.new.shots.items ≡ self.old.shots.items ++ next ∷ []) }
         ensures word { OnOk result (self.new.failed ≡ self.old.failed) }
         ensures shots { (self.new.shots.items ≡ self.old.shots.items ++ next ∷ []) ⊎ (self.new.shots.items ≡ self.old.shots.items) }
@@ -79,7 +85,7 @@ impl MemoryStore {
         self.shots.push(next)?;
         if self.left == 0 {
             self.failed = true;
-            return Err(StoreFault::Failed);
+            return Err(StoreFault::Failed(failure));
         }
         self.left -= 1;
         Ok(())
@@ -108,20 +114,21 @@ impl Store for MemoryStore {
 
     fn append(&mut self, bytes: &[u8]) -> Result<(), StoreFault> {
         let next = self.present().appended(self.alloc, bytes)?;
-        self.go_on(next)
+        self.go_on(next, StoreFailure::Append { cause: told() })
     }
 
     fn cut(&mut self, least: u64) -> Result<(), StoreFault> {
         let next = self.present().cut(self.alloc, least as usize)?;
-        self.go_on(next)
+        self.go_on(next, StoreFailure::Cut { cause: told() })
     }
 
     fn sync(&mut self) -> Result<(), StoreFault> {
+        let failure = StoreFailure::Sync { cause: told() };
         if self.left == 0 {
             self.failed = true;
-            return Err(StoreFault::Failed);
+            return Err(StoreFault::Failed(failure));
         }
         let next = Shot::settled(self.alloc, self.written())?;
-        self.go_on(next)
+        self.go_on(next, failure)
     }
 }

@@ -1,8 +1,9 @@
 //! The content of a store in memory at a moment.
 ghost use Rattle.std.specs.Prelude.{◌≡◌, ◌≤◌, ℕ, List, [], ◌++◌, length, take, IfOk, IfSome};
 
-use crate::store::StoreFault;
+use crate::store::{StoreFailure, StoreFault};
 use std::alloc::{AllocError, Global};
+use std::io::{self, ErrorKind};
 
 /// The bytes on the disk, and those that were written.
 #[derive(Drop)]
@@ -41,7 +42,8 @@ impl Shot {
         ensures left { IfOk result (λ shot. (content : List ℕ) → IsLeft shot content → StepsTo (IsLeft self.now) (IsTorn bytes.now) content) }
     {
         if bytes.len() > usize::MAX - self.loose {
-            return Err(StoreFault::Failed);
+            let cause = io::Error::from(ErrorKind::FileTooLarge);
+            return Err(StoreFault::Failed(StoreFailure::Append { cause }));
         }
         let mut written = self.written.to_vec(alloc)?;
         written.extend_from_slice(bytes)?;
@@ -60,7 +62,8 @@ impl Shot {
         ensures left { IfOk result (λ shot. (content : List ℕ) → IsLeft shot content → StepsTo (IsLeft self.now) (IsCut least) content) }
     {
         if self.loose > 0 {
-            return Err(StoreFault::Failed);
+            let cause = io::Error::other("bytes were appended since the last sync");
+            return Err(StoreFault::Failed(StoreFailure::Cut { cause }));
         }
         let mut written = self.written.to_vec(alloc)?;
         written.truncate(least);

@@ -1,18 +1,40 @@
 //! The calls of a store, and what it promises.
 ghost use Rattle.std.specs.Prelude.{◌≡◌, ◌≤◌, ◌⊎◌, ℕ, List, ◌++◌, length, take, IfOk, OnOk};
-ghost use Rattle.journal_store.specs.declared.store.StoreFault.TheVariants.{NoMemory};
+ghost use Rattle.journal_store.specs.declared.store.StoreFault.TheVariants.{NoMemory, Failed};
 ghost use Rattle.journal_store.specs.Store.{written_now, MayLeave, IsSynced, Passes, IsTorn, IsCut, StepsTo, IsPiece};
 
 use std::alloc::{AllocError, AllocFailed};
+use std::io;
 use thiserror::Error;
 
+/// What a store did not do, and why.
+#[derive(Clone, Copy, Debug, Drop, Error)]
+pub enum StoreFailure {
+    #[error("the journal was not read: {cause}")]
+    Read { cause: io::Error },
+    #[error("the journal was not written: {cause}")]
+    Append { cause: io::Error },
+    #[error("the journal was not cut: {cause}")]
+    Cut { cause: io::Error },
+    #[error("the journal was not synced: {cause}")]
+    Sync { cause: io::Error },
+}
+
 /// Why a call of a store failed.
-#[derive(Clone, Copy, Debug, Drop, PartialEq, Eq, Error)]
+#[derive(Clone, Copy, Debug, Drop, Error)]
 pub enum StoreFault {
     #[error("out of memory")]
     NoMemory,
-    #[error("the file was not read, written or synced")]
-    Failed,
+    #[error("{0}")]
+    Failed(StoreFailure),
+}
+
+impl From<StoreFailure> for StoreFault {
+    ghost from_gives = { λ failure why. why ≡ Failed failure };
+
+    fn from(failure: StoreFailure) -> StoreFault {
+        StoreFault::Failed(failure)
+    }
 }
 
 impl From<AllocError> for StoreFault {

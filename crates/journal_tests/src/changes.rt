@@ -50,7 +50,7 @@ fn change_bytes<R: Abort>(
                     }
                 }
                 Err(RecoverFault::Damaged(told)) => assert_eq!(rt; told, line),
-                Err(fault) => assert!(rt; line == 1 && fault == RecoverFault::Foreign),
+                Err(fault) => assert!(rt; line == 1 && matches!(fault, RecoverFault::Foreign)),
             }
         }
         if *byte == b'\n' {

@@ -8,29 +8,43 @@ use journal_store::{FileStore, OpenFailure};
 use std::fs::File;
 use std::io;
 
-/// Returns how the program ends when lines were served, and tells what has failed.
-fn ending(rt: &HostRuntime, served: Result<(), ServeFault>) -> Status {
+/// Returns how the program ends when lines were served, and tells what has failed. The journal has this path.
+fn ending(rt: &HostRuntime, path: &str, served: Result<(), ServeFault>) -> Status {
     match served {
-        Ok(()) => Status::Done,
-        Err(ServeFault::NoMemory) => Status::NoMemory,
+        Ok(()) => return Status::Done,
+        Err(ServeFault::NoMemory) => return Status::NoMemory,
+        Err(ServeFault::NotKept(failure)) => {
+            let _ = eprintln!(rt; "error: {path}: {failure}");
+        }
         Err(fault) => {
             let _ = eprintln!(rt; "error: {fault}");
-            Status::Failed
         }
     }
+    Status::Failed
 }
 
-/// Returns how the program ends when a journal was not recovered, and tells why.
-fn unrecovered(rt: &HostRuntime, fault: RecoverFault) -> Status {
+/// Returns how the program ends when the journal with this path was not recovered, and tells why.
+fn unrecovered(rt: &HostRuntime, path: &str, fault: RecoverFault) -> Status {
     let status = match fault {
         RecoverFault::NoMemory => return Status::NoMemory,
-        RecoverFault::Failed => Status::Failed,
+        RecoverFault::Failed(_) => Status::Failed,
         RecoverFault::Foreign | RecoverFault::Damaged(_) | RecoverFault::Unfit(_) => {
             Status::Damaged
         }
     };
-    let _ = eprintln!(rt; "error: {fault}");
+    let _ = eprintln!(rt; "error: {path}: {fault}");
     status
+}
+
+/// Returns how the program ends when the journal with this path was not opened, and tells why.
+fn unopened(rt: &HostRuntime, path: &str, failure: OpenFailure) -> Status {
+    let _ = eprintln!(rt; "error: {path}: {failure}");
+    match failure {
+        OpenFailure::InUse => Status::InUse,
+        OpenFailure::File { .. } | OpenFailure::Lock { .. } | OpenFailure::Folder { .. } => {
+            Status::Failed
+        }
+    }
 }
 
 /// Serves each line of standard input, which is the journal.
@@ -43,11 +57,11 @@ pub fn serve_input(rt: &HostRuntime) -> Status {
         &mut io::writer(rt),
     );
     session.close();
-    ending(rt, served)
+    ending(rt, "-", served)
 }
 
-/// Recovers what the journal in a store leads to, and serves each line of standard input.
-fn serve_store(rt: &HostRuntime, store: FileStore) -> Status {
+/// Recovers what the journal in a store leads to, and serves each line of standard input. The journal has this path.
+fn serve_store(rt: &HostRuntime, path: &str, store: FileStore) -> Status {
     let mut session = Keeper::new();
     let mut journal = Journal::new(store);
     let resumed = resume(
@@ -60,14 +74,14 @@ fn serve_store(rt: &HostRuntime, store: FileStore) -> Status {
     session.close();
     match resumed {
         Ok(()) => Status::Done,
-        Err(ResumeFault::Unserved(fault)) => ending(rt, Err(fault)),
-        Err(ResumeFault::Unrecovered(fault)) => unrecovered(rt, fault),
+        Err(ResumeFault::Unserved(fault)) => ending(rt, path, Err(fault)),
+        Err(ResumeFault::Unrecovered(fault)) => unrecovered(rt, path, fault),
     }
 }
 
 /// Opens some file for reading.
 fn open_any(rt: &HostRuntime) -> Result<File, OpenFailure> {
-    File::open(rt, "/").or(Err(OpenFailure::Failed))
+    File::open(rt, "/").map_err(|cause| OpenFailure::File { cause })
 }
 
 /// Opens a journal. Its file does not get the number of a standard stream that is closed: other files have those numbers until it is open.
@@ -82,14 +96,7 @@ fn open_store(rt: &HostRuntime, path: &str) -> Result<FileStore, OpenFailure> {
 /// Serves each line of standard input, and keeps those that change something in a file.
 pub fn serve_journal(rt: &HostRuntime, path: &str) -> Status {
     match open_store(rt, path) {
-        Ok(store) => serve_store(rt, store),
-        Err(OpenFailure::InUse) => {
-            let _ = rt.eprintln("error: another process has the journal");
-            Status::InUse
-        }
-        Err(OpenFailure::Failed) => {
-            let _ = rt.eprintln("error: the journal was not opened");
-            Status::Failed
-        }
+        Ok(store) => serve_store(rt, path, store),
+        Err(failure) => unopened(rt, path, failure),
     }
 }
