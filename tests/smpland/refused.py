@@ -28,7 +28,8 @@ ASKED = [
 ]
 ODD = [b"", b"{", b'{"do":"hello","id":1.5}', b'{"do":"open","document":{},"journal":"1","epoch":0}']
 
-# What the program says of a call on the journal that has failed. (A seek is a part of a read or a write.)
+# What the program says of a call that has failed: on a stream, and on the journal. (A seek is a part of a read or a write.)
+SAID_OF_STREAMS = {"read-input": "the input was not read", "write-output": "the output was not written"}
 SAID = {
     "open": "the journal was not opened", "open-folder": "the folder of the journal was not opened", "lock": "the journal was not locked",
     "seek": "the journal was not ", "read": "the journal was not read", "write": "the journal was not written", "cut": "the journal was not cut",
@@ -127,11 +128,12 @@ class Fault(NamedTuple):
 
     def said(self, journal: Path) -> list[str]:
         """Returns what standard error says of a call that was refused: the journal, what was not done, and why."""
-        if self.kind not in SAID:
-            return ["error: "]
+        if self.kind == "allocation":
+            return ["error: out of memory"]
         if self.status == 5:
             return [f"error: {journal}: another process has the journal\n"]
-        return [f"error: {journal}: {SAID[self.kind]}", os.strerror(28 if self.how == "half" else int(self.how))]
+        where = f"{journal}: {SAID[self.kind]}" if self.kind in SAID else SAID_OF_STREAMS[self.kind]
+        return [f"error: {where}", os.strerror(28 if self.how == "half" else int(self.how))]
 
 
 class Trial:

@@ -6,6 +6,7 @@ ghost use Rattle.journal_session.specs.Faults.{recover_fault_of, serve_fault_of}
 
 use journal_store::{StoreFailure, StoreFault};
 use std::alloc::AllocError;
+use std::io;
 use thiserror::Error;
 
 /// The reasons why a journal was not recovered.
@@ -49,10 +50,10 @@ impl From<StoreFault> for RecoverFault {
 pub enum ServeFault {
     #[error("out of memory")]
     NoMemory,
-    #[error("the input was not read")]
-    ReadFailed,
-    #[error("the output was not written")]
-    WriteFailed,
+    #[error("the input was not read: {cause}")]
+    ReadFailed { cause: io::Error },
+    #[error("the output was not written: {cause}")]
+    WriteFailed { cause: io::Error },
     #[error("{0}")]
     NotKept(StoreFailure),
 }

@@ -17,7 +17,7 @@ use crate::writing::write_out;
 use journal::Journal;
 use journal_store::Store;
 use std::alloc::Global;
-use std::io::{ErrorKind, Read, Write};
+use std::io::{self, ErrorKind, Read, Write};
 
 /// The number of bytes that one read asks for.
 const PIECE: usize = 1 << 16;
@@ -36,11 +36,11 @@ fn read_piece<R: Read>(reader: &mut R, piece: &mut Vec<u8>) -> Result<Option<usi
             piece.truncate(count);
             Ok(Some(count))
         }
-        Err(error) => {
-            if error.kind() == ErrorKind::Interrupted {
+        Err(cause) => {
+            if cause.kind() == ErrorKind::Interrupted {
                 Ok(None)
             } else {
-                Err(ServeFault::ReadFailed)
+                Err(ServeFault::ReadFailed { cause })
             }
         }
     }
@@ -110,7 +110,9 @@ pub fn serve<S: Store, A: Applies, R: Read, W: Write>(
         turn.take_piece(alloc, state, &mut pending, bytes)?;
         end_turn(alloc, journal, &mut turn, writer)?;
     }
-    Err(ServeFault::ReadFailed)
+    Err(ServeFault::ReadFailed {
+        cause: io::Error::from(ErrorKind::FileTooLarge),
+    })
 }
 
 /// Serves each line of the input, to its end. The input itself is the journal.
@@ -143,5 +145,7 @@ pub fn serve_unkept<A: Applies, R: Read, W: Write>(
         write_out(writer, told)?;
         turn.clear();
     }
-    Err(ServeFault::ReadFailed)
+    Err(ServeFault::ReadFailed {
+        cause: io::Error::from(ErrorKind::FileTooLarge),
+    })
 }

@@ -4,7 +4,14 @@ ghost use Rattle.std.specs.Io.KnownBytes.{Appends, Keeps};
 ghost use Rattle.journal_session.specs.Session.{GrowsWithin};
 
 use crate::fault::ServeFault;
-use std::io::{ErrorKind, Write};
+use std::io::{self, ErrorKind, Write};
+
+/// Returns what is said of an output that takes no byte.
+fn nothing_written() -> ServeFault {
+    ServeFault::WriteFailed {
+        cause: io::Error::from(ErrorKind::WriteZero),
+    }
+}
 
 /// Flushes what was written.
 fn flush<W: Write>(writer: &mut W) -> Result<(), ServeFault>
@@ -12,7 +19,7 @@ fn flush<W: Write>(writer: &mut W) -> Result<(), ServeFault>
 {
     match writer.flush() {
         Ok(()) => Ok(()),
-        Err(_) => Err(ServeFault::WriteFailed),
+        Err(cause) => Err(ServeFault::WriteFailed { cause }),
     }
 }
 
@@ -22,13 +29,13 @@ fn write_some<W: Write>(writer: &mut W, bytes: &[u8]) -> Result<usize, ServeFaul
     ensures none { OnErr result (Keeps (W.contents writer.old) (W.contents writer.new)) }
 {
     match writer.write(bytes) {
-        Ok(0) => Err(ServeFault::WriteFailed),
+        Ok(0) => Err(nothing_written()),
         Ok(count) => Ok(count),
-        Err(error) => {
-            if error.kind() == ErrorKind::Interrupted {
+        Err(cause) => {
+            if cause.kind() == ErrorKind::Interrupted {
                 Ok(0)
             } else {
-                Err(ServeFault::WriteFailed)
+                Err(ServeFault::WriteFailed { cause })
             }
         }
     }
@@ -47,5 +54,5 @@ pub fn write_out<W: Write>(writer: &mut W, bytes: &[u8]) -> Result<(), ServeFaul
         let count = write_some(writer, rest)?;
         rest = &rest[count..];
     }
-    Err(ServeFault::WriteFailed)
+    Err(nothing_written())
 }
