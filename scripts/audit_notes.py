@@ -150,7 +150,7 @@ NOTES = {
     "Driver::new_epoch": NOTHING,
     "OngoingReopening::fenced": NOTHING,
     "OngoingReopening::confirm": NOTHING,
-    "Session::apply": "how a line is read, and which text a reply is",
+    "Session::apply": "that each line that says a command is taken, and what other replies tell",
     "Session::replay": "how an entry is read",
 }
 
