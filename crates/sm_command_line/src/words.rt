@@ -2,7 +2,7 @@
 ghost use Rattle.std.specs.Prelude.{◌≡◌, ◌≢◌, Some, None, IfOk, IfErr, map};
 ghost use Rattle.clap.specs.Words.{app_of, fault_of, kind_of};
 ghost use Rattle.clap.specs.Walk.{texts};
-ghost use Rattle.sm_command_line.specs.CommandLine.{command_named, word_named, asked_for, first_words, program, Tells, TellsKind};
+ghost use Rattle.sm_command_line.specs.CommandLine.{command_named, word_named, asked_for, wordless, first_words, program, Tells, TellsKind};
 
 use clap::error::ErrorKind;
 use clap::{Command as Parser, Error as ParserError};
@@ -26,9 +26,27 @@ pub enum LineFault {
     /// Help was asked for.
     #[error("{text}")]
     Help { text: String },
+    /// The version was asked for.
+    #[error("{text}")]
+    Version { text: String },
     /// The words are no command line of the program.
     #[error("{text}")]
     Bad { text: String },
+}
+
+/// Describes the program, with no word yet.
+fn wordless<'a>(alloc: Global) -> Result<Parser<'a>, AllocError>
+    ensures { IfOk result (λ p. app_of p ≡ wordless) }
+{
+    let parser = Parser::new(alloc, "smplan")
+        .bin_name("smplan")?
+        .version("1.0")
+        .about(
+            "Reads a JSON document of a placement on standard input (smplan COMMAND < FILE), and prints a report of it. docs/FORMATS.md of its repository describes documents, and examples/ has some",
+        )
+        .no_binary_name(true)
+        .subcommand_required(true);
+    Ok(parser)
 }
 
 /// Returns the words for calls and for checks.
@@ -41,15 +59,7 @@ fn first_words<'a>(alloc: Global) -> Result<Parser<'a>, AllocError>
     let check = Parser::new(alloc, "check").about(
         "Checks the plan of the document on standard input, and prints that it is accepted or why it is not",
     );
-    Parser::new(alloc, "smplan")
-        .bin_name("smplan")?
-        .about(
-            "smplan 1.0 reads a JSON document of a placement on standard input (smplan COMMAND < FILE), and prints a report of it. docs/FORMATS.md of its repository describes documents, and examples/ has some",
-        )
-        .no_binary_name(true)
-        .subcommand_required(true)
-        .subcommand(calls)?
-        .subcommand(check)
+    wordless(alloc)?.subcommand(calls)?.subcommand(check)
 }
 
 /// Describes the command line: one word, the name of a command.
@@ -81,6 +91,7 @@ fn fault_in(alloc: Global, error: &ParserError) -> LineFault
     match error.kind() {
         ErrorKind::OutOfMemory => LineFault::NoMemory,
         ErrorKind::DisplayHelp => LineFault::Help { text },
+        ErrorKind::DisplayVersion => LineFault::Version { text },
         _ => LineFault::Bad { text },
     }
 }

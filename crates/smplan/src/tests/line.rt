@@ -16,7 +16,7 @@ fn knows_the_commands(rt: HostRuntime) {
     assert!(rt; word.is_ok_and(|word| word == Word::Run));
 }
 
-static BAD: [&[&str]; 12] = [
+static BAD: [&[&str]; 13] = [
     &[],
     &["chat"],
     &["calls", "check"],
@@ -27,7 +27,8 @@ static BAD: [&[&str]; 12] = [
     &["calls", "--quiet"],
     &["calls", "--"],
     &["--", "calls"],
-    &["--version"],
+    &["calls", "--version"],
+    &["version"],
     &[""],
 ];
 
@@ -57,6 +58,17 @@ static HELP: [&[&str]; 11] = [
 fn gives_help(rt: HostRuntime) {
     for words in &HELP {
         let told = matches!(command_of(rt.alloc(), *words), Err(LineFault::Help { .. }));
+        assert!(rt; told, "{words:?}");
+    }
+}
+
+#[test]
+fn gives_the_version(rt: HostRuntime) {
+    for words in [&["--version"], &["-V"]] {
+        let told = matches!(
+            command_of(rt.alloc(), words),
+            Err(LineFault::Version { .. })
+        );
         assert!(rt; told, "{words:?}");
     }
 }
