@@ -25,8 +25,11 @@ PARTS = (
     (0.05, "restart_server"), (0.15, "kill_leader"), (0.3, "restart_server"), (0.4, "crash_server"), (0.5, "freeze_leader"), (0.55, "restart_server"),
     (0.7, "lose_server"),
 )
+# (a server that goes down without leave and has its slots again is one that crashed)
+FORGETTING = tuple((share, "forget" if name == "restart_server" else name) for share, name in PARTS)
 REOPENINGS = ((0.05, "reopen_amid_passing"), (0.3, "reopen_amid_passing"), (0.6, "reopen_amid_passing"))
 PARTS_OF = {
+    "restart-without-approval": FORGETTING,
     "new-journal-without-reopening": ((0.5, "open_anew"),),
     "restore-without-nonce": ((0.05, "forget_twice"), (0.3, "forget_twice"), (0.6, "forget_twice")),
     "change-while-writing": ((0.3, "kill_leader"), (0.6, "crash_server")),

@@ -251,6 +251,10 @@ class Story:
         for channel in channels:
             channel.close()
 
+    async def forget(self) -> None:
+        """Restarts a server, which loses its slots."""
+        await self.restart_server(True)
+
     async def forget_twice(self) -> None:
         """Restarts a server twice, without its slots, while copies of messages to it come late. Those about the first restore come once it has lost its slots again."""
         server = self.dice.choice(self.alive)

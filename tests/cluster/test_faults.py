@@ -5,14 +5,17 @@ import logging
 import unittest
 from collections import Counter
 
+from cluster.catch import PARTS, PARTS_OF
 from cluster.faults.__main__ import release, sending
 from cluster.faults.dice import Dice, Rates
+from cluster.faults.handovers import HandoverStory
 from cluster.faults.proxies import Link, open_proxy
 from cluster.launch.figures import handover_waits, order_waits, unacknowledged
 from cluster.launch.moving import Mover
 from cluster.launch.processes import Ports
 from cluster.launch.shape import Shape, document_of
 from cluster.launch.situations import SITUATIONS, situations_of
+from cluster.storm import parts_of
 
 
 async def echo(reader, writer):
@@ -185,6 +188,18 @@ class PortsTest(unittest.TestCase):
         self.assertEqual(len(guards), 2)
         self.assertFalse(set(guards) & set(others))
         other.end()
+
+
+class PartsTest(unittest.TestCase):
+    """What happens in runs."""
+
+    def test_there_is_something_to_do_each(self):
+        for parts in (PARTS, *PARTS_OF.values(), *(parts_of(seed) for seed in range(6))):
+            self.assertEqual([name for _, name in parts if name != "drain" and not hasattr(HandoverStory, name)], [])
+
+    def test_servers_restarted_without_leave_lose_their_slots(self):
+        names = [name for _, name in PARTS_OF["restart-without-approval"]]
+        self.assertEqual((names.count("forget"), names.count("restart_server")), (3, 0))
 
 
 class SituationsTest(unittest.TestCase):
