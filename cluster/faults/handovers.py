@@ -3,6 +3,7 @@ from __future__ import annotations
 
 import asyncio
 import time
+from collections import Counter
 from collections.abc import AsyncIterator, Awaitable, Callable
 from contextlib import AsyncExitStack, asynccontextmanager
 from dataclasses import dataclass
@@ -26,6 +27,16 @@ class Handovers:
 
 # Does harm for a while, to the new owner (named first) and the old ones of handovers.
 Harm = Callable[[AsyncExitStack, str, set[str]], Awaitable[None]]
+# A shard that a server has, its state and its last write.
+Replica = tuple[str, str, int]
+
+
+def has_all(replicas: list[Replica], written: list[Replica]) -> bool:
+    """Tells whether some replicas have what some others of their shards have. (One that was the primary until now counts, too.)"""
+    roles, positions = ("primary", "secondary"), Counter[str]()
+    for shard, state, position in written:
+        positions[shard] = max(positions[shard], position if state in roles else 0)
+    return all(position >= positions[shard] for shard, state, position in replicas if state in roles)
 
 
 class HandoverStory(Story):
@@ -38,7 +49,7 @@ class HandoverStory(Story):
         one; or that server is lost between fence and settle of a reopening, and another one takes its place. Tells whether it came to that."""
         how = self.dice.choice(("once", "twice", "fenced", "fenced"))
         async with self.restarting:
-            await self.wait_for_replicas()
+            await self.wait_for_replicas(self.alive)
             until = time.monotonic() + self.operator.patience
             while time.monotonic() < until:
                 found = await self.lose_in_handover(target, how == "fenced")
@@ -48,38 +59,46 @@ class HandoverStory(Story):
                 await asyncio.sleep(0.3)
             return False
 
-    async def wait_for_replicas(self, seconds: float = 20.0) -> None:
-        """Waits until secondaries have what their primaries have. A server that was away for long was not waited for, so that the loss of another one would take
-        acknowledged writes along."""
+    async def wait_for_replicas(self, servers: list[str], seconds: float = 20.0) -> bool:
+        """Waits until all replicas have what these servers have, and tells whether they do. A server that was away for long was not waited for, so that the loss of
+        another one would take acknowledged writes along."""
         until = time.monotonic() + seconds
         while time.monotonic() < until:
-            primaries = {name: position for name, state, position in await self.replicas() if state == "primary"}
-            if all(position >= primaries.get(name, 0) for name, state, position in await self.replicas() if state == "secondary"):
-                break
+            written, replicas = await self.replicas(servers), await self.replicas(self.alive)
+            if written is not None and replicas is not None and has_all(replicas, written):
+                return True
             await asyncio.sleep(0.2)
+        return False
 
-    async def replicas(self) -> list[tuple[str, str, int]]:
-        """The replicas as the servers have them: the shard, the state and the last write."""
-        found = []
-        for name in self.alive:
-            slots = (await self.tell_server(name, audit={})).get("audit", {}).get("slots", [])
-            found += [(it["shard"], it["state"], it["position"]) for it in slots]
-        return found
+    async def replicas(self, servers: list[str]) -> list[Replica] | None:
+        """The replicas as these servers have them, or None if one of them does not answer."""
+        audits = [(await self.tell_server(name, audit={})).get("audit") for name in servers]
+        if not all(audits):
+            return None
+        return [(it["shard"], it["state"], it["position"]) for audit in audits for it in audit.get("slots", [])]
 
     async def lose_in_handover(self, target: str | None, is_fenced: bool) -> Handovers | None:
         """Kills the new owner of a handover for good, while orders to the old one are held back."""
         async with self.held_handovers(1, target) as found:
-            if found is None or (is_fenced and not await self.fence_first(found)):
+            if found is None or (is_fenced and not await self.fence_first(found)) or not await self.kill_for_good(found.new):
                 return None
             ((shard, old),) = found.olds.items()
-            self.tell(f"kill -9 {found.new} for good, which is to take {shard} from {old}{', and is fenced' if is_fenced else ''}")
-            await self.cluster.processes[found.new].kill()
+            self.tell(f"killed {found.new} for good, which is to take {shard} from {old}{', and is fenced' if is_fenced else ''}")
             self.lost.add(found.new)
             self.forsaken |= set(found.olds)
             self.mover.avoided.add(found.new)
             self.counts["servers lost in a handover"] += 1
             self.counts["servers lost between fence and settle"] += is_fenced
             return found
+
+    async def kill_for_good(self, server: str, seconds: float = 4.0) -> bool:
+        """Kills a server once nobody else lacks a write that it executed, and lets it acknowledge none meanwhile: a secondary that it has ceased to wait for would
+        not have it. Tells whether it came to that."""
+        async with self.cut(f"client clients {server}"):
+            if not await self.wait_for_replicas([server], seconds):
+                return False
+            await self.cluster.processes[server].kill()
+            return True
 
     async def fence_first(self, found: Handovers) -> bool:
         """Begins a reopening without a loss, and waits until the new owner is fenced. The old one hears nothing of it, so nobody is settled."""

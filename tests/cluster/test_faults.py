@@ -4,6 +4,7 @@ import json
 import logging
 import unittest
 from collections import Counter
+from types import SimpleNamespace
 
 from cluster.catch import PARTS, PARTS_OF
 from cluster.faults.__main__ import release, sending
@@ -200,6 +201,43 @@ class PartsTest(unittest.TestCase):
     def test_servers_restarted_without_leave_lose_their_slots(self):
         names = [name for _, name in PARTS_OF["restart-without-approval"]]
         self.assertEqual((names.count("forget"), names.count("restart_server")), (3, 0))
+
+
+class LossTest(unittest.IsolatedAsyncioTestCase):
+    """A server that is killed for good, a, which is the primary of a shard or was it until now, and has executed three writes of it."""
+
+    def story(self, positions, state="primary"):
+        """A story in which a is in this state, and the secondary b tells one of these positions after the other, and is silent if it is None. What is done is
+        noted."""
+        done, left = [], list(positions)
+
+        async def tell_proxies(links, cut):
+            done.append((links, cut))
+
+        async def kill():
+            done.append("kill")
+
+        async def tell_server(name, audit):
+            position = 3 if name == "a" else left.pop(0) if len(left) > 1 else left[0]
+            slot = {"shard": "s", "state": state if name == "a" else "secondary", "position": position}
+            return {} if position is None else {"audit": {"slots": [slot]}}
+
+        cluster = SimpleNamespace(shape=Shape(servers=2), processes={"a": SimpleNamespace(kill=kill)}, tell_proxies=tell_proxies)
+        story = HandoverStory(cluster, SimpleNamespace(), None, 1, lambda text: None)
+        story.tell_server = tell_server
+        return story, done
+
+    async def test_none_is_lost_that_has_what_others_lack(self):
+        for state in ("primary", "secondary"):
+            story, done = self.story([2], state)
+            self.assertFalse(await story.kill_for_good("a", 0.5))
+            self.assertNotIn("kill", done)
+
+    async def test_it_acknowledges_nothing_while_others_are_waited_for(self):
+        story, done = self.story([None, 2, 3])
+        self.assertTrue(await story.kill_for_good("a", 5.0))
+        links = ("client clients a",)
+        self.assertEqual(done, [(links, True), "kill", (links, False)])
 
 
 class SituationsTest(unittest.TestCase):
