@@ -7,7 +7,7 @@ use std::alloc::{AllocError, AllocFailed};
 use std::io;
 use thiserror::Error;
 
-/// What a store did not do, and why.
+/// The step that a store did not take, with its cause.
 #[derive(Clone, Copy, Debug, Drop, Error)]
 pub enum StoreFailure {
     #[error("the journal was not read: {cause}")]

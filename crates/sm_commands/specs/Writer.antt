@@ -1,4 +1,4 @@
--- What is written of a reply.
+-- The part of a reply that is written.
 use Rattle.std.specs.Prelude.{◌≢◌, ℕ, List, All, refl}
 use Rattle.std.specs.Coded.{Coded, code_by}
 use Rattle.json.specs.Token.{Token, tokens_code}

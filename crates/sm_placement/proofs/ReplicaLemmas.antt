@@ -1,4 +1,4 @@
--- Who has a replica by a table's entries: read, and after one cell is set.
+-- A table's entries tell which servers have replicas: how they are read, and how they change when one cell is set.
 use Rattle.std.proofs.Common.{◌≡◌, ℕ, ◌+◌, ◌*◌, ◌<◌, ◌≤◌, Bool, List, length, refl, sym, ap, ◌∙◌, arith, inl, inr}
 use Rattle.std.proofs.Math.Path.{fun_ext}
 use Rattle.std.proofs.lemmas.Bool.{cases_eq}

@@ -1,4 +1,4 @@
--- Who has a replica of what, as a list with an entry for each server and shard.
+-- The servers that have replicas, as a list with an entry for each server and shard.
 -- Internal definitions: you need not read them for the public contracts.
 use Rattle.std.specs.Prelude.{ℕ, Bool, false, List}
 use Rattle.sm_placement.specs.Layout.{grid_of}

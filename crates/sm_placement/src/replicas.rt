@@ -1,4 +1,4 @@
-//! Who has a replica of what, an entry for each server and shard.
+//! The servers that have replicas: an entry for each server and shard.
 ghost use Rattle.std.specs.Prelude.{◌≡◌, ◌<◌, ◌+◌, ◌*◌, ◌^◌, false, length, replicate, IfOk};
 ghost use Rattle.sm_placement.specs.Sums.{put2};
 ghost use Rattle.sm_placement.specs.Replicas.{replicas_by};

@@ -5,7 +5,7 @@ use Rattle.sm_server.specs.declared.call.Refusal.{Refusal}
 use Rattle.sm_server.specs.declared.call.Refusal.TheVariants.{Down, AlreadyHeld, NotHeld, WrongRole, NoRoom}
 use Rattle.sm_report_text.specs.Lines.{line}
 
--- the number of a refusal: if several apply, the one of the lowest number is answered
+-- the number of a refusal; if several apply, the lowest is answered
 abbrev pub refusal_number : Refusal → ℕ
 refusal_number Down = 1
 refusal_number AlreadyHeld = 2

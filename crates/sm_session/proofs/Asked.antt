@@ -1,4 +1,4 @@
--- What a line asks for is what is done.
+-- A session does the command that its line asks for.
 use Rattle.std.proofs.Common.{◌≡◌, ◌∙◌, Bool, true, false, ℕ, List, Option, Some, None, Result, Ok, Err, IfOk, ap, refl, subst, sym}
 use Rattle.std.specs.Prelude.{IfSome, is_some}
 use Rattle.json.specs.Token.{Token}

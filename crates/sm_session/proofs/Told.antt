@@ -1,4 +1,4 @@
--- What is told of a line.
+-- Replies tell what lines have done.
 use Rattle.std.proofs.Common.{◌≡◌, ◌∙◌, ◌++◌, ◌∷◌, [], Bool, true, false, ℕ, List, Option, Some, None, Result, Ok, Err, IfOk, ap, refl, string_bytes, subst, sym}
 use Rattle.json.specs.Token.{Token}
 use Rattle.json.specs.Print.{print}
@@ -28,7 +28,7 @@ replied old new effect before after text first members is line e none changed = 
   },
 )
 
--- what is told of the open journal, behind what was there before a call that told nothing
+-- if a call told nothing, the reply after it tells the open journal behind what stood before the call
 pub told_opened : (new : Option Opened) (before mid after : List Token) → mid ≡ before → TellsOpened new mid after → TellsOpened new before after
 told_opened new before mid after quiet told = subst (λ (ts : List Token). TellsOpened new ts after) quiet told
 

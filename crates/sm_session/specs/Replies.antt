@@ -1,4 +1,4 @@
--- Replies to lines: what is told of a line that changed something, by what it has done.
+-- Replies to lines. If a line changed something, its reply tells the change.
 -- `ignored_answer` is internal: you need not read it for the public contracts.
 use Rattle.std.specs.Prelude.{◌≡◌, ℕ, ◌||◌, Bool, List, [], ◌++◌, Option, Some, None, codes, if◌then◌else◌, string_bytes, true}
 use Rattle.json.specs.Token.{Token}
@@ -50,7 +50,7 @@ TellsUp old new before after =
 abbrev pub TellsNext : DriverModel → DriverModel → List ℕ → List Token → List Token → Type 0
 TellsNext old new journal before after = OpensNext old new × (after ≡ before ++ opened_member journal new)
 
--- The effect of a command on the driver of an open journal, and what is told of it. A restore is told too: not said here.
+-- A command changes the driver of an open journal, and its reply tells the change. Of a restore no text is said here.
 pub data TellsChange (old new : DriverModel) (journal : List ℕ) (before after : List Token) : Type 0 where
   Begun : TellsBegun old new journal before after → TellsChange old new journal before after
   Moved : TellsMoved old new journal before after → TellsChange old new journal before after
@@ -59,18 +59,18 @@ pub data TellsChange (old new : DriverModel) (journal : List ℕ) (before after 
   Restored : RestoresServer old new → TellsChange old new journal before after
   Next : TellsNext old new journal before after → TellsChange old new journal before after
 
--- what is told of the journal that is open
+-- the reply tells the journal that is open
 abbrev pub TellsOpened : Option Opened → List Token → List Token → Type 0
 TellsOpened (Some o) before after = after ≡ before ++ opened_member (string_bytes o.journal) o.driver
 TellsOpened None before after = ⊥
 
--- what is told of a command on an open journal, or of its first opening
+-- the reply tells a command on an open journal, or its first opening
 abbrev pub TellsDriven : Option Opened → Option Opened → List Token → List Token → Type 0
 TellsDriven None new before after = TellsOpened new before after
 TellsDriven (Some old) (Some new) before after = TellsChange old.driver new.driver (string_bytes new.journal) before after
 TellsDriven (Some old) None before after = ⊥
 
--- What is told of a line that changed something. Of a reopening it is said only that the last settle tells that the journal is open.
+-- The reply to a line that changed something. Of a reopening's lines only the last settle's text is said: the journal is open.
 pub data TellsChanges (opened : Option Opened) (under : Option UnderWay) (new : Option Opened) (after_it : Option UnderWay) (before after : List Token) : Type 0 where
   Drives : under ≡ None → after_it ≡ None → TellsDriven opened new before after → TellsChanges opened under new after_it before after
   Reopens : HasReopened opened under after_it → TellsChanges opened under new after_it before after
