@@ -5,6 +5,10 @@ use Rattle.sm_protocol.specs.declared.event.Played.{Played}
 use Rattle.sm_protocol.specs.declared.event.Played.TheVariants as played
 use Rattle.sm_protocol.specs.Steps.{Answered}
 use Rattle.sm_protocol.specs.Happens.{Happening, happens}
+use Rattle.sm_protocol.specs.Laws.{NamesKnown}
+use Rattle.sm_protocol.specs.declared.event.Event.{Event}
+use Rattle.sm_protocol.specs.declared.event.Event.TheVariants as event
+use Rattle.sm_placement.specs.Setup.{Sizes}
 use Rattle.sm_machine.specs.Machine.{MachineModel}
 use Rattle.sm_machine.specs.State.{state_of}
 
@@ -28,3 +32,9 @@ pub record IsDirected (m : MachineModel) (e : Happening) (answer : Played) (n : 
 abbrev pub IsDirectedIf : MachineModel → Option Happening → Played → MachineModel → Type 0
 IsDirectedIf m None answer n = (answer ≡ played.Unknown) × (n ≡ m)
 IsDirectedIf m (Some e) answer n = IsDirected m e answer n
+
+-- The event names known shards and servers, and a refill is within its limit. The end of a restart may name any server: nothing has ended if
+-- the server is unknown.
+abbrev pub CanDirect : Sizes → Event → Type 0
+CanDirect c (event.Done v) = Unit {0}
+CanDirect c e = NamesKnown c e

@@ -8,10 +8,9 @@ ghost use Rattle.sm_protocol.specs.declared.event.BeginFault.TheVariants as faul
 ghost use Rattle.sm_protocol.specs.declared.event.Played.TheVariants as played;
 ghost use Rattle.sm_protocol.specs.Happens as happening;
 ghost use Rattle.sm_protocol.specs.State.{opened};
-ghost use Rattle.sm_protocol.specs.Laws.{NamesKnown};
 ghost use Rattle.sm_protocol.specs.Log.{named};
 ghost use Rattle.sm_machine.specs.State.{state_of};
-ghost use Rattle.sm_machine.specs.Director.{IsDirected, IsDirectedIf};
+ghost use Rattle.sm_machine.specs.Director.{CanDirect, IsDirected, IsDirectedIf};
 ghost use Rattle.sm_machine.specs.declared.open_fault.OpenFault.TheVariants.{LogFull};
 ghost use Rattle.sm_plan_code.specs.declared.limits.TheConstants.{MOST_PLACES};
 
@@ -69,12 +68,12 @@ impl Director {
         &self.machine
     }
 
-    /// Plays an event, for which all rights are there. An event that names nothing is Unknown, and so is a start:
-    /// `start` makes one.
+    /// Plays an event, for which all rights are there. An event that names nothing is Unknown, as is the end of a
+    /// restart of an unknown server, and so is a start: `start` makes one.
     ///
     /// Takes no memory.
     pub fn play(&mut self, event: Event) -> Played
-        requires { NamesKnown (state_of self.old).sizes event }
+        requires { CanDirect (state_of self.old).sizes event }
         ensures { IsDirectedIf self.old (named (state_of self.old) event) result self.new }
     {
         self.machine.play_named(event)

@@ -2,11 +2,10 @@
 ghost use Rattle.std.specs.Prelude.{◌≡◌, ◌≤◌, ◌<◌, None, option_map, slice_index_or};
 ghost use Rattle.sm_plan_code.specs.declared.limits.TheConstants.{MOST_CALLS};
 ghost use Rattle.sm_protocol.specs.Happens as happening;
-ghost use Rattle.sm_protocol.specs.Laws.{NamesKnown};
 ghost use Rattle.sm_protocol.specs.Log.{named};
 ghost use Rattle.sm_protocol.specs.Ticket.{passes};
 ghost use Rattle.sm_machine.specs.State.{state_of};
-ghost use Rattle.sm_machine.specs.Director.{HasHappenedAs, HasHappenedIf};
+ghost use Rattle.sm_machine.specs.Director.{CanDirect, HasHappenedAs, HasHappenedIf};
 
 use crate::answer::split;
 use crate::machine::Machine;
@@ -89,7 +88,7 @@ impl Machine {
     /// Plays an event, for which all rights are there. An event that names nothing is Unknown, and so is a start, which
     /// does not tell the plan that is to start.
     pub(crate) fn play_named(&mut self, event: Event) -> Played
-        requires { NamesKnown (state_of self.old).sizes event }
+        requires { CanDirect (state_of self.old).sizes event }
         ensures { HasHappenedIf self.old (named (state_of self.old) event) result self.new }
     {
         match event {

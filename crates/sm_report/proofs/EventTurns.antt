@@ -22,7 +22,7 @@ use Rattle.sm_protocol.specs.Happens.{Happening, Step, Lose, Refill, Arrive, Pas
 use Rattle.sm_machine.specs.Machine.{MachineModel}
 use Rattle.sm_machine.specs.State.{state_of}
 use Rattle.sm_machine.specs.Hand.{hand_plan, AreFor}
-use Rattle.sm_machine.specs.Director.{IsDirected, IsDirectedIf}
+use Rattle.sm_machine.specs.Director.{CanDirect, IsDirected, IsDirectedIf}
 use Rattle.sm_machine.proofs.Directed.{IsNoStart, same_plans, begun_is_there, one_more}
 use Rattle.sm_machine.proofs.FirstPlaces.{left_there}
 use Rattle.sm_machine.proofs.HandPlays.{sizes_are}
@@ -150,6 +150,11 @@ named_known x c (text.Request s v) ev k is = subst (NamesKnown c) (let same : ev
 named_known x c (text.PassOn place) ev k is = subst (NamesKnown c) (let same : event.PassOn place ≡ ev = cc in same) tt
 named_known x c (text.Approve v) ev k is = subst (NamesKnown c) (let same : event.Approve v ≡ ev = cc in same) k
 named_known x c (text.Done v) ev k is = subst (NamesKnown c) (let same : event.Done v ≡ ev = cc in same) k
+
+-- an event that names what is known can be directed
+pub can_direct : (c : Sizes) (e : Event) → NamesKnown c e → CanDirect c e
+can_direct c (event.Done v) k = tt
+can_direct c _ k = k
 
 module _ (p : Player) (place : ℕ) (c : CheckedModel) (r : IsSetUp p) (there : slice_index_or p.waiting.items place None ≡ Some c) where
   plan_asked : asked_by (scene_of p) (text.Begin place) ≡ Some (Begin c.plan)

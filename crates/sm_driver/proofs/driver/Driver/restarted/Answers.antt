@@ -22,10 +22,6 @@ clear-requires c =
     subst (λ n. c.in-Some.server < n) (sym c.self.invariant.carried.servers)
     (permitted_is_down (state_of c.self.inside.director) c.self.inside.permits c.args.permit c.in-Some.server c.self.invariant.permits (sym c.server.ensures ∙ c.in-Some.is)).0
 
-pub play-requires : goal.play-requires
-play-requires c =
-    (permitted_is_down (state_of c.self.inside.director) c.self.inside.permits c.args.permit c.in-Some.server c.self.invariant.permits (sym c.server.ensures ∙ c.in-Some.is)).0
-
 pub set-requires : goal.set-requires
 set-requires c =
     subst (λ n. c.in-Some.server < n) (sym c.self.invariant.permits.servers)

@@ -2,11 +2,13 @@
 use Rattle.std.proofs.Common.{sym, ◌∙◌}
 use Rattle.sm_machine.specs.State.{state_of}
 use Rattle.sm_report.specs.Player.{scene_of}
-use Rattle.sm_report.proofs.EventTurns.{named_known, named_so, unnamed_so}
+use Rattle.sm_report.proofs.EventTurns.{can_direct, named_known, named_so, unnamed_so}
 use Rattle.sm_report.proofs.player.Player.play_named.Goals as goal
 
 pub play-requires : goal.play-requires
-play-requires c = named_known (scene_of c.args.self.now) (state_of c.args.self.now.director).sizes c.args.event c.in-Some.event c.requires.known (sym c.event_named.ensures ∙ c.in-Some.is)
+play-requires c =
+    let sizes = (state_of c.args.self.now.director).sizes in
+    can_direct sizes c.in-Some.event (named_known (scene_of c.args.self.now) sizes c.args.event c.in-Some.event c.requires.known (sym c.event_named.ensures ∙ c.in-Some.is))
 
 pub returns-in-Some : goal.returns-in-Some
 returns-in-Some c =
