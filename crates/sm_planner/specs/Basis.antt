@@ -11,6 +11,10 @@ use Rattle.sm_reservation.specs.Pool.{PoolModel, pool_hold}
 use Rattle.sm_protocol.specs.State.{State, pool}
 use Rattle.sm_plan_code.specs.declared.moves.Move.{Move}
 use Rattle.sm_plan_code.specs.Move.{IsKnownMove}
+use Rattle.sm_plan_code.specs.Plan.{PlanModel}
+use Rattle.sm_verifier.specs.Admission.{IsAdmitted}
+use Rattle.sm_machine.specs.Machine.{MachineModel}
+use Rattle.sm_machine.specs.State.{state_of}
 
 -- a configuration, a placement of it, and the rights that nobody has
 pub record Basis : Type 0 where
@@ -29,6 +33,14 @@ basis_of placement pool = basis placement.setup (place_of placement) (pool_hold 
 -- what a plan is made from at a state: its placement, and the rights that no stream has there
 abbrev pub basis_at : Setup → State → Basis
 basis_at setup w = basis setup w.place (pool w)
+
+-- what a plan is made from that is to start at a machine as it stands
+abbrev pub basis_now : MachineModel → Basis
+basis_now m = basis_at m.placement.setup (state_of m)
+
+-- the plan may start at a machine as it stands
+abbrev pub MayStartNow : MachineModel → PlanModel → Type 0
+MayStartNow m = IsAdmitted (state_of m).sizes (state_of m).place (pool (state_of m))
 
 -- the default if the list has no such move
 abbrev pub no_move : Move
