@@ -8,7 +8,7 @@ from typing import Any, List, Optional
 from . import program
 from .events import event_lines
 from .faults import Fault, FaultKind
-from .files import name_of, read_bytes
+from .files import STANDARD_INPUT, is_plan, name_of, read_bytes
 from .model import Document, Plan, document_of
 from .moves import drain_findings, move_findings
 from .placement import Finding, Placement, opening_findings
@@ -140,8 +140,20 @@ def answers(document: Document, arguments: argparse.Namespace) -> List[str]:
     return event_lines(document, path)
 
 
+def plan_alone_lines(path: str) -> List[str]:
+    """Returns what to do with a plan by itself, as `smplan plan` prints one: a document would need members that it has not."""
+    plan = "" if path == STANDARD_INPUT else f" {path}"
+    return [
+        f"{name_of(path)}: this is a plan without its document; put it into the document that it was made for:",
+        f"  smplan-tools put-plan DOCUMENT{plan} | smplan-tools explain",
+    ]
+
+
 def explain(arguments: argparse.Namespace) -> int:
     data = read_bytes(arguments.document)
+    if is_plan(read_text(data).value):
+        print("\n".join(plan_alone_lines(arguments.document)))
+        return 1
     found = explained(data, arguments.command)
     if found.faults:
         print("\n".join(fault_lines(found.faults, arguments.most)))

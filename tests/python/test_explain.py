@@ -47,6 +47,20 @@ class Reasons(unittest.TestCase):
                 self.assertIn(wanted or "nothing is wrong", done.out)
                 self.assertNotIn("The program's word counts", done.out)
 
+    def test_a_plan_without_its_document(self):
+        """It is told what to do with it, which works."""
+        path = example("plan-handover")
+        plan = load(path)["plan"]
+        with written(plan) as file:
+            done = tools("explain", file)
+            self.assertEqual(1, done.status)
+            self.assertIn(f"a plan without its document; put it into the document that it was made for:\n  smplan-tools put-plan DOCUMENT {file} | smplan-tools explain", done.out)
+            document = tools("put-plan", str(path), file).out
+        done = tools("explain", text=document)
+        self.assertEqual(0, done.status, done.out)
+        self.assertIn("put-plan DOCUMENT | smplan-tools explain", tools("explain", text=json.dumps(plan)).out)
+        self.assertNotIn("put-plan", tools("explain", text=json.dumps({"streams": [], "servers": []})).out)
+
     def test_each_fault_of_the_tables_for_each_command(self):
         for path in FILES:
             for where, text, answer in cases_of(path):
