@@ -15,8 +15,9 @@ help:
 run: ## shows how a server is emptied: the plan, and what the check says (the first time it builds for two minutes, without proof)
 	@scripts/show-example
 
-try: ## builds build/smplan-unproved without any proof, in two minutes: a slow program, for small documents
-	@scripts/build-unproved
+try: ## builds build/smplan-unproved and build/smpland-unproved without any proof, in three minutes: slow programs, for small documents
+	@scripts/build-unproved smplan
+	@scripts/build-unproved smpland
 
 build: ## proves and builds build/smplan and build/smpland, in up to an hour
 	@mkdir -p build
