@@ -16,6 +16,7 @@ PLACES = {
         $.moves $.moves[] $.slots $.slots[] $.slots[].shard $.slots[].cell $.slots[].party $.slots[].handover
         $.slots[].reached $.cells $.cells[] $.cells[].shard $.cells[].cells $.cells[].cells[]
         $.cells[].cells[].server $.cells[].cells[].state
+        $.more[] $.moves[].more[] $.slots[].more[] $.cells[].more[] $.cells[].cells[].more[]
     """,
     "UnknownName": "$.server $.shard $.moves[].from $.cells[].shard $.cells[].cells[].server",
     "TooMany": "$.slots $.lost $.why $.moves",

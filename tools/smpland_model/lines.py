@@ -121,10 +121,12 @@ ASKED = {
 }
 
 
-def at_object(faults: Iterable[Fault], place: str) -> Iterator[Fault]:
-    """Yields the faults of an object itself. A member that it does not know is a fault of the object, not of a place in it."""
+def by_name(faults: Iterable[Fault], place: str) -> Iterator[Fault]:
+    """Yields the faults of an object itself. Of a member that it does not know the name is told."""
     for fault in faults:
-        yield replace(fault, place=place) if fault.what.startswith("no member is named") else fault
+        name = fault.place.removeprefix(f"{place}.")
+        is_unknown = fault.what.startswith("no member is named")
+        yield replace(fault, member=f"{fault.member} has no member {name}") if is_unknown else fault
 
 
 def slot_faults(value: Json, place: str, needed: dict[str, tuple[str, ...]]) -> Iterator[Fault]:
@@ -134,7 +136,7 @@ def slot_faults(value: Json, place: str, needed: dict[str, tuple[str, ...]]) -> 
         rows = [Row(it.member, it.test, it.optional and it.member not in needed.get(cell, ())) for it in SLOT]
         if cell in NEEDED:
             rows[2] = one("party", name)
-        yield from at_object(own_faults("slots", rows, entry, inner), inner)
+        yield from by_name(own_faults("slots", rows, entry, inner), inner)
 
 
 def chosen_faults(value: Json, place: str, known: Names) -> Iterator[Fault]:
@@ -142,9 +144,9 @@ def chosen_faults(value: Json, place: str, known: Names) -> Iterator[Fault]:
     rows = [one("shard", known.shard), one("cells", keyed("server"))]
     cell_rows = [one("server", known.server), one("state", word("primary", "secondary"))]
     for entry, inner in entries(value, "cells", place):
-        yield from at_object(own_faults("cells", rows, entry, inner), inner)
+        yield from by_name(own_faults("cells", rows, entry, inner), inner)
         for cell, at in entries(entry, "cells", inner):
-            yield from at_object(own_faults("cells", cell_rows, cell, at), at)
+            yield from by_name(own_faults("cells", cell_rows, cell, at), at)
 
 
 def inventory_faults(value: Json) -> Iterator[Fault]:
@@ -213,7 +215,7 @@ def inner_faults(value: Json, known: Known) -> Iterator[Fault]:
             yield from below("plan", known.reader.plan("plan", value["plan"], "$.plan"))
         case "moves":
             for entry, inner in entries(value, "moves", "$"):
-                yield from at_object(own_faults("moves", known.reader.moves, entry, inner), inner)
+                yield from by_name(own_faults("moves", known.reader.moves, entry, inner), inner)
         case "fenced":
             yield from slot_faults(value, "$", ASKED)
         case "audit":
@@ -227,7 +229,7 @@ def line_faults(value: Any, known: Known) -> Iterator[Fault]:
     if not isinstance(value, dict):
         yield shape("command", "$", f"an object belongs here, not {kind_of(value)}")
         return
-    yield from at_object(reading.worded_faults("command", "do", known.tables, value, "$"), "$")
+    yield from by_name(reading.worded_faults("command", "do", known.tables, value, "$"), "$")
     if value.get("do") == "fenced":
         yield from inventory_faults(value)
 

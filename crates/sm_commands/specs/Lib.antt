@@ -1,3 +1,4 @@
+pub mod BadLines
 pub mod Choices
 pub mod Commands
 pub mod Lines

@@ -76,8 +76,3 @@ TellsRefused before after = (r : RefusedLine) × (after ≡ before ++ refused_me
 -- the members of what is wrong with a line: its kind, where it is, and the same in words
 abbrev pub bad_members : List ℕ → List ℕ → List ℕ → List Token
 bad_members kind at text = text_member (codes "kind") kind ++ text_member (codes "at") at ++ text_member (codes "text") text
-
--- behind what was written is told, as a member, what is wrong with a line
-abbrev pub TellsBad : List Token → List Token → Type 0
-TellsBad before after =
-    (kind : List ℕ) × (at : List ℕ) × (text : List ℕ) × (after ≡ before ++ object_member (codes "bad") (bad_members kind at text))

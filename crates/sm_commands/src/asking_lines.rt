@@ -22,14 +22,14 @@ use std::alloc::{AllocError, Global};
 pub fn read_plain<'t, 'a>(
     line: &'t Tree<'a>,
     command: LineCommand<'t, 'a>,
-) -> Result<LineCommand<'t, 'a>, BadLine>
+) -> Result<LineCommand<'t, 'a>, BadLine<'a>>
     ensures { IfOk result (λ read. read ≡ command.entry) }
 {
     Reader::of_line(line, &[]).finish(command)
 }
 
 /// Reads the question whether a plan would begin.
-pub fn read_check<'t, 'a>(line: &'t Tree<'a>) -> Result<LineCommand<'t, 'a>, BadLine>
+pub fn read_check<'t, 'a>(line: &'t Tree<'a>) -> Result<LineCommand<'t, 'a>, BadLine<'a>>
     ensures known { IfOk result IsKnownAnywhere }
     ensures told { OfWord (codes "check") (view line.now) result }
 {
@@ -42,7 +42,7 @@ pub fn read_check<'t, 'a>(line: &'t Tree<'a>) -> Result<LineCommand<'t, 'a>, Bad
 }
 
 /// Reads the question for a plan of moves.
-pub fn read_moves<'t, 'a>(line: &'t Tree<'a>) -> Result<LineCommand<'t, 'a>, BadLine>
+pub fn read_moves<'t, 'a>(line: &'t Tree<'a>) -> Result<LineCommand<'t, 'a>, BadLine<'a>>
     ensures known { IfOk result IsKnownAnywhere }
     ensures told { OfWord (codes "moves") (view line.now) result }
 {
@@ -58,7 +58,7 @@ pub fn read_moves<'t, 'a>(line: &'t Tree<'a>) -> Result<LineCommand<'t, 'a>, Bad
 pub fn read_drain<'t, 'a>(
     line: &'t Tree<'a>,
     config: Option<&Config>,
-) -> Result<LineCommand<'t, 'a>, BadLine>
+) -> Result<LineCommand<'t, 'a>, BadLine<'a>>
     ensures known { IfOk result (IsKnownCommand config.entry) }
     ensures told { OfWord (codes "drain") (view line.now) result }
 {
@@ -74,7 +74,7 @@ pub fn read_drain<'t, 'a>(
 pub fn read_state<'t, 'a>(
     line: &'t Tree<'a>,
     config: Option<&Config>,
-) -> Result<LineCommand<'t, 'a>, BadLine>
+) -> Result<LineCommand<'t, 'a>, BadLine<'a>>
     ensures known { IfOk result (IsKnownCommand config.entry) }
     ensures told { OfWord (codes "state") (view line.now) result }
 {
@@ -90,7 +90,7 @@ pub fn read_state<'t, 'a>(
 }
 
 /// Reads the question for what has come up since a place.
-pub fn read_since<'t, 'a>(line: &'t Tree<'a>) -> Result<LineCommand<'t, 'a>, BadLine>
+pub fn read_since<'t, 'a>(line: &'t Tree<'a>) -> Result<LineCommand<'t, 'a>, BadLine<'a>>
     ensures known { IfOk result IsKnownAnywhere }
     ensures told { OfWord (codes "since") (view line.now) result }
 {
@@ -107,7 +107,7 @@ pub fn read_audit<'t, 'a>(
     alloc: Global,
     line: &'t Tree<'a>,
     config: Option<&Config>,
-) -> Result<Result<LineCommand<'t, 'a>, BadLine>, AllocError>
+) -> Result<Result<LineCommand<'t, 'a>, BadLine<'a>>, AllocError>
     ensures known { IfOk result (λ read. IfOk read (IsKnownCommand config.entry)) }
     ensures told { IfOk result (OfWord (codes "audit") (view line.now)) }
 {
@@ -155,7 +155,7 @@ fn answer_in(reader: &mut Reader<'_, '_>) -> Option<FailedAnswer>
 }
 
 /// Reads the question what to do about an order that has failed.
-pub fn read_failed<'t, 'a>(line: &'t Tree<'a>) -> Result<LineCommand<'t, 'a>, BadLine>
+pub fn read_failed<'t, 'a>(line: &'t Tree<'a>) -> Result<LineCommand<'t, 'a>, BadLine<'a>>
     ensures known { IfOk result IsKnownAnywhere }
     ensures told { OfWord (codes "failed") (view line.now) result }
 {

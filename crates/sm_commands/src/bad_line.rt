@@ -1,6 +1,8 @@
 //! Lines that are no commands.
-ghost use Rattle.std.specs.Prelude.{◌≡◌, ◌++◌, OnOk};
-ghost use Rattle.sm_commands.specs.Refusals.{TellsBad, bad_members};
+ghost use Rattle.std.specs.Prelude.{◌≡◌, ◌++◌, IfOk, OnOk, codes, option_map, string_bytes};
+ghost use Rattle.sm_commands.specs.Members.{object_member};
+ghost use Rattle.sm_commands.specs.BadLines.{bad_kind, bad_path, bad_words, below_path, inner_text, kind_words, member_words, path_in, text_fault_kind, told_bad, unknown_words};
+ghost use Rattle.sm_commands.specs.Refusals.{bad_members};
 
 use crate::command_member::CommandMember;
 use crate::line_part::LinePart;
@@ -11,13 +13,15 @@ use std::alloc::{AllocError, Global};
 
 /// The fault for which a line is no command: of several the one of the lowest number, and of one number the first.
 #[derive(Clone, Copy, Debug, PartialEq, Eq)]
-pub enum BadLine {
+pub enum BadLine<'a> {
     /// The line is not one JSON text in UTF-8, with nothing round it.
     NotJson,
     /// The line is longer than any may be.
     TooLong,
-    /// The part is no object, has a member that is not known there, or is an entry that may not stand in its list.
+    /// The part is no object, or is an entry that may not stand in its list.
     Malformed(LinePart),
+    /// The part has a member of this name, and may have none.
+    UnknownMember(LinePart, &'a str),
     /// The part lacks the member.
     Missing(LinePart, CommandMember),
     /// The part's member is not in its form.
@@ -33,7 +37,9 @@ pub enum BadLine {
 }
 
 /// Returns the kind of a fault in a document or a plan.
-fn text_kind(fault: TextFault) -> &'static str {
+fn text_kind(fault: TextFault) -> &'static str
+    ensures { result.now ≡ text_fault_kind fault }
+{
     match fault {
         TextFault::NoMemory => "NoMemory",
         TextFault::NotJson => "NotJson",
@@ -45,7 +51,9 @@ fn text_kind(fault: TextFault) -> &'static str {
 }
 
 /// Returns the member in which a fault in a document or a plan lies, unless that is all of it.
-fn inner_member(fault: TextFault) -> Option<&'static str> {
+fn inner_member(fault: TextFault) -> Option<&'static str>
+    ensures { option_map (λ name. name.now) result ≡ inner_text fault }
+{
     match fault {
         TextFault::NoMemory | TextFault::NotJson => None,
         TextFault::Shape { member }
@@ -58,12 +66,20 @@ fn inner_member(fault: TextFault) -> Option<&'static str> {
     }
 }
 
-impl BadLine {
+impl BadLine<'_> {
+    ghost use Rattle.std.specs.Prelude.{◌≡◌, ◌++◌, OnOk, option_map, string_bytes};
+    ghost use Rattle.sm_commands.specs.BadLines.{bad_kind, bad_member, bad_number, bad_path, bad_words, plain_words, unknown_words};
+
     /// Returns the kind of the fault.
-    pub fn kind(self) -> &'static str {
+    pub fn kind(self) -> &'static str
+        ensures { result.now ≡ bad_kind self.entry }
+    {
         match self {
             BadLine::NotJson => "NotJson",
-            BadLine::Malformed(_) | BadLine::Missing(..) | BadLine::Shape(..) => "Shape",
+            BadLine::Malformed(_)
+            | BadLine::UnknownMember(..)
+            | BadLine::Missing(..)
+            | BadLine::Shape(..) => "Shape",
             BadLine::UnknownName(..) => "UnknownName",
             BadLine::TooMany(..) => "TooMany",
             BadLine::Number(..) => "Number",
@@ -73,10 +89,15 @@ impl BadLine {
     }
 
     /// Returns the number of the fault's kind, which is that of `smplan`.
-    pub fn number(self) -> u8 {
+    pub fn number(self) -> u8
+        ensures { result ≡ bad_number self.entry }
+    {
         match self {
             BadLine::NotJson => 2,
-            BadLine::Malformed(_) | BadLine::Missing(..) | BadLine::Shape(..) => 3,
+            BadLine::Malformed(_)
+            | BadLine::UnknownMember(..)
+            | BadLine::Missing(..)
+            | BadLine::Shape(..) => 3,
             BadLine::UnknownName(..) => 4,
             BadLine::TooMany(..) => 5,
             BadLine::Number(..) => 6,
@@ -86,10 +107,14 @@ impl BadLine {
     }
 
     /// Returns the name of the member that is told, if one is.
-    pub fn member(self) -> Option<&'static str> {
+    pub fn member(self) -> Option<&'static str>
+        ensures { option_map (λ name. name.now) result ≡ bad_member self.entry }
+    {
         match self {
             BadLine::NotJson | BadLine::TooLong => None,
-            BadLine::Malformed(part) => Some(part.member().text()),
+            BadLine::Malformed(part) | BadLine::UnknownMember(part, _) => Some(
+                part.member().text(),
+            ),
             BadLine::Missing(_, member)
             | BadLine::Shape(_, member)
             | BadLine::UnknownName(_, member)
@@ -103,42 +128,80 @@ impl BadLine {
     }
 
     /// Adds where the fault lies, as a path: a member that is missing lies in its object.
-    pub fn push_path(self, out: &mut String) -> Result<(), AllocError> {
+    pub fn push_path(self, out: &mut String) -> Result<(), AllocError>
+        ensures { OnOk result (string_bytes out.new ≡ string_bytes out.old ++ bad_path self.entry) }
+    {
         match self {
             BadLine::NotJson | BadLine::TooLong => write!(out, "$"),
             BadLine::Malformed(part) | BadLine::Missing(part, _) => part.push_path(out),
+            BadLine::UnknownMember(part, name) => push_member(out, part, name),
             BadLine::Shape(part, member)
             | BadLine::UnknownName(part, member)
             | BadLine::TooMany(part, member)
-            | BadLine::Number(part, member) => push_member(out, part, member),
+            | BadLine::Number(part, member) => push_member(out, part, member.text()),
             BadLine::Within(member, fault) => {
-                push_member(out, LinePart::Line, member)?;
+                push_member(out, LinePart::Line, member.text())?;
                 push_inner(out, inner_member(fault))
             }
         }
     }
 
-    /// Adds the words for the fault, which are those of `smplan`.
-    pub fn push_words(self, out: &mut String) -> Result<(), AllocError> {
-        let number = self.number();
-        let kind = self.kind();
-        write!(out, "bad input: {number} {kind}")?;
-        match self.member() {
-            Some(member) => write!(out, " {member}"),
-            None => Ok(()),
+    /// Adds the words for the fault, which are those of `smplan`, and of a member that is not known its name.
+    pub fn push_words(self, out: &mut String) -> Result<(), AllocError>
+        ensures { OnOk result (string_bytes out.new ≡ string_bytes out.old ++ bad_words self.entry) }
+    {
+        self.push_plain(out)?;
+        self.push_unknown(out)
+    }
+
+    /// Adds the words for the fault that `smplan` has, too.
+    fn push_plain(self, out: &mut String) -> Result<(), AllocError>
+        ensures { OnOk result (string_bytes out.new ≡ string_bytes out.old ++ plain_words self.entry) }
+    {
+        push_kind(out, self.number(), self.kind())?;
+        push_told(out, self.member())
+    }
+
+    /// Adds the name of a member that is not known, if that is the fault.
+    fn push_unknown(self, out: &mut String) -> Result<(), AllocError>
+        ensures { OnOk result (string_bytes out.new ≡ string_bytes out.old ++ unknown_words self.entry) }
+    {
+        match self {
+            BadLine::UnknownMember(_, name) => write!(out, " has no member {name}"),
+            _ => Ok(()),
         }
     }
 }
 
+/// Adds a kind with its number.
+fn push_kind(out: &mut String, number: u8, kind: &str) -> Result<(), AllocError>
+    ensures { OnOk result (string_bytes out.new ≡ string_bytes out.old ++ kind_words number kind.now) }
+{
+    write!(out, "bad input: {number} {kind}")
+}
+
+/// Adds a member behind a space, if one is told.
+fn push_told(out: &mut String, member: Option<&str>) -> Result<(), AllocError>
+    ensures { OnOk result (string_bytes out.new ≡ string_bytes out.old ++ member_words (option_map (λ name. name.now) member.entry)) }
+{
+    match member {
+        Some(name) => write!(out, " {name}"),
+        None => Ok(()),
+    }
+}
+
 /// Adds the path of a member of a part.
-fn push_member(out: &mut String, part: LinePart, member: CommandMember) -> Result<(), AllocError> {
-    let name = member.text();
+fn push_member(out: &mut String, part: LinePart, name: &str) -> Result<(), AllocError>
+    ensures { OnOk result (string_bytes out.new ≡ string_bytes out.old ++ path_in part name.now) }
+{
     part.push_path(out)?;
     write!(out, ".{name}")
 }
 
 /// Adds behind the path of a document or a plan that a member stands somewhere below.
-fn push_inner(out: &mut String, member: Option<&str>) -> Result<(), AllocError> {
+fn push_inner(out: &mut String, member: Option<&str>) -> Result<(), AllocError>
+    ensures { OnOk result (string_bytes out.new ≡ string_bytes out.old ++ below_path (option_map (λ name. name.now) member.entry)) }
+{
     match member {
         Some(name) => write!(out, "..{name}"),
         None => Ok(()),
@@ -160,17 +223,40 @@ fn write_bad_members(
     Ok(())
 }
 
-/// Writes what is wrong with a line, as a member of its reply.
-pub fn write_bad(writer: &mut Writer, alloc: Global, bad: BadLine) -> Result<(), AllocError>
-    ensures { OnOk result (TellsBad writer.old.tokens writer.new.tokens) }
+/// Writes what is wrong with a line, as a member of its reply, from its kind, its path and its words.
+fn write_told(writer: &mut Writer, kind: &str, at: &str, text: &str) -> Result<(), AllocError>
+    ensures { OnOk result (writer.new.tokens ≡ writer.old.tokens ++ object_member (codes "bad") (bad_members kind.now at.now text.now)) }
+{
+    writer.key("bad")?;
+    writer.begin_object()?;
+    write_bad_members(writer, kind, at, text)?;
+    writer.end_object()?;
+    Ok(())
+}
+
+/// Returns where a fault lies.
+fn path_of(alloc: Global, bad: BadLine<'_>) -> Result<String, AllocError>
+    ensures { IfOk result (λ path. string_bytes path ≡ bad_path bad.entry) }
 {
     let mut path = String::new(alloc);
     bad.push_path(&mut path)?;
+    Ok(path)
+}
+
+/// Returns the words for a fault.
+fn words_of(alloc: Global, bad: BadLine<'_>) -> Result<String, AllocError>
+    ensures { IfOk result (λ words. string_bytes words ≡ bad_words bad.entry) }
+{
     let mut words = String::new(alloc);
     bad.push_words(&mut words)?;
-    writer.key("bad")?;
-    writer.begin_object()?;
-    write_bad_members(writer, bad.kind(), path.as_str(), words.as_str())?;
-    writer.end_object()?;
-    Ok(())
+    Ok(words)
+}
+
+/// Writes what is wrong with a line, as a member of its reply.
+pub fn write_bad(writer: &mut Writer, alloc: Global, bad: BadLine<'_>) -> Result<(), AllocError>
+    ensures { OnOk result (writer.new.tokens ≡ writer.old.tokens ++ told_bad bad.entry) }
+{
+    let path = path_of(alloc, bad)?;
+    let words = words_of(alloc, bad)?;
+    write_told(writer, bad.kind(), path.as_str(), words.as_str())
 }

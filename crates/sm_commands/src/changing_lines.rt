@@ -14,7 +14,7 @@ use json_tree::Tree;
 use sm_placement::Config;
 
 /// Reads an opening.
-pub fn read_open<'t, 'a>(line: &'t Tree<'a>) -> Result<LineCommand<'t, 'a>, BadLine>
+pub fn read_open<'t, 'a>(line: &'t Tree<'a>) -> Result<LineCommand<'t, 'a>, BadLine<'a>>
     ensures known { IfOk result IsKnownAnywhere }
     ensures told { OfWord (codes "open") (view line.now) result }
 {
@@ -38,7 +38,7 @@ pub fn read_open<'t, 'a>(line: &'t Tree<'a>) -> Result<LineCommand<'t, 'a>, BadL
 }
 
 /// Reads the begin of a plan.
-pub fn read_begin<'t, 'a>(line: &'t Tree<'a>) -> Result<LineCommand<'t, 'a>, BadLine>
+pub fn read_begin<'t, 'a>(line: &'t Tree<'a>) -> Result<LineCommand<'t, 'a>, BadLine<'a>>
     ensures known { IfOk result IsKnownAnywhere }
     ensures told { OfWord (codes "begin") (view line.now) result }
 {
@@ -52,7 +52,7 @@ pub fn read_begin<'t, 'a>(line: &'t Tree<'a>) -> Result<LineCommand<'t, 'a>, Bad
 }
 
 /// Reads an answer to an order or a publication.
-pub fn read_answered<'t, 'a>(line: &'t Tree<'a>) -> Result<LineCommand<'t, 'a>, BadLine>
+pub fn read_answered<'t, 'a>(line: &'t Tree<'a>) -> Result<LineCommand<'t, 'a>, BadLine<'a>>
     ensures known { IfOk result IsKnownAnywhere }
     ensures told { OfWord (codes "answered") (view line.now) result }
 {
@@ -79,7 +79,7 @@ pub fn read_answered<'t, 'a>(line: &'t Tree<'a>) -> Result<LineCommand<'t, 'a>, 
 pub fn read_approve<'t, 'a>(
     line: &'t Tree<'a>,
     config: Option<&Config>,
-) -> Result<LineCommand<'t, 'a>, BadLine>
+) -> Result<LineCommand<'t, 'a>, BadLine<'a>>
     ensures known { IfOk result (IsKnownCommand config.entry) }
     ensures told { OfWord (codes "approve") (view line.now) result }
 {
@@ -93,7 +93,7 @@ pub fn read_approve<'t, 'a>(
 }
 
 /// Reads the end of a restart.
-pub fn read_restarted<'t, 'a>(line: &'t Tree<'a>) -> Result<LineCommand<'t, 'a>, BadLine>
+pub fn read_restarted<'t, 'a>(line: &'t Tree<'a>) -> Result<LineCommand<'t, 'a>, BadLine<'a>>
     ensures known { IfOk result IsKnownAnywhere }
     ensures told { OfWord (codes "restarted") (view line.now) result }
 {
@@ -110,7 +110,7 @@ pub fn read_restarted<'t, 'a>(line: &'t Tree<'a>) -> Result<LineCommand<'t, 'a>,
 pub fn read_restore<'t, 'a>(
     line: &'t Tree<'a>,
     config: Option<&Config>,
-) -> Result<LineCommand<'t, 'a>, BadLine>
+) -> Result<LineCommand<'t, 'a>, BadLine<'a>>
     ensures known { IfOk result (IsKnownCommand config.entry) }
     ensures told { OfWord (codes "restore") (view line.now) result }
 {

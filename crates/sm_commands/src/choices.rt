@@ -44,7 +44,11 @@ fn role_in(reader: &mut Reader<'_, '_>) -> Option<Role> {
 }
 
 /// Returns the replica that an entry is.
-fn read_cell(config: &Config, entry: &Tree<'_>, part: LinePart) -> Result<CellChoice, BadLine>
+fn read_cell<'a>(
+    config: &Config,
+    entry: &Tree<'a>,
+    part: LinePart,
+) -> Result<CellChoice, BadLine<'a>>
     ensures { IfOk result (HasKnownServer config.now) }
 {
     let names = &[CommandMember::Server, CommandMember::State];
@@ -58,12 +62,12 @@ fn read_cell(config: &Config, entry: &Tree<'_>, part: LinePart) -> Result<CellCh
 }
 
 /// Returns the replicas that the entries of a shard's list are, and notes what is wrong with them.
-fn read_cells(
+fn read_cells<'a>(
     alloc: Global,
     config: &Config,
-    entries: &[Tree<'_>],
+    entries: &[Tree<'a>],
     part: LinePart,
-    faults: &mut Faults,
+    faults: &mut Faults<'a>,
 ) -> Result<Vec<CellChoice>, AllocError>
     ensures { IfOk result (λ cells. All (HasKnownServer config.now) cells.items) }
 {
@@ -78,12 +82,12 @@ fn read_cells(
 }
 
 /// Returns the choice that an entry is.
-fn read_choice(
+fn read_choice<'a>(
     alloc: Global,
     config: &Config,
-    entry: &Tree<'_>,
+    entry: &Tree<'a>,
     part: LinePart,
-) -> Result<Result<ShardChoice, BadLine>, AllocError>
+) -> Result<Result<ShardChoice, BadLine<'a>>, AllocError>
     ensures { IfOk result (λ read. IfOk read (IsKnownChoice config.now)) }
 {
     let names = &[CommandMember::Shard, CommandMember::Cells];
@@ -101,11 +105,11 @@ fn read_choice(
 }
 
 /// Returns the choices of a list, or what is wrong with it.
-pub fn read_choices(
+pub fn read_choices<'a>(
     alloc: Global,
     config: &Config,
-    entries: &[Tree<'_>],
-) -> Result<Result<Vec<ShardChoice>, BadLine>, AllocError>
+    entries: &[Tree<'a>],
+) -> Result<Result<Vec<ShardChoice>, BadLine<'a>>, AllocError>
     ensures { IfOk result (λ read. IfOk read (λ choices. All (IsKnownChoice config.now) choices.items)) }
 {
     let mut faults = Faults::new();

@@ -1,15 +1,16 @@
 //! The fault to tell, of those that are met.
-ghost use Rattle.std.specs.Prelude.{◌≡◌, false, true, IfOk};
+ghost use Rattle.std.specs.Prelude.{◌≡◌, false, true, IfErr, IfOk, Some};
 
 use crate::bad_line::BadLine;
 
 /// The fault to tell of those that were met: of those of the lowest number the first.
 #[derive(Clone, Copy)]
-pub struct Faults {
-    lowest: Option<BadLine>,
+pub struct Faults<'a> {
+    lowest: Option<BadLine<'a>>,
 }
 
-impl Faults {
+impl<'a> Faults<'a> {
+    ghost use Rattle.sm_commands.specs.BadLines.{told_first};
     ghost use Rattle.sm_commands.specs.Reading.{is_clean};
 
     /// Returns no faults.
@@ -20,8 +21,9 @@ impl Faults {
     }
 
     /// Takes the next fault.
-    pub fn note(&mut self, fault: BadLine)
-        ensures { is_clean self.new ≡ false }
+    pub fn note(&mut self, fault: BadLine<'a>)
+        ensures fault { is_clean self.new ≡ false }
+        ensures told { self.new.lowest ≡ Some (told_first self.old.lowest fault.entry) }
     {
         match self.lowest {
             Some(best) if best.number() <= fault.number() => {}
@@ -30,14 +32,17 @@ impl Faults {
     }
 
     /// Returns the fault to tell, if one was met.
-    pub const fn lowest(self) -> Option<BadLine> {
+    pub const fn lowest(self) -> Option<BadLine<'a>>
+        ensures { result ≡ self.entry.lowest }
+    {
         self.lowest
     }
 
     /// Returns what was read, unless a fault was met.
-    pub fn finish<T: Drop>(self, read: T) -> Result<T, BadLine>
+    pub fn finish<T: Drop>(self, read: T) -> Result<T, BadLine<'a>>
         ensures read { IfOk result (λ found. found ≡ read) }
-        ensures clean { IfOk result (λ _. is_clean self ≡ true) }
+        ensures clean { IfOk result (λ _. is_clean self.entry ≡ true) }
+        ensures told { IfErr result (λ fault. self.entry.lowest ≡ Some fault) }
     {
         match self.lowest {
             Some(fault) => Err(fault),

@@ -52,7 +52,7 @@ fn read_worded<'t, 'a>(
     word: &str,
     line: &'t Tree<'a>,
     config: Option<&Config>,
-) -> Result<LineCommand<'t, 'a>, BadLine>
+) -> Result<LineCommand<'t, 'a>, BadLine<'a>>
     ensures known { IfOk result (IsKnownCommand config.entry) }
     ensures told { OfWord word.now (view line.now) result }
 {
@@ -84,7 +84,7 @@ pub fn read_command<'t, 'a>(
     alloc: Global,
     line: &'t Tree<'a>,
     config: Option<&Config>,
-) -> Result<Result<LineCommand<'t, 'a>, BadLine>, AllocError>
+) -> Result<Result<LineCommand<'t, 'a>, BadLine<'a>>, AllocError>
     ensures known { IfOk result (λ read. IfOk read (IsKnownCommand config.entry)) }
     ensures told { IfOk result (λ read. IfOk read (Says (view line.now))) }
 {

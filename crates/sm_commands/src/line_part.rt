@@ -15,6 +15,10 @@ pub enum LinePart {
 }
 
 impl LinePart {
+    ghost use Rattle.std.specs.Prelude.{◌≡◌, ◌++◌, OnOk, string_bytes};
+    ghost use Rattle.sm_commands.specs.BadLines.{part_member, part_path};
+    ghost use Rattle.sm_commands.specs.Reading.{is_whole_line};
+
     /// Returns the entry at a place of a list that stands in the part. No list stands deeper than in an entry of the line's lists.
     pub const fn entry(self, list: CommandMember, at: usize) -> LinePart {
         match self {
@@ -24,8 +28,17 @@ impl LinePart {
         }
     }
 
+    /// Tells whether the part is the line itself.
+    pub(crate) const fn is_line(self) -> bool
+        ensures { result ≡ is_whole_line self }
+    {
+        matches!(self, LinePart::Line)
+    }
+
     /// Returns the member whose entry the part is.
-    pub const fn member(self) -> CommandMember {
+    pub const fn member(self) -> CommandMember
+        ensures { result ≡ part_member self }
+    {
         match self {
             LinePart::Line => CommandMember::Command,
             LinePart::Entry(list, _) | LinePart::InnerEntry(_, _, list, _) => list,
@@ -33,7 +46,9 @@ impl LinePart {
     }
 
     /// Adds the path of the part.
-    pub fn push_path(self, out: &mut String) -> Result<(), AllocError> {
+    pub fn push_path(self, out: &mut String) -> Result<(), AllocError>
+        ensures { OnOk result (string_bytes out.new ≡ string_bytes out.old ++ part_path self) }
+    {
         match self {
             LinePart::Line => write!(out, "$"),
             LinePart::Entry(list, at) => {

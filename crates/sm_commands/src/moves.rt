@@ -16,7 +16,7 @@ use std::alloc::{AllocError, Global};
 const NAMES: &[CommandMember] = &[CommandMember::Shard, CommandMember::From, CommandMember::To];
 
 /// Returns the move that an entry is.
-fn read_move(config: &Config, entry: &Tree<'_>, part: LinePart) -> Result<Move, BadLine>
+fn read_move<'a>(config: &Config, entry: &Tree<'a>, part: LinePart) -> Result<Move, BadLine<'a>>
     ensures { IfOk result (IsKnownMove (length config.now.shards) (length config.now.servers)) }
 {
     let mut reader = Reader::new(entry, part, NAMES);
@@ -30,11 +30,11 @@ fn read_move(config: &Config, entry: &Tree<'_>, part: LinePart) -> Result<Move, 
 }
 
 /// Returns the moves of a list, or what is wrong with it.
-pub fn read_moves_in(
+pub fn read_moves_in<'a>(
     alloc: Global,
     config: &Config,
-    entries: &[Tree<'_>],
-) -> Result<Result<Vec<Move>, BadLine>, AllocError>
+    entries: &[Tree<'a>],
+) -> Result<Result<Vec<Move>, BadLine<'a>>, AllocError>
     ensures { IfOk result (λ read. IfOk read (λ moves.
         All (IsKnownMove (length config.now.shards) (length config.now.servers)) moves.items)) }
 {

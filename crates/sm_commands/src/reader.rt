@@ -13,7 +13,7 @@ use crate::command_member::CommandMember;
 use crate::faults::Faults;
 use crate::form::{id_in, is_label, random_bits};
 use crate::line_part::LinePart;
-use crate::row::{Row, is_known_line, is_of};
+use crate::row::{Row, object_fault};
 use indexmap::IndexSet;
 use json_tree::Tree;
 use sm_placement::{Config, is_name};
@@ -50,7 +50,7 @@ fn first_nameless(entries: &[Tree<'_>]) -> Option<usize> {
 }
 
 /// Returns what is wrong with the id of a line, if it has one.
-fn id_fault(line: &Tree<'_>) -> Option<BadLine> {
+fn id_fault<'a>(line: &Tree<'a>) -> Option<BadLine<'a>> {
     let id = line.get("id")?;
     match id_in(id) {
         Some(_) => None,
@@ -64,7 +64,7 @@ fn id_fault(line: &Tree<'_>) -> Option<BadLine> {
 pub struct Reader<'t, 'a> {
     object: &'t Tree<'a>,
     part: LinePart,
-    pub faults: Faults,
+    pub faults: Faults<'a>,
 }
 
 /// Each call that reads a member notes what is wrong with it, and answers None then, and for one that may be missing and is.
@@ -78,8 +78,8 @@ impl<'t, 'a> Reader<'t, 'a> {
             part,
             faults: Faults::new(),
         };
-        if !is_of(object, names) {
-            reader.note(BadLine::Malformed(part));
+        if let Some(fault) = object_fault(object, part, names) {
+            reader.note(fault);
         }
         reader
     }
@@ -88,14 +88,7 @@ impl<'t, 'a> Reader<'t, 'a> {
     pub fn of_line(line: &'t Tree<'a>, names: &[CommandMember]) -> Self
         ensures { object_data result ≡ view line.now }
     {
-        let mut reader = Reader {
-            object: line,
-            part: LinePart::Line,
-            faults: Faults::new(),
-        };
-        if !is_known_line(line, names) {
-            reader.note(BadLine::Malformed(LinePart::Line));
-        }
+        let mut reader = Reader::new(line, LinePart::Line, names);
         if let Some(fault) = id_fault(line) {
             reader.note(fault);
         }
@@ -103,7 +96,7 @@ impl<'t, 'a> Reader<'t, 'a> {
     }
 
     /// Takes the next fault.
-    pub fn note(&mut self, fault: BadLine)
+    pub fn note(&mut self, fault: BadLine<'a>)
         ensures on { ReadsOn self.old self.new }
         ensures fault { is_clean self.new.faults ≡ false }
     {
@@ -111,7 +104,7 @@ impl<'t, 'a> Reader<'t, 'a> {
     }
 
     /// Returns what was read, unless a fault was met.
-    pub fn finish<T: Drop>(self, read: T) -> Result<T, BadLine>
+    pub fn finish<T: Drop>(self, read: T) -> Result<T, BadLine<'a>>
         ensures read { IfOk result (λ found. found ≡ read) }
         ensures clean { IfOk result (λ _. is_clean self.entry.faults ≡ true) }
     {
@@ -119,7 +112,7 @@ impl<'t, 'a> Reader<'t, 'a> {
     }
 
     /// Returns the fault to tell of an object of which something is missing.
-    pub fn fault(self) -> BadLine {
+    pub fn fault(self) -> BadLine<'a> {
         match self.faults.lowest() {
             Some(fault) => fault,
             None => BadLine::Malformed(self.part),

@@ -63,7 +63,7 @@ fn entries_or_none<'t, 'a>(list: Option<&'t [Tree<'a>]>) -> &'t [Tree<'a>]
 }
 
 /// Reads the begin of a reopening.
-pub fn read_reopen<'t, 'a>(line: &'t Tree<'a>) -> Result<LineCommand<'t, 'a>, BadLine>
+pub fn read_reopen<'t, 'a>(line: &'t Tree<'a>) -> Result<LineCommand<'t, 'a>, BadLine<'a>>
     ensures known { IfOk result IsKnownAnywhere }
     ensures told { OfWord (codes "reopen") (view line.now) result }
 {
@@ -135,7 +135,7 @@ fn told_in<'t, 'a>(
 pub fn read_fenced<'t, 'a>(
     alloc: Global,
     line: &'t Tree<'a>,
-) -> Result<Result<LineCommand<'t, 'a>, BadLine>, AllocError>
+) -> Result<Result<LineCommand<'t, 'a>, BadLine<'a>>, AllocError>
     ensures known { IfOk result (λ read. IfOk read IsKnownAnywhere) }
     ensures told { IfOk result (OfWord (codes "fenced") (view line.now)) }
 {
@@ -168,7 +168,7 @@ pub fn read_fenced<'t, 'a>(
 pub fn read_confirm<'t, 'a>(
     alloc: Global,
     line: &'t Tree<'a>,
-) -> Result<Result<LineCommand<'t, 'a>, BadLine>, AllocError>
+) -> Result<Result<LineCommand<'t, 'a>, BadLine<'a>>, AllocError>
     ensures known { IfOk result (λ read. IfOk read IsKnownAnywhere) }
     ensures told { IfOk result (OfWord (codes "confirm") (view line.now)) }
 {
@@ -189,7 +189,7 @@ pub fn read_confirm<'t, 'a>(
 }
 
 /// Reads an answer to a settle.
-pub fn read_settled<'t, 'a>(line: &'t Tree<'a>) -> Result<LineCommand<'t, 'a>, BadLine>
+pub fn read_settled<'t, 'a>(line: &'t Tree<'a>) -> Result<LineCommand<'t, 'a>, BadLine<'a>>
     ensures known { IfOk result IsKnownAnywhere }
     ensures told { OfWord (codes "settled") (view line.now) result }
 {

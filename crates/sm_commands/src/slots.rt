@@ -143,7 +143,7 @@ fn read_slot<'a>(
     entry: &Tree<'a>,
     part: LinePart,
     needs: SlotNeeds,
-) -> Result<SlotText<'a>, BadLine>
+) -> Result<SlotText<'a>, BadLine<'a>>
     ensures { IfOk result (IsSlotFor needs) }
 {
     let mut reader = Reader::new(entry, part, NAMES);
@@ -180,7 +180,7 @@ pub fn read_slots<'a>(
     alloc: Global,
     entries: &[Tree<'a>],
     needs: SlotNeeds,
-) -> Result<Result<Vec<SlotText<'a>>, BadLine>, AllocError>
+) -> Result<Result<Vec<SlotText<'a>>, BadLine<'a>>, AllocError>
     ensures { IfOk result (λ read. IfOk read (λ slots. All (IsSlotFor needs) slots.items)) }
 {
     let mut faults = Faults::new();
