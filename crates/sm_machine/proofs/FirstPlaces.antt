@@ -1,11 +1,15 @@
 -- Elements of a list by the first place where a test passes, and what is left when they are taken out or put back.
-use Rattle.std.proofs.Common.{◌≡◌, ◌<◌, ◌∷◌, [], ℕ, zero, suc, Bool, true, false, List, Option, Some, None, length, refl, sym, ap, arith}
+use Rattle.std.proofs.Common.{◌≡◌, ◌<◌, ◌∷◌, [], ℕ, zero, suc, Bool, true, false, List, Option, Some, None, length, refl, sym, ap, subst, arith}
 use Rattle.std.specs.Prelude.{slice_index_or, slice_set, find}
-use Rattle.std.specs.List.{list_any, insert, remove}
+use Rattle.std.specs.List.{list_any, remove}
 use Rattle.sm_protocol.specs.Hand.{without_first}
 use Rattle.sm_machine.specs.Hand.{IsFirstPlace}
 
 module _ {T : Type 0} (test : T → Bool) where
+  -- the first place of a list, told of one that is equal to it
+  pub first_in : (xs ys : List T) (o p : Option ℕ) → xs ≡ ys → o ≡ p → IsFirstPlace test xs o → IsFirstPlace test ys p
+  first_in xs ys o p e f h = subst (λ zs. IsFirstPlace test zs p) e (subst (IsFirstPlace test xs) f h)
+
   -- where no place is the first that passes, nothing is found
   pub find_none : (xs : List T) → IsFirstPlace test xs None → find test xs ≡ None
   find_none [] h = refl
@@ -37,14 +41,13 @@ module _ {T : Type 0} (test : T → Bool) where
   without_some (x ∷ xs) zero h = rw (h.1 x) refl
   without_some (x ∷ xs) (suc i) h = rw (h.2 0 x (omega arith)) (ap (λ ys. x ∷ ys) (without_some xs i (let l = h.0 in omega arith, λ e. h.1 e, λ k e l. h.2 (suc k) e (omega arith))))
 
-module _ {T : Type 0} where
-  -- what was taken out is put back
-  pub insert_removed : (xs : List T) (i : ℕ) (d : T) → i < length xs → insert (remove xs i) i (slice_index_or xs i d) ≡ xs
-  insert_removed [] i d l = absurd (omega arith)
-  insert_removed (x ∷ xs) zero d l = refl
-  insert_removed (x ∷ xs) (suc i) d l = ap (λ ys. x ∷ ys) (insert_removed xs i d (omega arith))
+  -- where no place is the first that passes, it is the list
+  pub without_none : (xs : List T) → IsFirstPlace test xs None → without_first test xs ≡ xs
+  without_none [] h = refl
+  without_none (x ∷ xs) h = rw (h 0 x (omega arith)) (ap (λ ys. x ∷ ys) (without_none xs (λ k d l. h (suc k) d (omega arith))))
 
-  -- so is what was taken out and left None in its place
+module _ {T : Type 0} where
+  -- what was taken out and left None in its place is put back
   pub set_back : (xs : List (Option T)) (i : ℕ) (x : T) → slice_index_or xs i None ≡ Some x → slice_set (slice_set xs i None) i (Some x) ≡ xs
   set_back [] i x e = refl
   set_back (y ∷ ys) zero x e = ap (λ z. z ∷ ys) (sym e)

@@ -2,14 +2,18 @@
 -- Public functions' contracts come to `hand_plan`, `hand_of`, `game_of`, `AreFor`, `AreLeft` and `IsSameHand` alone.
 -- The others are internal: you need not read them for the public contracts.
 use Rattle.std.specs.Prelude.{◌≡◌, ◌≤◌, ◌<◌, ℕ, suc, ◌+◌, ◌++◌, Bool, true, false, Option, Some, None, List, [], ◌∷◌, length, map, slice_index_or, vec_capacity}
-use Rattle.std.specs.List.{sum_by, insert}
+use Rattle.std.specs.List.{sum_by}
 use Rattle.sm_placement.specs.Setup.{Setup}
 use Rattle.sm_plan_code.specs.Plan.{PlanModel}
 use Rattle.sm_verifier.specs.Checked.{CheckedModel}
 use Rattle.sm_protocol.specs.declared.event.Event.{Event}
+use Rattle.sm_protocol.specs.declared.event.Event.TheVariants as event
 use Rattle.sm_protocol.specs.declared.event.Played.{Played}
+use Rattle.sm_protocol.specs.declared.event.Played.TheVariants as played
 use Rattle.sm_protocol.specs.Steps.{Answered}
-use Rattle.sm_protocol.specs.Hand.{Hand, Game, turn}
+use Rattle.sm_protocol.specs.Happens.{Happening}
+use Rattle.sm_protocol.specs.Hand.{Hand, Game, given, hand_after, turn}
+use Rattle.sm_protocol.specs.Log.{named}
 use Rattle.sm_machine.specs.declared.hand.Hand as declared
 use Rattle.sm_machine.specs.Machine.{MachineModel}
 use Rattle.sm_machine.specs.State.{state_of}
@@ -72,17 +76,36 @@ pub record IsTurn (m : MachineModel) (h : declared.Hand) (e : Event) (answer : P
   pub left : AreLeft h.plans.items k.plans.items
   pub room : (more : ℕ) → HasHandRoom h (suc more) → HasHandRoom k more
 
+-- the event starts no plan
+abbrev pub StartsNoPlan : Event → Type 0
+StartsNoPlan (event.Begin place) = ⊥
+StartsNoPlan _ = Unit {0}
+
+-- whether the hand has the right that the event names; without it the event is Unknown
+abbrev pub TellsRight : Bool → MachineModel → declared.Hand → Event → Type 0
+TellsRight true m h e = (x : Happening) × (given (hand_of h) e ≡ Some x) × (named (state_of m) e ≡ Some x)
+TellsRight false m h e = IsTurn m h e played.Unknown m h
+
+-- the same tokens and plans, and room for all but a permit and a ticket more
+pub record HasOneMore (h k : declared.Hand) : Type 0 where
+  pub tokens : k.tokens ≡ h.tokens
+  pub plans : k.plans ≡ h.plans
+  pub permits : length k.permits.items ≤ length h.permits.items + 1
+  pub tickets : length k.tickets.items ≤ length h.tickets.items + 1
+  pub permit_room : vec_capacity h.permits ≤ vec_capacity k.permits
+  pub ticket_room : vec_capacity h.tickets ≤ vec_capacity k.tickets
+
+-- The hand has become this by an event that it gave a right for, with this answer.
+pub record IsHandAfter (h : declared.Hand) (e : Event) (answer : Played) (k : declared.Hand) : Type 0 where
+  pub hand : (x : Happening) → given (hand_of h) e ≡ Some x → hand_of k ≡ hand_after (hand_of h) e x answer
+  pub more : HasOneMore h k
+
 -- ---- places in a list
 
 -- the place of the first element that passes, None if none does
 abbrev pub IsFirstPlace : {T : Type 0} → (T → Bool) → List T → Option ℕ → Type 0
 IsFirstPlace {T} test xs None = (k : ℕ) (d : T) → k < length xs → test (slice_index_or xs k d) ≡ false
 IsFirstPlace {T} test xs (Some i) = (i < length xs) × ((d : T) → test (slice_index_or xs i d) ≡ true) × ((k : ℕ) (d : T) → k < i → test (slice_index_or xs k d) ≡ false)
-
--- the list with this element put in at the place, if there is one
-abbrev pub put_at : {T : Type 0} → List T → ℕ → Option T → List T
-put_at xs i None = xs
-put_at xs i (Some x) = insert xs i x
 
 -- the list with this element behind the others, if there is one
 abbrev pub put_behind : {T : Type 0} → List T → Option T → List T

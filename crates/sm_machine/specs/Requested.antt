@@ -36,6 +36,11 @@ IsReply played.Unavailable = Unit {0}
 IsReply played.LogFull = Unit {0}
 IsReply _ = ⊥
 
+-- the answers that a request with a ticket may have
+abbrev pub IsTicketReply : Played → Type 0
+IsTicketReply played.Unknown = Unit {0}
+IsTicketReply answer = IsReply answer
+
 -- The request is answered so, and recorded unless the log is full.
 pub record IsAsked (x : Whole) (s v : ℕ) (sent : Option Ticket) (event : Event) (answer : Played) (y : Whole) : Type 0 where
   pub outcome : requested x.state s v sent event ≡ (Answered answer, y.state)

@@ -1,8 +1,7 @@
 //! Answers to requests.
 ghost use Rattle.std.specs.Prelude.{◌≡◌, ◌∷◌, [], if◌then◌else◌};
-ghost use Rattle.std.specs.Option.{option_to_list};
 ghost use Rattle.sm_protocol.specs.Hand.{tickets_of, spends};
-ghost use Rattle.sm_machine.specs.Requested.{IsReply, played_by, tickets_in};
+ghost use Rattle.sm_machine.specs.Requested.{IsReply, IsTicketReply, played_by, tickets_in};
 
 use crate::journal::TicketParts;
 use crate::ticket::Ticket;
@@ -49,39 +48,19 @@ pub(crate) fn answer_to(shard: ShardId, server: ServerId, reply: Played) -> Answ
 
 /// Returns the answer to a request that came with a ticket. The answer spends the ticket, or it comes back.
 pub(crate) fn answer_with(ticket: Ticket, reply: Played) -> Answer
-    requires { IsReply reply }
+    requires { IsTicketReply reply }
     ensures answer { played_by result ≡ reply }
     ensures tickets { tickets_in result ≡ (if spends reply then tickets_of ticket.shard ticket.target reply else ticket ∷ []) }
 {
-    if let Played::LogFull = reply {
-        return Answer::LogFull(Some(ticket));
-    }
-    let shard = ticket.shard();
-    let server = ticket.target();
-    ticket.abandon();
-    answer_to(shard, server, reply)
-}
-
-/// Returns an answer, and the ticket that comes with it.
-pub(crate) fn split(answer: Answer) -> (Played, Option<Ticket>)
-    ensures played { result.0 ≡ played_by answer }
-    ensures ticket { option_to_list result.1 ≡ tickets_in answer }
-{
-    match answer {
-        Answer::Executed { server } => (Played::Executed { server }, None),
-        Answer::Passed(ticket) => {
-            let TicketParts {
-                place,
-                target: to,
-                number,
-                ..
-            } = ticket.parts();
-            (Played::Passed { to, number, place }, Some(ticket))
+    match reply {
+        Played::LogFull => Answer::LogFull(Some(ticket)),
+        Played::Unknown => Answer::Unknown(ticket),
+        _ => {
+            let shard = ticket.shard();
+            let server = ticket.target();
+            ticket.abandon();
+            answer_to(shard, server, reply)
         }
-        Answer::NotOwner => (Played::NotOwner, None),
-        Answer::Unavailable => (Played::Unavailable, None),
-        Answer::LogFull(back) => (Played::LogFull, back),
-        Answer::Unknown(ticket) => (Played::Unknown, Some(ticket)),
     }
 }
 

@@ -76,7 +76,7 @@ impl Director {
         requires { CanDirect (state_of self.old).sizes event }
         ensures { IsDirectedIf self.old (named (state_of self.old) event) result self.new }
     {
-        self.machine.play_named(event)
+        self.machine.play_named(&event)
     }
 
     /// Starts a plan that is ready and was checked for the machine's configuration. It gets the next number. If it does

@@ -1,7 +1,7 @@
 //! Lists with room for what is put into them.
 ghost use Rattle.std.specs.Prelude.{◌≡◌, ◌≤◌, ◌<◌, ◌+◌, ◌++◌, ◌∷◌, [], ◌==◌, not, length, Some, slice_set, vec_len, vec_capacity, if◌then◌else◌};
-ghost use Rattle.std.specs.List.{filter, insert};
-ghost use Rattle.sm_machine.specs.Hand.{put_at, put_behind};
+ghost use Rattle.std.specs.List.{filter};
+ghost use Rattle.sm_machine.specs.Hand.{put_behind};
 
 use crate::ready_plan::ReadyPlan;
 use crate::token::StreamToken;
@@ -23,39 +23,6 @@ pub(crate) fn take_out(numbers: &mut Vec<u32>, number: u32)
     ensures capacity { vec_capacity numbers.old ≤ vec_capacity numbers.new }
 {
     numbers.retain(|other| *other != number);
-}
-
-/// Puts an element in at a place.
-pub(crate) fn put_back<T>(list: &mut Vec<T>, at: usize, value: T)
-    requires within { at ≤ vec_len list.old }
-    requires room { vec_len list.old < vec_capacity list.old }
-    ensures items { list.new.items ≡ insert list.old.items at value }
-    ensures capacity { vec_capacity list.old ≤ vec_capacity list.new }
-{
-    match list.insert(at, value) {
-        Ok(()) => {}
-        Err(_) => unreachable!(),
-    }
-}
-
-/// Puts what is left of an element that stood at a place back there, or, if that was spent, behind the others.
-pub(crate) fn settle<T>(list: &mut Vec<T>, at: usize, spent: bool, left: Option<T>)
-    requires within { at ≤ vec_len list.old }
-    requires room { vec_len list.old < vec_capacity list.old }
-    ensures items { list.new.items ≡ (if spent then put_behind list.old.items left else put_at list.old.items at left) }
-    ensures len { vec_len list.new ≤ vec_len list.old + 1 }
-    ensures capacity { vec_capacity list.old ≤ vec_capacity list.new }
-{
-    match left {
-        None => {}
-        Some(value) => {
-            if spent {
-                list.push_reserved(value);
-            } else {
-                put_back(list, at, value);
-            }
-        }
-    }
 }
 
 /// Puts an element behind the others, if there is one.

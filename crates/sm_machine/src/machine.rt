@@ -1,19 +1,17 @@
 //! Machines.
-ghost use Rattle.std.specs.Prelude.{◌≡◌, ◌≢◌, ◌≤◌, ◌<◌, ◌↔◌, ◌⊎◌, IfOk, OnOk, IfErr, OnErr, length, true, false, ◌∷◌, [], if◌then◌else◌, ◌+◌, reverse, None, Some, slice_index_or};
-ghost use Rattle.sm_placement.specs.Place.{down_count, entry_at};
+ghost use Rattle.std.specs.Prelude.{◌≡◌, ◌≢◌, ◌≤◌, ◌<◌, ◌↔◌, ◌⊎◌, IfOk, OnOk, IfErr, OnErr, length, true, false, ◌∷◌, [], if◌then◌else◌, ◌+◌, Some};
+ghost use Rattle.sm_placement.specs.Place.{down_count};
 ghost use Rattle.sm_placement.specs.Lead.{IsSettled};
-ghost use Rattle.sm_protocol.specs.State.{opened, is_begun, progress_of, allowance, free_places, stream_count, plan_at, pool};
-ghost use Rattle.sm_protocol.specs.Next.{blocked_on, next_call_of, next_entry_of, since_of, unfinished_plans};
-ghost use Rattle.sm_protocol.specs.Ticket.{passes};
+ghost use Rattle.sm_protocol.specs.State.{opened};
+ghost use Rattle.sm_protocol.specs.Ticket.{is_open_ticket};
 ghost use Rattle.sm_machine.specs.declared.open_fault.OpenFault.TheVariants.{LogFull};
 ghost use Rattle.sm_placement.specs.Sums.{bit};
 ghost use Rattle.sm_placement.specs.Setup.{sizes_of};
 ghost use Rattle.sm_placement.specs.Layout.{place_of};
 ghost use Rattle.sm_machine.specs.Permits.{filter_below};
-ghost use Rattle.sm_reservation.specs.Pool.{pool_hold, HasSize};
-ghost use Rattle.sm_protocol.specs.Steps.{Answered, step};
+ghost use Rattle.sm_protocol.specs.Steps.{Answered};
 ghost use Rattle.sm_protocol.specs.Happens as happening;
-ghost use Rattle.sm_protocol.specs.Happens.{happens, engaged};
+ghost use Rattle.sm_protocol.specs.Happens.{happens};
 ghost use Rattle.sm_protocol.specs.Safe.{IsSafe, SomeCanStep, SomeCanStepOrSpent};
 ghost use Rattle.sm_protocol.specs.Laws.{IsReached, HasNoLost, NextIsServed, ExecutedServes};
 ghost use Rattle.sm_machine.specs.State.{whole_of, state_of};
@@ -29,6 +27,9 @@ ghost use Rattle.sm_machine.specs.Losses.{refill_answer, is_lost_answer, IsStepO
 ghost use Rattle.sm_machine.specs.Retired.{has_ended, steps_at_end, made_in};
 ghost use Rattle.sm_plan_code.specs.declared.limits.TheConstants.{MOST_CALLS, MOST_PLACES};
 
+mod named;
+mod readers;
+
 use crate::answer::{Answer, answer_to, answer_with};
 use crate::engine::Engine;
 use crate::link::Link;
@@ -39,10 +40,9 @@ use crate::rooms::Rooms;
 use crate::step::Step;
 use crate::ticket::{Ticket, close_tickets};
 use crate::token::{StreamToken, close_tokens};
-use sm_placement::{Config, Entry, Placement};
-use sm_plan_code::{MOST_PLACES, Plan, ServerCall};
-use sm_protocol::{BeginFault, Event, Logged, Passage, RefillFault};
-use sm_reservation::{Pool, StreamId};
+use sm_placement::Placement;
+use sm_plan_code::MOST_PLACES;
+use sm_protocol::{BeginFault, Passage, RefillFault};
 use sm_server::{ServerId, ShardId};
 use sm_task_controller::Denied;
 use sm_verifier::Checked;
@@ -202,28 +202,6 @@ impl Machine {
         self.engine.step_by(id, passage)
     }
 
-    /// Makes a stream's next step. If that tries a call, `passage` says whether the try gets through.
-    pub(crate) fn step_by(&mut self, id: StreamId, passage: Passage) -> Step
-        ensures answer { (step (state_of self.old) id passage).0 ≡ Answered (played_of result) }
-        ensures state { state_of self.new ≡ (step (state_of self.old) id passage).1 }
-        ensures setup { self.new.placement.setup ≡ self.old.placement.setup }
-    {
-        self.engine.step_by(id, passage)
-    }
-
-    /// Makes a stream's next step, and loses its call if it tries one: before its effect, or its answer after it.
-    pub(crate) fn lose_by(&mut self, id: StreamId, after: bool) -> Step
-        ensures answer { (happens (state_of self.old) (happening.Lose id after)).0 ≡ Answered (played_of result) }
-        ensures state { state_of self.new ≡ (happens (state_of self.old) (happening.Lose id after)).1 }
-        ensures setup { self.new.placement.setup ≡ self.old.placement.setup }
-    {
-        if after {
-            self.step_by(id, Passage::LostAfter)
-        } else {
-            self.step_by(id, Passage::LostBefore)
-        }
-    }
-
     /// Raises a stream's allowance of tries, by 262,144 at most at once.
     ///
     /// Takes no memory.
@@ -237,16 +215,6 @@ impl Machine {
         self.engine.refill(token.id(), more)
     }
 
-    /// Raises a stream's allowance.
-    pub(crate) fn refill_by(&mut self, id: StreamId, more: u32) -> Result<(), RefillFault>
-        requires { more ≤ MOST_CALLS }
-        ensures answer { (happens (state_of self.old) (happening.Refill id more)).0 ≡ Answered (refill_answer result) }
-        ensures state { state_of self.new ≡ (happens (state_of self.old) (happening.Refill id more)).1 }
-        ensures setup { self.new.placement.setup ≡ self.old.placement.setup }
-    {
-        self.engine.refill(id, more)
-    }
-
     /// Asks a server for a shard.
     ///
     /// Takes no memory.
@@ -258,8 +226,7 @@ impl Machine {
         ensures tickets { tickets_in result ≡ tickets_of shard server (played_by result) }
         ensures setup { self.new.placement.setup ≡ self.old.placement.setup }
     {
-        let event = Event::Arrive { shard, server };
-        let reply = self.engine.ask(shard, server, None, event);
+        let reply = self.arrive_named(shard, server);
         answer_to(shard, server, reply)
     }
 
@@ -273,14 +240,7 @@ impl Machine {
         ensures tickets { tickets_in result ≡ (if spends (played_by result) then tickets_of ticket.shard ticket.target (played_by result) else ticket ∷ []) }
         ensures setup { self.new.placement.setup ≡ self.old.placement.setup }
     {
-        let parts = ticket.parts();
-        if !self.engine.is_open(&parts) {
-            return Answer::Unknown(ticket);
-        }
-        let event = Event::PassOn { place: parts.place };
-        let reply = self
-            .engine
-            .ask(parts.shard, parts.target, Some(parts), event);
+        let reply = self.pass_on_named(ticket.parts());
         answer_with(ticket, reply)
     }
 
@@ -338,186 +298,11 @@ impl Machine {
         self.engine.set_halted(false);
     }
 
-    /// Returns the placement as it stands.
-    pub fn placement(&self) -> &Placement
-        ensures place { place_of result.now ≡ (state_of self.now).place }
-        ensures sizes { sizes_of result.now.setup ≡ (state_of self.now).sizes }
-        ensures setup { result.now.setup ≡ self.now.placement.setup }
+    /// Tells whether the log has just the pass of a ticket, and its request was not passed on yet.
+    pub(crate) fn is_open(&self, ticket: &Ticket) -> bool
+        ensures { result ≡ is_open_ticket (state_of self.now).log ticket.now }
     {
-        self.engine.placement()
-    }
-
-    /// Returns the configuration.
-    pub fn config(&self) -> &Config
-        ensures setup { result.now ≡ self.now.placement.setup }
-        ensures sizes { sizes_of result.now ≡ (state_of self.now).sizes }
-    {
-        self.engine.placement().config()
-    }
-
-    /// Returns the rights that no stream holds and no parcel carries.
-    pub fn pool(&self) -> &Pool
-        ensures hold { pool_hold result.now ≡ pool (state_of self.now) }
-        ensures size { HasSize (state_of self.now).sizes result.now }
-    {
-        self.engine.pool()
-    }
-
-    /// Returns the recorded events with their answers, the oldest first.
-    pub fn log(&self) -> &[Logged]
-        ensures { result.now ≡ (state_of self.now).log }
-    {
-        self.engine.log()
-    }
-
-    /// Returns the entries that publications have added to the published map, with their shards, the oldest first.
-    pub fn entries(&self) -> &[(ShardId, Entry)]
-        ensures { reverse result.now ≡ (state_of self.now).entries }
-    {
-        self.engine.entries()
-    }
-
-    /// Returns the published map's entry of a shard.
-    pub fn entry(&self, shard: ShardId) -> Entry
-        requires { shard < (state_of self.now).sizes.shards }
-        ensures { result ≡ entry_at (state_of self.now).place shard }
-    {
-        self.engine.placement().entry(shard)
-    }
-
-    /// Returns the number of log places that are neither used nor set aside for what was begun.
-    pub fn free_places(&self) -> u64
-        ensures { result ≡ free_places (state_of self.now) }
-    {
-        self.engine.free()
-    }
-
-    /// Returns the number of plans that were begun.
-    pub fn plan_count(&self) -> u64
-        ensures { result ≡ length (state_of self.now).plans }
-    {
-        self.engine.plan_count() as u64
-    }
-
-    /// Returns the number of streams of a plan that was begun.
-    pub fn stream_count(&self, plan: u32) -> u64
-        requires { plan < length (state_of self.now).plans }
-        ensures { result ≡ stream_count (state_of self.now) plan }
-    {
-        self.engine.stream_count(plan) as u64
-    }
-
-    /// Returns the plan with a number.
-    pub fn plan(&self, plan: u32) -> &Plan
-        requires { plan < length (state_of self.now).plans }
-        ensures { result.now ≡ plan_at (state_of self.now) plan }
-    {
-        self.engine.plan(plan)
-    }
-
-    /// Tells whether the stream was begun by this machine.
-    pub fn is_begun(&self, id: StreamId) -> bool
-        ensures { result ≡ is_begun (state_of self.now) id }
-    {
-        self.engine.is_begun(id)
-    }
-
-    /// Tells whether the stream has finished.
-    pub fn is_done(&self, id: StreamId) -> bool
-        requires { is_begun (state_of self.now) id ≡ true }
-        ensures { result ≡ (progress_of (state_of self.now) id).done }
-    {
-        self.engine.progress(id).done
-    }
-
-    /// Returns the number of instructions that a stream has made.
-    pub fn position(&self, id: StreamId) -> usize
-        requires { is_begun (state_of self.now) id ≡ true }
-        ensures { result ≡ (progress_of (state_of self.now) id).at }
-    {
-        self.engine.progress(id).at
-    }
-
-    /// Returns the log's length when a stream came to its position: behind its last step, or at its plan's start if it
-    /// has made none.
-    pub fn since(&self, id: StreamId) -> u32
-        requires { is_begun (state_of self.now) id ≡ true }
-        ensures { result ≡ since_of (state_of self.now) id }
-    {
-        self.engine.since(id)
-    }
-
-    /// Returns the call that a running stream stands before, with the handover number that it carries. None if its next
-    /// instruction is no call, at its end, and of any other stream.
-    pub fn next_call(&self, id: StreamId) -> Option<ServerCall>
-        ensures { result ≡ next_call_of (state_of self.now) id }
-    {
-        self.engine.next_call(id)
-    }
-
-    /// Returns the entry of the published map that a running stream stands before, with its shard and under its next
-    /// version. None if its next instruction changes no entry, at its end, and of any other stream.
-    pub fn next_entry(&self, id: StreamId) -> Option<(ShardId, Entry)>
-        ensures { result ≡ next_entry_of (state_of self.now) id }
-    {
-        self.engine.next_entry(id)
-    }
-
-    /// Returns the signal that a running stream waits for, if it is not posted.
-    pub fn blocked_on(&self, id: StreamId) -> Option<u32>
-        ensures { result ≡ blocked_on (state_of self.now) id }
-    {
-        self.engine.blocked_on(id)
-    }
-
-    /// Returns the numbers of the plans that have a stream that has not finished, in the order of their starts.
-    pub fn unfinished(&self) -> &[u32]
-        ensures { result.now ≡ unfinished_plans (state_of self.now) }
-    {
-        self.engine.unfinished()
-    }
-
-    /// Returns the number of tries of calls that a stream has made.
-    pub fn calls(&self, id: StreamId) -> u64
-        requires { is_begun (state_of self.now) id ≡ true }
-        ensures { result ≡ (progress_of (state_of self.now) id).tries }
-    {
-        self.engine.progress(id).tries
-    }
-
-    /// Returns the number of tries of calls that a stream may make: its budget, its retries and its refills.
-    pub fn allowance(&self, id: StreamId) -> u64
-        requires { is_begun (state_of self.now) id ≡ true }
-        ensures { result ≡ allowance (state_of self.now) id }
-    {
-        self.engine.allowance(id)
-    }
-
-    /// Returns the number of recorded steps that a stream makes on its way: the tries of its calls so far, its other
-    /// instructions, and its end, whether or not it has come to those. If the stream has finished, `retire` answers
-    /// that number.
-    pub fn steps_at_end(&self, id: StreamId) -> u64
-        requires { is_begun (state_of self.now) id ≡ true }
-        ensures { result ≡ steps_at_end (state_of self.now) id }
-    {
-        self.engine.steps_made(id)
-    }
-
-    /// Returns the lowest unfinished stream whose code mentions the server.
-    pub fn engaged(&self, server: ServerId) -> Option<StreamId>
-        ensures { result ≡ engaged (state_of self.now) server }
-    {
-        self.engine.engaged(server)
-    }
-
-    /// Returns a ticket of the pass that is recorded at this place of the log.
-    pub(crate) fn ticket_at(&self, place: u32) -> Option<Ticket>
-        ensures { result ≡ slice_index_or (passes (state_of self.now).log) place None }
-    {
-        match self.engine.pass_at(place) {
-            Some(parts) => Some(Ticket::new(parts)),
-            None => None,
-        }
+        self.engine.is_open(&ticket.parts())
     }
 
     /// Ends the token of a stream that has finished, and answers how many recorded steps the stream made: the tries of

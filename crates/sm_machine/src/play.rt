@@ -6,112 +6,35 @@ ghost use Rattle.sm_protocol.specs.Hand.{play, plays};
 ghost use Rattle.sm_protocol.specs.Laws.{NamesKnown, IsPlayed};
 ghost use Rattle.sm_protocol.specs.Steps.{Answered};
 ghost use Rattle.sm_machine.specs.State.{state_of};
-ghost use Rattle.sm_machine.specs.Hand.{AreFor, AreLeft, HasHandRoom, IsSameHand, IsTurn, game_of};
+ghost use Rattle.sm_machine.specs.Hand.{AreFor, AreLeft, HasHandRoom, StartsNoPlan, TellsRight, IsSameHand, IsTurn, game_of};
 ghost use Rattle.sm_plan_code.specs.declared.limits.TheConstants.{MOST_CALLS};
 
-use crate::answer::{spends_ticket, split};
 use crate::answers::Answers;
 use crate::hand::{Hand, token_room};
-use crate::lists::{add_left, add_tokens, put_back, put_plan, settle};
+use crate::lists::{add_tokens, put_plan};
 use crate::machine::Machine;
 use crate::searches::{first_permit, first_ticket, has_token};
 use sm_plan_code::MOST_CALLS;
-use sm_protocol::{Event, Passage, Played};
-use sm_reservation::StreamId;
-use sm_server::{ServerId, ShardId};
+use sm_protocol::{Event, Played};
 use std::alloc::{AllocError, Global};
 
 impl Machine {
-    /// Makes a stream's next step, if the hand has its token.
-    fn play_step(&mut self, hand: &Hand, stream: StreamId) -> Played
-        ensures { IsTurn self.old hand.now (event.Step stream) result self.new hand.now }
+    /// Tells whether a hand has the right that an event names. Without it the event is Unknown.
+    fn has_right(&self, hand: &Hand, event: &Event) -> bool
+        requires { StartsNoPlan event.now }
+        ensures { TellsRight result self.now hand.now event.now }
     {
-        if !has_token(hand.tokens.as_slice(), stream) {
-            return Played::Unknown;
-        }
-        Played::from(self.step_by(stream, Passage::Through))
-    }
-
-    /// Makes a stream's next step, if the hand has its token, and loses its call.
-    fn play_lose(&mut self, hand: &Hand, stream: StreamId, after: bool) -> Played
-        ensures { IsTurn self.old hand.now (event.Lose stream after) result self.new hand.now }
-    {
-        if !has_token(hand.tokens.as_slice(), stream) {
-            return Played::Unknown;
-        }
-        Played::from(self.lose_by(stream, after))
-    }
-
-    /// Raises a stream's allowance, if the hand has its token.
-    fn play_refill(&mut self, hand: &Hand, stream: StreamId, more: u32) -> Played
-        requires { more ≤ MOST_CALLS }
-        ensures { IsTurn self.old hand.now (event.Refill stream more) result self.new hand.now }
-    {
-        if !has_token(hand.tokens.as_slice(), stream) {
-            return Played::Unknown;
-        }
-        match self.refill_by(stream, more) {
-            Ok(()) => Played::Refilled,
-            Err(why) => Played::RefillRefused(why),
-        }
-    }
-
-    /// Asks a server for a shard. The ticket of its pass goes into the hand.
-    fn play_arrive(&mut self, hand: &mut Hand, shard: ShardId, server: ServerId) -> Played
-        requires shard { shard < (state_of self.old).sizes.shards }
-        requires server { server < (state_of self.old).sizes.servers }
-        requires room { HasHandRoom hand.old 1 }
-        ensures { IsTurn self.old hand.old (event.Arrive shard server) result self.new hand.new }
-    {
-        let (answer, left) = split(self.arrive(shard, server));
-        add_left(&mut hand.tickets, left);
-        answer
-    }
-
-    /// Brings the request of the first ticket of a place of the log to the server that it was passed to.
-    fn play_pass_on(&mut self, hand: &mut Hand, place: u32) -> Played
-        requires room { HasHandRoom hand.old 1 }
-        ensures { IsTurn self.old hand.old (event.PassOn place) result self.new hand.new }
-    {
-        let Some(at) = first_ticket(hand.tickets.as_slice(), place) else {
-            return Played::Unknown;
-        };
-        let ticket = hand.tickets.remove(at);
-        let (answer, left) = split(self.pass_on(ticket));
-        settle(&mut hand.tickets, at, spends_ticket(&answer), left);
-        answer
-    }
-
-    /// Decides, for the cluster manager, whether a server may be restarted. The permit goes into the hand.
-    fn play_approve(&mut self, hand: &mut Hand, server: ServerId) -> Played
-        requires server { server < (state_of self.old).sizes.servers }
-        requires room { HasHandRoom hand.old 1 }
-        ensures { IsTurn self.old hand.old (event.Approve server) result self.new hand.new }
-    {
-        match self.approve(server) {
-            Ok(permit) => {
-                hand.permits.push_reserved(permit);
-                Played::Approved
+        match *event {
+            Event::Step { stream } | Event::Lose { stream, .. } | Event::Refill { stream, .. } => {
+                has_token(hand.tokens.as_slice(), stream)
             }
-            Err(why) => Played::Denied(why),
-        }
-    }
-
-    /// Ends a restart, if the hand has the server's permit.
-    fn play_done(&mut self, hand: &mut Hand, server: ServerId) -> Played
-        requires room { HasHandRoom hand.old 1 }
-        ensures { IsTurn self.old hand.old (event.Done server) result self.new hand.new }
-    {
-        let Some(at) = first_permit(hand.permits.as_slice(), server) else {
-            return Played::Unknown;
-        };
-        let permit = hand.permits.remove(at);
-        match self.done(permit) {
-            Ok(()) => Played::Up,
-            Err(permit) => {
-                put_back(&mut hand.permits, at, permit);
-                Played::Unknown
-            }
+            Event::PassOn { place } => match first_ticket(hand.tickets.as_slice(), place) {
+                Some(at) => self.is_open(&hand.tickets[at]),
+                None => false,
+            },
+            Event::Done { server } => first_permit(hand.permits.as_slice(), server).is_some(),
+            Event::Arrive { .. } | Event::Approve { .. } => true,
+            Event::Begin { .. } => false,
         }
     }
 
@@ -150,16 +73,16 @@ impl Machine {
         requires room { HasHandRoom hand.old 1 }
         ensures { IsTurn self.old hand.old event result self.new hand.new }
     {
-        match event {
-            Event::Step { stream } => self.play_step(hand, stream),
-            Event::Lose { stream, after } => self.play_lose(hand, stream, after),
-            Event::Refill { stream, more } => self.play_refill(hand, stream, more),
-            Event::Arrive { shard, server } => self.play_arrive(hand, shard, server),
-            Event::PassOn { place } => self.play_pass_on(hand, place),
-            Event::Approve { server } => self.play_approve(hand, server),
-            Event::Done { server } => self.play_done(hand, server),
-            Event::Begin { plan } => self.play_begin(hand, plan),
+        if let Event::Begin { plan } = event {
+            return self.play_begin(hand, plan);
         }
+        if !self.has_right(hand, &event) {
+            return Played::Unknown;
+        }
+        let answer = self.play_named(&event);
+        let told = answer;
+        hand.settle(&event, told);
+        answer
     }
 
     /// Plays the events, for whose answers there is room.

@@ -7,7 +7,8 @@ ghost use Rattle.sm_machine.specs.Servers.{AreMentionedBy};
 ghost use Rattle.sm_machine.specs.Started.{ArePeaksOf};
 ghost use Rattle.sm_machine.specs.Starts.{IsEmptyCourse, IsEmptyCarried, ready_course, ready_signal, ready_courses, ready_signals, begun_of};
 
-use crate::begun::{Begun, Carried};
+use crate::begun::Begun;
+use crate::carried::Carried;
 use crate::plan_room::PlanRoom;
 use crate::servers::MentionedServers;
 use crate::stream::Course;

@@ -5,12 +5,12 @@ use Rattle.sm_machine.specs.State.{state_of}
 use Rattle.sm_machine.specs.Requested.{IsRequest}
 use Rattle.sm_machine.proofs.Requested.{arrives}
 use Rattle.sm_machine.proofs.Setups.{setup_kept}
-use Rattle.sm_machine.proofs.machine.Machine.arrive.Goals as goal
+use Rattle.sm_machine.proofs.machine.Machine.arrive_named.Goals as goal
 
-pub ask-reply-requires-clause-request : goal.ask-reply-requires-clause-request
-ask-reply-requires-clause-request c =
+pub ask-requires-clause-request : goal.ask-requires-clause-request
+ask-requires-clause-request c =
     subst (λ m. IsRequest (state_of m) c.args.shard c.args.server None (event.Arrive c.args.shard c.args.server)) (sym c.self.view_is)
     (arrives (state_of c.args.self.now) c.args.shard c.args.server c.requires.shard c.requires.server)
 
 pub returns-clause-setup : goal.returns-clause-setup
-returns-clause-setup c = setup_kept c.self.inside.engine c.args.self.now c.ask-reply.new.self c.self.view_is c.ask-reply.ensures.setup
+returns-clause-setup c = setup_kept c.self.inside.engine c.args.self.now c.ask.new.self c.self.view_is c.ask.ensures.setup
