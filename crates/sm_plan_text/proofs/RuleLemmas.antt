@@ -69,7 +69,7 @@ same_faults parent word table scope d (Some rules) (Some w) is =
     ap (λ rows. object_faults parent (text_of word ∷ map (λ (row : Row). text_of row.member) rows) d ++ flat_map (row_faults d) rows) (ap (λ o. unwrap_or o []) is)
 
 -- a word that is missing says none of the tables
-at_word : {W : Type 0} (named : List ℕ → Option W) (found : Option (List ℕ)) → named [] ≡ None → option_and_then named found ≡ named (unwrap_or found [])
+pub at_word : {W : Type 0} (named : List ℕ → Option W) (found : Option (List ℕ)) → named [] ≡ None → option_and_then named found ≡ named (unwrap_or found [])
 at_word named None none = sym none
 at_word named (Some text) none = refl
 

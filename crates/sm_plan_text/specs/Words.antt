@@ -27,7 +27,7 @@ pub use Rattle.sm_plan_text.specs.Tables.{walked, own_faults, worded_faults}
 pub use Rattle.sm_plan_text.specs.Servers.{server_table, server_faults, server_in, down_in}
 pub use Rattle.sm_plan_text.specs.Shards.{cap_limit, shard_table, faults_of_shard, shard_faults, shard_in, listed_in, cell_faults, named_cell, cells_of_shard, cells_in}
 pub use Rattle.sm_plan_text.specs.Calls.{call_word, call_table, call_worded, call_in}
-pub use Rattle.sm_plan_text.specs.Events.{event_word, event_table, event_of, event_in}
+pub use Rattle.sm_plan_text.specs.Events.{event_word, event_table, event_by, event_in}
 pub use Rattle.sm_plan_text.specs.Moves.{move_table, move_in}
 pub use Rattle.sm_plan_text.specs.Parcels.{plain_named, right_table, right_in, lead_word, crown_table, lead_worded, crown_in, room_table, room_in, spare_table, spare_in, parcel_faults, parcel_in}
 pub use Rattle.sm_plan_text.specs.Instructions.{instr_word, instr_table, instr_faults, instr_of, instr_in}

@@ -1,6 +1,6 @@
 //! The events of a document.
-ghost use Rattle.std.specs.Prelude.{◌≡◌, map, option_map, IfSome};
-ghost use Rattle.sm_plan_text.specs.Words.{view, Scope, row_of, worded_faults, event_word, event_table, event_of, event_in};
+ghost use Rattle.std.specs.Prelude.{◌≡◌, map, option_map};
+ghost use Rattle.sm_plan_text.specs.Words.{view, Scope, row_of, worded_faults, event_word, event_table, event_by, event_in};
 ghost use Rattle.sm_plan_text.specs.declared.member.Member.TheVariants as members;
 
 use crate::cursor::after_of;
@@ -33,53 +33,50 @@ pub enum EventText {
 
 const PLAN: Rule = Rule::Maybe(Member::Plan, Form::Whole(MOST_NUMBER));
 
+/// The plan that begins.
+const BEGUN: Rule = Rule::One(Member::Plan, Form::Whole(MOST_NUMBER));
+
 const STREAM: Rule = Rule::One(Member::Stream, Form::Whole(MOST_NUMBER));
+
+const TICKET: Rule = Rule::One(Member::Ticket, Form::Whole(MOST_NUMBER));
+
+const WHEN: Rule = Rule::One(Member::When, Form::When);
 
 const MORE: Rule = Rule::One(Member::More, Form::Whole(MOST_CALLS));
 
-/// Returns the members of an event with this word.
-fn rules_of(word: &str) -> Option<&'static [Rule]>
-    ensures { (scope : Scope) → option_map (λ rules. map (row_of scope) rules.now) result ≡ option_map (event_table scope.shards.now scope.servers.now) (event_word word.now) }
-{
-    match word {
-        "step" => Some(&[PLAN, STREAM]),
-        "request" => Some(&[SHARD, SERVER]),
-        "pass_on" => Some(&[Rule::One(Member::Ticket, Form::Whole(MOST_NUMBER))]),
-        "approve" | "done" => Some(&[SERVER]),
-        "lose" => Some(&[PLAN, STREAM, Rule::One(Member::When, Form::When)]),
-        "refill" => Some(&[PLAN, STREAM, MORE]),
-        "begin" => Some(&[Rule::One(Member::Plan, Form::Whole(MOST_NUMBER))]),
-        _ => None,
-    }
-}
-
-/// Reads the event that an object says by its word, which is one of an event.
-fn event_of(word: &str, cursor: &Cursor<'_, '_>) -> EventText
-    ensures { IfSome (event_word word.now) (λ w. result ≡ event_of cursor.now.scope.shards.now cursor.now.scope.servers.now (view cursor.now.tree.now) w) }
+/// Returns the rules for the members of an event with this word, and the event that the object says. A word that says no
+/// event has no rules.
+fn event_of(word: &str, cursor: &Cursor<'_, '_>) -> (Option<&'static [Rule]>, EventText)
+    ensures rules { (scope : Scope) → option_map (λ rules. map (row_of scope) rules.now) result.0 ≡ option_map (event_table scope.shards.now scope.servers.now) (event_word word.now) }
+    ensures event { result.1 ≡ event_by cursor.now.scope.shards.now cursor.now.scope.servers.now (view cursor.now.tree.now) (event_word word.now) }
 {
     let plan = cursor.number_or(Member::Plan, MOST_NUMBER, 0);
     let stream = cursor.number(Member::Stream, MOST_NUMBER);
     let shard = cursor.shard(Member::Shard);
     let server = cursor.server(Member::Server);
+    let ticket = cursor.number(Member::Ticket, MOST_NUMBER);
+    let after = after_of(cursor.text(Member::When)).unwrap_or(false);
+    let more = cursor.number(Member::More, MOST_CALLS);
     match word {
-        "step" => EventText::Step { plan, stream },
-        "request" => EventText::Request { shard, server },
-        "pass_on" => EventText::PassOn {
-            ticket: cursor.number(Member::Ticket, MOST_NUMBER),
-        },
-        "approve" => EventText::Approve { server },
-        "done" => EventText::Done { server },
-        "lose" => EventText::Lose {
-            plan,
-            stream,
-            after: after_of(cursor.text(Member::When)).unwrap_or(false),
-        },
-        "refill" => EventText::Refill {
-            plan,
-            stream,
-            more: cursor.number(Member::More, MOST_CALLS),
-        },
-        _ => EventText::Begin { plan },
+        "step" => (Some(&[PLAN, STREAM]), EventText::Step { plan, stream }),
+        "request" => (Some(&[SHARD, SERVER]), EventText::Request { shard, server }),
+        "pass_on" => (Some(&[TICKET]), EventText::PassOn { ticket }),
+        "approve" => (Some(&[SERVER]), EventText::Approve { server }),
+        "done" => (Some(&[SERVER]), EventText::Done { server }),
+        "lose" => (
+            Some(&[PLAN, STREAM, WHEN]),
+            EventText::Lose {
+                plan,
+                stream,
+                after,
+            },
+        ),
+        "refill" => (
+            Some(&[PLAN, STREAM, MORE]),
+            EventText::Refill { plan, stream, more },
+        ),
+        "begin" => (Some(&[BEGUN]), EventText::Begin { plan }),
+        _ => (None, EventText::Begin { plan: 0 }),
     }
 }
 
@@ -90,7 +87,8 @@ impl Entry for EventText {
 
     fn read(cursor: &Cursor<'_, '_>, faults: &mut Faults) -> Result<Self, AllocError> {
         let word = cursor.text(Member::Event);
-        cursor.note_worded(Member::Event, rules_of(word), faults)?;
-        Ok(event_of(word, cursor))
+        let (rules, event) = event_of(word, cursor);
+        cursor.note_worded(Member::Event, rules, faults)?;
+        Ok(event)
     }
 }
