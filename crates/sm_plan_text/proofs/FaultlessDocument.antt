@@ -11,12 +11,13 @@ use Rattle.std.proofs.lemmas.List.Sums.{list_all-from_AllPass}
 use Rattle.serde_json.specs.Data.{Data}
 use Rattle.serde_json.specs.Find.{as_object}
 use Rattle.sm_placement.specs.Names.{is_name, has_double}
-use Rattle.sm_placement.specs.Setup.{is_well_named_server, is_well_named_shard, is_good_server, is_good_shard}
+use Rattle.sm_placement.specs.Setup.{Sizes, is_well_named_server, is_well_named_shard, is_good_server, is_good_shard}
 use Rattle.sm_placement.specs.Opening.{NamedCell}
 use Rattle.sm_placement.specs.Rows.{IsKnownCall}
 use Rattle.sm_placement.specs.declared.limits.TheConstants.{MOST_LOAD, MOST_REPLICAS, MOST_CELLS}
 use Rattle.sm_plan_code.specs.Move.{IsKnownMove}
 use Rattle.sm_plan_code.specs.declared.limits.TheConstants.{MOST_CALLS, MOST_NUMBER}
+use Rattle.sm_protocol.specs.Laws.{NamesKnown}
 use Rattle.sm_placement.proofs.DoubleLemmas.{has_double_push}
 use Rattle.sm_plan_text.specs.declared.fault.TextFault.{TextFault}
 use Rattle.sm_plan_text.specs.declared.fault.TextFault.TheVariants.{Shape}
@@ -31,7 +32,7 @@ use Rattle.sm_plan_text.specs.Shards.{cap_limit, cell_count, shard_table, cell_t
 use Rattle.sm_plan_text.specs.Calls.{NamedCall, call_word, word_table, call_table, call_faults, call_worded, call_by, call_in}
 use Rattle.sm_plan_text.specs.Events.{EventWord}
 use Rattle.sm_plan_text.specs.Events as event_word_of
-use Rattle.sm_plan_text.specs.Events.{IsKnownEvent, event_word, event_table, event_faults, event_of, event_by, event_in}
+use Rattle.sm_plan_text.specs.Events.{event_word, event_table, event_faults, event_of, event_by, event_in}
 use Rattle.sm_plan_text.specs.Moves.{move_table, move_faults, move_in}
 use Rattle.sm_plan_text.proofs.ServerLemmas.{names_in_push}
 use Rattle.sm_plan_text.proofs.Faultless.{nil_left, nil_right, all_entries, walked_entries, walked_front, up_to_below, number_in-le, number_is_read, text_passes, id_known, entries_within}
@@ -280,26 +281,26 @@ moves_within shards servers ds h =
 
 -- ---- events
 
-event_rest : (shards servers : List (List ℕ)) (d : Data) (w : EventWord) → flat_map (row_faults d) (event_table shards servers w) ≡ [] → IsKnownEvent (length shards) (length servers) (event_of shards servers d w)
-event_rest shards servers d event_word_of.Step h = tt
-event_rest shards servers d event_word_of.Request h = (
+event_rest : (c : Sizes) (shards servers : List (List ℕ)) (d : Data) (w : EventWord) → flat_map (row_faults d) (event_table shards servers w) ≡ [] → NamesKnown (record c { shards = length shards; servers = length servers }) (event_of shards servers d w)
+event_rest c shards servers d event_word_of.Step h = tt
+event_rest c shards servers d event_word_of.Request h = (
   id_known members.Shard shards d (nil_left (row_faults d (one members.Shard (known shards))) _ h),
   id_known members.Server servers d (nil_left (row_faults d (one members.Server (known servers))) _ (nil_right (row_faults d (one members.Shard (known shards))) _ h)),
 )
-event_rest shards servers d event_word_of.PassOn h = tt
-event_rest shards servers d event_word_of.Approve h = id_known members.Server servers d (nil_left (row_faults d (one members.Server (known servers))) _ h)
-event_rest shards servers d event_word_of.Done h = id_known members.Server servers d (nil_left (row_faults d (one members.Server (known servers))) _ h)
-event_rest shards servers d event_word_of.Lose h = tt
-event_rest shards servers d event_word_of.Refill h = number_in-le members.More MOST_CALLS d
-event_rest shards servers d event_word_of.Begin h = tt
+event_rest c shards servers d event_word_of.PassOn h = tt
+event_rest c shards servers d event_word_of.Approve h = id_known members.Server servers d (nil_left (row_faults d (one members.Server (known servers))) _ h)
+event_rest c shards servers d event_word_of.Done h = id_known members.Server servers d (nil_left (row_faults d (one members.Server (known servers))) _ h)
+event_rest c shards servers d event_word_of.Lose h = tt
+event_rest c shards servers d event_word_of.Refill h = number_in-le members.More MOST_CALLS d
+event_rest c shards servers d event_word_of.Begin h = tt
 
-event_by_word : (shards servers : List (List ℕ)) (d : Data) (o : Option EventWord) → by_word members.Events members.Event (event_table shards servers) d o ≡ [] → IsKnownEvent (length shards) (length servers) (event_by shards servers d o)
-event_by_word shards servers d None h = tt
-event_by_word shards servers d (Some w) h =
-    event_rest shards servers d w (nil_right (object_faults members.Events (text_of members.Event ∷ map (λ row. text_of row.member) (event_table shards servers w)) d) _ h)
+event_by_word : (c : Sizes) (shards servers : List (List ℕ)) (d : Data) (o : Option EventWord) → by_word members.Events members.Event (event_table shards servers) d o ≡ [] → NamesKnown (record c { shards = length shards; servers = length servers }) (event_by shards servers d o)
+event_by_word c shards servers d None h = tt
+event_by_word c shards servers d (Some w) h =
+    event_rest c shards servers d w (nil_right (object_faults members.Events (text_of members.Event ∷ map (λ row. text_of row.member) (event_table shards servers w)) d) _ h)
 
 -- events without faults name known shards and servers, and a refill is within its limit
-pub events_within : (shards servers : List (List ℕ)) (ds : List Data) → walked (event_faults shards servers) [] ds ≡ [] → All (IsKnownEvent (length shards) (length servers)) (map (event_in shards servers) ds)
-events_within shards servers ds h =
-    All-map (IsKnownEvent (length shards) (length servers)) (event_in shards servers) ds
-    (walked_entries (event_faults shards servers) (λ d. IsKnownEvent (length shards) (length servers) (event_in shards servers d)) (λ before d none. event_by_word shards servers d (option_and_then event_word (text_found members.Event d)) none) [] ds h)
+pub events_within : (c : Sizes) (shards servers : List (List ℕ)) (ds : List Data) → walked (event_faults shards servers) [] ds ≡ [] → All (NamesKnown (record c { shards = length shards; servers = length servers })) (map (event_in shards servers) ds)
+events_within c shards servers ds h =
+    All-map (NamesKnown (record c { shards = length shards; servers = length servers })) (event_in shards servers) ds
+    (walked_entries (event_faults shards servers) (λ d. NamesKnown (record c { shards = length shards; servers = length servers }) (event_in shards servers d)) (λ before d none. event_by_word c shards servers d (option_and_then event_word (text_found members.Event d)) none) [] ds h)

@@ -8,7 +8,7 @@ use Rattle.std.proofs.lemmas.Bool.Decides.{nat_tests}
 use Rattle.serde_json.specs.Data.{Data}
 use Rattle.sm_placement.specs.declared.config.ConfigFault.TheVariants.{TooMany, BadName, DoubleName, BadNumber}
 use Rattle.sm_placement.specs.Names.{has_double}
-use Rattle.sm_placement.specs.Setup.{Setup, is_too_large, has_good_names, has_doubled_name, has_good_numbers}
+use Rattle.sm_placement.specs.Setup.{Setup, sizes_of, is_too_large, has_good_names, has_doubled_name, has_good_numbers}
 use Rattle.sm_placement.specs.Config.{config_fault}
 use Rattle.sm_placement.specs.declared.limits.TheConstants.{MOST_SERVERS, MOST_SHARDS, MOST_CELLS}
 use Rattle.sm_plan_code.specs.Plan.{IsKnownPlan}
@@ -24,7 +24,8 @@ use Rattle.sm_plan_text.specs.Shards.{shard_faults, shard_in, listed_in, cells_i
 use Rattle.sm_plan_text.specs.Calls.{call_faults, call_in}
 use Rattle.sm_plan_text.specs.Parcels.{HaveIds}
 use Rattle.sm_plan_text.specs.Plans.{faults_within, plan_faults, plan_in}
-use Rattle.sm_plan_text.specs.Events.{IsKnownEvent, event_faults, event_in}
+use Rattle.sm_protocol.specs.Laws.{NamesKnown}
+use Rattle.sm_plan_text.specs.Events.{event_faults, event_in}
 use Rattle.sm_plan_text.specs.Moves.{move_faults, move_in}
 use Rattle.sm_plan_text.specs.Documents.{document_table, document_faults, servers_in, shards_in, server_names_in, shard_names_in, setup_in, rows_in, IsDocument}
 use Rattle.sm_plan_text.specs.declared.limits.TheConstants.{MOST_EVENTS, MOST_ASKS, LOG_PLACES}
@@ -188,9 +189,9 @@ document_is_known d h =
       plans = each_where_there (IsKnownPlan (length (map shard_in (shards_in d))) (length (map server_in (servers_in d)))) (plan_in (shard_names_in d) (server_names_in d)) (list_in members.Plans d)
           (subst (λ n. All (IsKnownPlan (length (map shard_in (shards_in d))) n) (map (plan_in (shard_names_in d) (server_names_in d)) (entries_in members.Plans d))) servers
           (subst (λ n. All (IsKnownPlan n (length (server_names_in d))) (map (plan_in (shard_names_in d) (server_names_in d)) (entries_in members.Plans d))) shards (plans_fit (shard_names_in d) (server_names_in d) (entries_in members.Plans d) (names_are_few d h) parts.plans)));
-      events = each_where_there (IsKnownEvent (length (map shard_in (shards_in d))) (length (map server_in (servers_in d)))) (event_in (shard_names_in d) (server_names_in d)) (list_in members.Events d)
-          (subst (λ n. All (IsKnownEvent (length (map shard_in (shards_in d))) n) (map (event_in (shard_names_in d) (server_names_in d)) (entries_in members.Events d))) servers
-          (subst (λ n. All (IsKnownEvent n (length (server_names_in d))) (map (event_in (shard_names_in d) (server_names_in d)) (entries_in members.Events d))) shards (events_within (shard_names_in d) (server_names_in d) (entries_in members.Events d) parts.events)));
+      events = each_where_there (NamesKnown (sizes_of (setup_in d))) (event_in (shard_names_in d) (server_names_in d)) (list_in members.Events d)
+          (subst (λ n. All (NamesKnown (record (sizes_of (setup_in d)) { servers = n })) (map (event_in (shard_names_in d) (server_names_in d)) (entries_in members.Events d))) servers
+          (subst (λ n. All (NamesKnown (record (sizes_of (setup_in d)) { shards = n; servers = length (server_names_in d) })) (map (event_in (shard_names_in d) (server_names_in d)) (entries_in members.Events d))) shards (events_within (sizes_of (setup_in d)) (shard_names_in d) (server_names_in d) (entries_in members.Events d) parts.events)));
       moves = each_where_there (IsKnownMove (length (map shard_in (shards_in d))) (length (map server_in (servers_in d)))) (move_in (shard_names_in d) (server_names_in d)) (list_in members.Moves d)
           (subst (λ n. All (IsKnownMove (length (map shard_in (shards_in d))) n) (map (move_in (shard_names_in d) (server_names_in d)) (entries_in members.Moves d))) servers
           (subst (λ n. All (IsKnownMove n (length (server_names_in d))) (map (move_in (shard_names_in d) (server_names_in d)) (entries_in members.Moves d))) shards (moves_within (shard_names_in d) (server_names_in d) (entries_in members.Moves d) parts.moves)));

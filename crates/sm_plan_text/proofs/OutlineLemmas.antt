@@ -14,7 +14,7 @@ use Rattle.json_tree.specs.declared.tree.Tree.{Object}
 use Rattle.json_tree.proofs.Trees.{view-Object}
 use Rattle.json_tree.proofs.Trees.{Member as Kept}
 use Rattle.sm_plan_text.specs.declared.fault.TextFault.{TextFault}
-use Rattle.sm_plan_text.specs.declared.event.EventText.{EventText}
+use Rattle.sm_protocol.specs.declared.event.Event.{Event}
 use Rattle.sm_plan_text.specs.declared.member.Member.TheVariants as members
 use Rattle.sm_plan_text.specs.declared.outline.EarlyList.{EarlyList}
 use Rattle.sm_plan_text.specs.declared.outline.Early.{Early}
@@ -136,7 +136,7 @@ calls_put early list ds kept whole read is =
     }
 
 -- the events come, and are read early
-pub events_put : (early : Early) (list : EarlyList EventText) (ds : Items) (kept whole : Members)
+pub events_put : (early : Early) (list : EarlyList Event) (ds : Items) (kept whole : Members)
     → IsEarlyList (event_faults early.shards early.servers) (event_in early.shards early.servers) (HaveIds early.shards early.servers) list (entries ds)
     → IsEarly early kept whole → IsEarly (record early { events = Some list }) (put (text_of members.Events) (array no_items) kept) (put (text_of members.Events) (array ds) whole)
 events_put early list ds kept whole read is =

@@ -1,7 +1,7 @@
 -- A document.
 use Rattle.std.specs.Prelude.{◌≡◌, ◌≤◌, ◌<◌, ℕ, List, [], ◌∷◌, ◌++◌, length, map, Option, option_map, option_and_then, All, IfSome}
 use Rattle.serde_json.specs.Data.{Data}
-use Rattle.sm_placement.specs.Setup.{Setup}
+use Rattle.sm_placement.specs.Setup.{Setup, sizes_of}
 use Rattle.sm_placement.specs.Opening.{NamedCell}
 use Rattle.sm_placement.specs.Rows.{IsKnownCall}
 use Rattle.sm_plan_code.specs.Plan.{PlanModel, IsKnownPlan}
@@ -15,8 +15,9 @@ use Rattle.sm_plan_text.specs.Servers.{server_faults, server_in, down_in}
 use Rattle.sm_plan_text.specs.Shards.{shard_faults, shard_in, listed_in, cells_in}
 use Rattle.sm_plan_text.specs.Calls.{NamedCall, call_faults, call_in}
 use Rattle.sm_plan_text.specs.Plans.{faults_within, plan_faults, plan_in}
-use Rattle.sm_plan_text.specs.declared.event.EventText.{EventText}
-use Rattle.sm_plan_text.specs.Events.{IsKnownEvent, event_faults, event_in}
+use Rattle.sm_protocol.specs.declared.event.Event.{Event}
+use Rattle.sm_protocol.specs.Laws.{NamesKnown}
+use Rattle.sm_plan_text.specs.Events.{event_faults, event_in}
 use Rattle.sm_plan_text.specs.Moves.{move_faults, move_in}
 use Rattle.sm_plan_text.specs.declared.limits.TheConstants.{MOST_EVENTS, MOST_ASKS, LOG_PLACES}
 use Rattle.sm_plan_code.specs.declared.limits.TheConstants.{MOST_MOVES, MOST_PLACES, MOST_PLANS}
@@ -33,7 +34,8 @@ pub record DocumentModel : Type 0 where
   pub calls : Option (List NamedCall)
   pub plan : Option PlanModel
   pub plans : Option (List PlanModel)
-  pub events : Option (List EventText)
+  -- those of the protocol, which name a plan by its place among the plans of the document
+  pub events : Option (List Event)
   pub moves : Option (List Move)
   pub drain : Option ℕ
   pub asks : List ℕ
@@ -111,7 +113,7 @@ pub record IsDocument (rows : DocumentModel) : Type 0 where
   pub calls : IfSome rows.calls (λ calls. All (λ call. (call.0 < length rows.setup.shards) × (call.1 < length rows.setup.servers) × IsKnownCall (length rows.setup.servers) call.2) calls)
   pub plan : IfSome rows.plan (IsKnownPlan (length rows.setup.shards) (length rows.setup.servers))
   pub plans : IfSome rows.plans (All (IsKnownPlan (length rows.setup.shards) (length rows.setup.servers)))
-  pub events : IfSome rows.events (All (IsKnownEvent (length rows.setup.shards) (length rows.setup.servers)))
+  pub events : IfSome rows.events (All (NamesKnown (sizes_of rows.setup)))
   pub moves : IfSome rows.moves (All (IsKnownMove (length rows.setup.shards) (length rows.setup.servers)))
   pub drain : IfSome rows.drain (λ server. server < length rows.setup.servers)
   pub asks : All (λ shard. shard < length rows.setup.shards) rows.asks

@@ -15,7 +15,7 @@ use Rattle.sm_plan_text.specs.Faults.{answered}
 use Rattle.sm_plan_text.specs.Values.{entries, entries_in, names_in}
 use Rattle.sm_plan_text.specs.Tables.{keys_of, walked}
 use Rattle.sm_plan_text.specs.Parcels.{HaveIds}
-use Rattle.sm_plan_text.specs.declared.event.EventText.{EventText}
+use Rattle.sm_protocol.specs.declared.event.Event.{Event}
 use Rattle.sm_plan_text.specs.Calls.{NamedCall, call_faults, call_in}
 use Rattle.sm_plan_text.specs.Events.{event_faults, event_in}
 use Rattle.sm_plan_text.specs.declared.limits.TheConstants.{MOST_EVENTS}
@@ -61,6 +61,6 @@ calls_of None = None
 calls_of (Some early) = early.calls
 
 -- the list of events that was read early, if there is one
-abbrev pub events_of : Option Early → Option (EarlyList EventText)
+abbrev pub events_of : Option Early → Option (EarlyList Event)
 events_of None = None
 events_of (Some early) = early.events

@@ -6,12 +6,13 @@ use crate::cursor::id_named;
 use crate::limits::{DOWN_LIMIT, LOG_PLACES, MOST_EVENTS};
 use crate::outline::{Early, Outline};
 use crate::rows::{Servers, Shards, read_servers, read_shards};
-use crate::{Cursor, Entry, EventText, Faults, Form, Member, Names, Rule, TextFault};
+use crate::{Cursor, Entry, Faults, Form, Member, Names, Rule, TextFault};
 use json_tree::{ReadFault, Scratch, Tree};
 use sm_placement::{
     Config, ConfigFault, MOST_SERVERS, MOST_SHARDS, OpenFault, Placement, Server, Shard,
 };
 use sm_plan_code::{MOST_MOVES, MOST_PLACES, MOST_PLANS, Move, Plan};
+use sm_protocol::Event;
 use sm_server::{Call, Cell, ServerId, ShardId};
 use std::alloc::{AllocError, Global};
 
@@ -34,8 +35,8 @@ pub struct Document {
     pub plan: Option<Plan>,
     /// The plans to run beside each other.
     pub plans: Option<Vec<Plan>>,
-    /// The events that are to happen, one after the other.
-    pub events: Option<Vec<EventText>>,
+    /// The events that are to happen, one after the other. They name a plan by its place among the plans of the document.
+    pub events: Option<Vec<Event>>,
     /// The moves to make a plan for.
     pub moves: Option<Vec<Move>>,
     /// The server to make a plan for that empties it.
@@ -93,7 +94,7 @@ struct Work {
     calls: Option<Vec<(ShardId, ServerId, Call)>>,
     plan: Option<Plan>,
     plans: Option<Vec<Plan>>,
-    events: Option<Vec<EventText>>,
+    events: Option<Vec<Event>>,
     moves: Option<Vec<Move>>,
     drain: Option<ServerId>,
     asks: Vec<ShardId>,

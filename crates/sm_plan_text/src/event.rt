@@ -1,4 +1,4 @@
-//! The events of a document.
+//! The events of a document: those of the protocol, whose streams name a plan by its place among the plans of the document.
 ghost use Rattle.std.specs.Prelude.{◌≡◌, map, option_map};
 ghost use Rattle.sm_plan_text.specs.Words.{view, Scope, row_of, worded_faults, event_word, event_table, event_by, event_in};
 ghost use Rattle.sm_plan_text.specs.declared.member.Member.TheVariants as members;
@@ -7,29 +7,9 @@ use crate::cursor::after_of;
 use crate::rule::{Form, Rule, SERVER, SHARD};
 use crate::{Cursor, Entry, Faults, Member};
 use sm_plan_code::{MOST_CALLS, MOST_NUMBER};
-use sm_server::{ServerId, ShardId};
+use sm_protocol::Event;
+use sm_reservation::StreamId;
 use std::alloc::AllocError;
-
-/// An event that happens next. A plan is its number among the plans of the document, a stream its number in the plan.
-#[derive(Clone, Copy, Debug, PartialEq, Eq)]
-pub enum EventText {
-    /// A stream makes one step.
-    Step { plan: u32, stream: u32 },
-    /// A request for a shard comes to a server.
-    Request { shard: ShardId, server: ServerId },
-    /// The request of a ticket is passed on.
-    PassOn { ticket: u32 },
-    /// A server asks for leave to go down.
-    Approve { server: ServerId },
-    /// A server is up again.
-    Done { server: ServerId },
-    /// A stream makes one step whose call is lost, after it was made or before.
-    Lose { plan: u32, stream: u32, after: bool },
-    /// A stream gets `more` more tries.
-    Refill { plan: u32, stream: u32, more: u32 },
-    /// A plan is started.
-    Begin { plan: u32 },
-}
 
 const PLAN: Rule = Rule::Maybe(Member::Plan, Form::Whole(MOST_NUMBER));
 
@@ -44,51 +24,73 @@ const WHEN: Rule = Rule::One(Member::When, Form::When);
 
 const MORE: Rule = Rule::One(Member::More, Form::Whole(MOST_CALLS));
 
-/// Returns the rules for the members of an event with this word, and the event that the object says. A word that says no
-/// event has no rules.
-fn event_of(word: &str, cursor: &Cursor<'_, '_>) -> (Option<&'static [Rule]>, EventText)
-    ensures rules { (scope : Scope) → option_map (λ rules. map (row_of scope) rules.now) result.0 ≡ option_map (event_table scope.shards.now scope.servers.now) (event_word word.now) }
-    ensures event { result.1 ≡ event_by cursor.now.scope.shards.now cursor.now.scope.servers.now (view cursor.now.tree.now) (event_word word.now) }
+/// What an object says by its word: the rules for its members, if the word is one of an event, and the event.
+#[derive(Drop)]
+struct Worded {
+    rules: Option<&'static [Rule]>,
+    event: Event,
+}
+
+/// Returns what an object says that has this word.
+fn event_of(word: &str, cursor: &Cursor<'_, '_>) -> Worded
+    ensures rules { (scope : Scope) → option_map (λ rules. map (row_of scope) rules.now) result.rules ≡ option_map (event_table scope.shards.now scope.servers.now) (event_word word.now) }
+    ensures event { result.event ≡ event_by cursor.now.scope.shards.now cursor.now.scope.servers.now (view cursor.now.tree.now) (event_word word.now) }
 {
     let plan = cursor.number_or(Member::Plan, MOST_NUMBER, 0);
-    let stream = cursor.number(Member::Stream, MOST_NUMBER);
+    let stream = StreamId {
+        plan,
+        stream: cursor.number(Member::Stream, MOST_NUMBER),
+    };
     let shard = cursor.shard(Member::Shard);
     let server = cursor.server(Member::Server);
-    let ticket = cursor.number(Member::Ticket, MOST_NUMBER);
-    let after = after_of(cursor.text(Member::When)).unwrap_or(false);
-    let more = cursor.number(Member::More, MOST_CALLS);
-    match word {
-        "step" => (Some(&[PLAN, STREAM]), EventText::Step { plan, stream }),
-        "request" => (Some(&[SHARD, SERVER]), EventText::Request { shard, server }),
-        "pass_on" => (Some(&[TICKET]), EventText::PassOn { ticket }),
-        "approve" => (Some(&[SERVER]), EventText::Approve { server }),
-        "done" => (Some(&[SERVER]), EventText::Done { server }),
+    let (rules, event): (&'static [Rule], Event) = match word {
+        "step" => (&[PLAN, STREAM], Event::Step { stream }),
+        "request" => (&[SHARD, SERVER], Event::Arrive { shard, server }),
+        "pass_on" => (
+            &[TICKET],
+            Event::PassOn {
+                place: cursor.number(Member::Ticket, MOST_NUMBER),
+            },
+        ),
+        "approve" => (&[SERVER], Event::Approve { server }),
+        "done" => (&[SERVER], Event::Done { server }),
         "lose" => (
-            Some(&[PLAN, STREAM, WHEN]),
-            EventText::Lose {
-                plan,
+            &[PLAN, STREAM, WHEN],
+            Event::Lose {
                 stream,
-                after,
+                after: after_of(cursor.text(Member::When)).unwrap_or(false),
             },
         ),
         "refill" => (
-            Some(&[PLAN, STREAM, MORE]),
-            EventText::Refill { plan, stream, more },
+            &[PLAN, STREAM, MORE],
+            Event::Refill {
+                stream,
+                more: cursor.number(Member::More, MOST_CALLS),
+            },
         ),
-        "begin" => (Some(&[BEGUN]), EventText::Begin { plan }),
-        _ => (None, EventText::Begin { plan: 0 }),
+        "begin" => (&[BEGUN], Event::Begin { plan }),
+        _ => {
+            return Worded {
+                rules: None,
+                event: Event::Begin { plan: 0 },
+            };
+        }
+    };
+    Worded {
+        rules: Some(rules),
+        event,
     }
 }
 
-impl Entry for EventText {
+impl Entry for Event {
     ghost value = { λ scope entry. event_in scope.shards.now scope.servers.now entry };
 
     ghost faults_of = { λ scope parent entry. worded_faults parent members.Event event_word (event_table scope.shards.now scope.servers.now) entry };
 
     fn read(cursor: &Cursor<'_, '_>, faults: &mut Faults) -> Result<Self, AllocError> {
         let word = cursor.text(Member::Event);
-        let (rules, event) = event_of(word, cursor);
-        cursor.note_worded(Member::Event, rules, faults)?;
-        Ok(event)
+        let worded = event_of(word, cursor);
+        cursor.note_worded(Member::Event, worded.rules, faults)?;
+        Ok(worded.event)
     }
 }

@@ -23,7 +23,6 @@ mod writing;
 use cursor::Cursor;
 pub use document::{Document, read_document, read_document_value};
 use entry::Entry;
-pub use event::EventText;
 use fault::Faults;
 pub use fault::{TextFault, first_is_answered};
 pub use member::Member;

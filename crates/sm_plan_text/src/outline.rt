@@ -7,8 +7,9 @@ ghost use Rattle.serde_json.specs.Read.{of_json, of_members, converted, read as 
 
 use crate::cursor::{Scope, items_of};
 use crate::limits::{MOST_DEPTH, MOST_EVENTS};
-use crate::{Cursor, Entry, EventText, Faults, Member, Names};
+use crate::{Cursor, Entry, Faults, Member, Names};
 use json_tree::{ReadFault, Reader, Scratch, Token, Tree, find_member, read_value};
+use sm_protocol::Event;
 use sm_server::{Call, ServerId, ShardId};
 use std::alloc::{AllocError, Global};
 
@@ -26,7 +27,7 @@ pub struct Early {
     pub shards: Names,
     pub servers: Names,
     pub calls: Option<EarlyList<(ShardId, ServerId, Call)>>,
-    pub events: Option<EarlyList<EventText>>,
+    pub events: Option<EarlyList<Event>>,
 }
 
 /// A document's tree, in which a list that was read early is empty.

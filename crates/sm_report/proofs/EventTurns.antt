@@ -5,9 +5,6 @@ use Rattle.std.proofs.lemmas.List.{map-set, length-append}
 use Rattle.sm_placement.specs.Setup.{Setup, Sizes, sizes_of}
 use Rattle.sm_reservation.specs.declared.stream_id.StreamId.{StreamId}
 use Rattle.sm_verifier.specs.Checked.{CheckedModel}
-use Rattle.sm_plan_text.specs.declared.event.EventText.{EventText}
-use Rattle.sm_plan_text.specs.declared.event.EventText.TheVariants as text
-use Rattle.sm_plan_text.specs.Events.{IsKnownEvent}
 use Rattle.sm_protocol.specs.declared.event.BeginFault.{BeginFault}
 use Rattle.sm_protocol.specs.declared.event.Played.{Played}
 use Rattle.sm_protocol.specs.declared.event.Played.TheVariants as played
@@ -34,7 +31,7 @@ use Rattle.sm_report.specs.Playing.{Scene, asked_by, event_named, named_stream, 
 use Rattle.sm_report.specs.Player.{scene_of, IsSetUp, IsEventPlayed, IsNoBegin}
 
 -- there is nothing that the event speaks of
-pub nothing_asked : (p : Player) (e : EventText) → IsSetUp p → asked_by (scene_of p) e ≡ None → IsEventPlayed p e played.Unknown p
+pub nothing_asked : (p : Player) (e : Event) → IsSetUp p → asked_by (scene_of p) e ≡ None → IsEventPlayed p e played.Unknown p
 nothing_asked p e r n = record {
   turn = ap (event_turn_by (scene_of p) e) n;
   running = λ h. cc;
@@ -50,7 +47,7 @@ begun_there m n h a d number is =
     (begun_is_there (state_of m) h number (ap (λ o. o.0) d.event ∙ ap Answered is))
 
 -- an event that starts no plan leads from one scene to the next by its state
-pub asked_so : (p q : Player) (e : EventText) (h : Happening) (a : Played) → IsSetUp p → asked_by (scene_of p) e ≡ Some h → IsNoStart h → ((x : Scene) (o : Outcome) → after_event x e o ≡ x) →
+pub asked_so : (p q : Player) (e : Event) (h : Happening) (a : Played) → IsSetUp p → asked_by (scene_of p) e ≡ Some h → IsNoStart h → ((x : Scene) (o : Outcome) → after_event x e o ≡ x) →
     IsDirected p.director h a q.director → q.waiting ≡ p.waiting → q.places ≡ p.places → IsEventPlayed p e a q
 asked_so p q e h a r is starts_none after d waiting places = record {
   turn = ap (event_turn_by (scene_of p) e) is ∙ outcome ∙ ap (λ x. (Answered a, x)) scene_is;
@@ -81,26 +78,14 @@ asked_so p q e h a r is starts_none after d waiting places = record {
 -- ---- events by their names
 
 -- an event that is no start asks for what its name says
-pub asked_is : (x : Scene) (e : EventText) → IsNoBegin e → asked_by x e ≡ option_and_then (named x.state) (event_named x e)
-asked_is x (text.Begin place) n = absurd n
-asked_is x (text.Step place i) n = refl
-asked_is x (text.Lose place i after) n = refl
-asked_is x (text.Refill place i more) n = refl
-asked_is x (text.Request s v) n = refl
-asked_is x (text.PassOn place) n = refl
-asked_is x (text.Approve v) n = refl
-asked_is x (text.Done v) n = refl
+pub asked_is : (x : Scene) (e : Event) → IsNoBegin e → asked_by x e ≡ option_and_then (named x.state) (event_named x e)
+asked_is x (event.Begin place) n = absurd n
+asked_is x _ n = refl
 
 -- and changes a scene by its state alone
-same_scene : (e : EventText) → IsNoBegin e → (x : Scene) (o : Outcome) → after_event x e o ≡ x
-same_scene (text.Begin place) n x o = absurd n
-same_scene (text.Step place i) n x o = refl
-same_scene (text.Lose place i after) n x o = refl
-same_scene (text.Refill place i more) n x o = refl
-same_scene (text.Request s v) n x o = refl
-same_scene (text.PassOn place) n x o = refl
-same_scene (text.Approve v) n x o = refl
-same_scene (text.Done v) n x o = refl
+same_scene : (e : Event) → IsNoBegin e → (x : Scene) (o : Outcome) → after_event x e o ≡ x
+same_scene (event.Begin place) n x o = absurd n
+same_scene _ n x o = refl
 
 -- what a name says is no start
 no_start : (w : State) (e : Event) (h : Happening) → named w e ≡ Some h → IsNoStart h
@@ -118,11 +103,11 @@ no_start w (event.PassOn place) h is = by_pass (slice_index_or (passes w.log) pl
     by_pass (Some t) is = subst IsNoStart (let same : PassOn t ≡ h = cc in same) tt
 
 -- an event that names no stream that has begun is Unknown
-pub unnamed_so : (p : Player) (e : EventText) → IsSetUp p → IsNoBegin e → event_named (scene_of p) e ≡ None → IsEventPlayed p e played.Unknown p
+pub unnamed_so : (p : Player) (e : Event) → IsSetUp p → IsNoBegin e → event_named (scene_of p) e ≡ None → IsEventPlayed p e played.Unknown p
 unnamed_so p e r n is = nothing_asked p e r (asked_is (scene_of p) e n ∙ ap (option_and_then (named (state_of p.director))) is)
 
 -- any other that is no start is played by its name
-pub named_so : (p : Player) (d : MachineModel) (e : EventText) (ev : Event) (a : Played) → IsSetUp p → IsNoBegin e → event_named (scene_of p) e ≡ Some ev →
+pub named_so : (p : Player) (d : MachineModel) (e : Event) (ev : Event) (a : Played) → IsSetUp p → IsNoBegin e → event_named (scene_of p) e ≡ Some ev →
     IsDirectedIf p.director (named (state_of p.director) ev) a d → IsEventPlayed p e a (record { director = d; waiting = p.waiting; places = p.places })
 named_so p d e ev a r n is = by_name (named (state_of p.director) ev) refl
   where
@@ -141,15 +126,12 @@ of_stream P f None ev all is = absurd (cc)
 of_stream P f (Some id) ev all is = subst P (let same : f id ≡ ev = cc in same) (all id)
 
 -- the event names what the document's event names
-pub named_known : (x : Scene) (c : Sizes) (e : EventText) (ev : Event) → IsKnownEvent c.shards c.servers e → event_named x e ≡ Some ev → NamesKnown c ev
-named_known x c (text.Begin place) ev k is = absurd (cc)
-named_known x c (text.Step place i) ev k is = of_stream (NamesKnown c) event.Step (named_stream x place i) ev (λ id. tt) is
-named_known x c (text.Lose place i after) ev k is = of_stream (NamesKnown c) (λ id. event.Lose id after) (named_stream x place i) ev (λ id. tt) is
-named_known x c (text.Refill place i more) ev k is = of_stream (NamesKnown c) (λ id. event.Refill id more) (named_stream x place i) ev (λ id. k) is
-named_known x c (text.Request s v) ev k is = subst (NamesKnown c) (let same : event.Arrive s v ≡ ev = cc in same) k
-named_known x c (text.PassOn place) ev k is = subst (NamesKnown c) (let same : event.PassOn place ≡ ev = cc in same) tt
-named_known x c (text.Approve v) ev k is = subst (NamesKnown c) (let same : event.Approve v ≡ ev = cc in same) k
-named_known x c (text.Done v) ev k is = subst (NamesKnown c) (let same : event.Done v ≡ ev = cc in same) k
+pub named_known : (x : Scene) (c : Sizes) (e : Event) (ev : Event) → NamesKnown c e → event_named x e ≡ Some ev → NamesKnown c ev
+named_known x c (event.Begin place) ev k is = absurd (cc)
+named_known x c (event.Step id) ev k is = of_stream (NamesKnown c) event.Step (named_stream x id) ev (λ begun. tt) is
+named_known x c (event.Lose id after) ev k is = of_stream (NamesKnown c) (λ begun. event.Lose begun after) (named_stream x id) ev (λ begun. tt) is
+named_known x c (event.Refill id more) ev k is = of_stream (NamesKnown c) (λ begun. event.Refill begun more) (named_stream x id) ev (λ begun. k) is
+named_known x c e ev k is = subst (NamesKnown c) (let same : e ≡ ev = cc in same) k
 
 -- an event that names what is known can be directed
 pub can_direct : (c : Sizes) (e : Event) → NamesKnown c e → CanDirect c e
@@ -157,14 +139,14 @@ can_direct c (event.Done v) k = tt
 can_direct c _ k = k
 
 module _ (p : Player) (place : ℕ) (c : CheckedModel) (r : IsSetUp p) (there : slice_index_or p.waiting.items place None ≡ Some c) where
-  plan_asked : asked_by (scene_of p) (text.Begin place) ≡ Some (Begin c.plan)
+  plan_asked : asked_by (scene_of p) (event.Begin place) ≡ Some (Begin c.plan)
   plan_asked = ap (option_map Begin) (plan_there p.waiting.items place ∙ ap hand_plan there)
 
   -- the plan has begun
   pub begun_so : (q : Player) (number : ℕ) → IsDirected p.director (Begin c.plan) (played.Begun number) q.director → q.waiting.items ≡ slice_set p.waiting.items place None →
-      q.places.items ≡ p.places.items ++ place ∷ [] → IsEventPlayed p (text.Begin place) (played.Begun number) q
+      q.places.items ≡ p.places.items ++ place ∷ [] → IsEventPlayed p (event.Begin place) (played.Begun number) q
   begun_so q number d waiting places = record {
-    turn = ap (event_turn_by (scene_of p) (text.Begin place)) plan_asked ∙ outcome ∙ ap (λ x. (Answered (played.Begun number), x)) scene_is;
+    turn = ap (event_turn_by (scene_of p) (event.Begin place)) plan_asked ∙ outcome ∙ ap (λ x. (Answered (played.Begun number), x)) scene_is;
     running = d.running;
     begun = begun_there p.director q.director (Begin c.plan) (played.Begun number) d;
     ready = record {
@@ -184,8 +166,8 @@ module _ (p : Player) (place : ℕ) (c : CheckedModel) (r : IsSetUp p) (there : 
       next : Scene
       next = record { state = state_of q.director; waiting = slice_set x.waiting place None; places = x.places ++ place ∷ [] }
 
-      outcome : event_turn_by x (text.Begin place) (Some (Begin c.plan)) ≡ (Answered (played.Begun number), next)
-      outcome = ap (λ o. (o.0, after_event (record x { state = o.1 }) (text.Begin place) o.0)) d.event
+      outcome : event_turn_by x (event.Begin place) (Some (Begin c.plan)) ≡ (Answered (played.Begun number), next)
+      outcome = ap (λ o. (o.0, after_event (record x { state = o.1 }) (event.Begin place) o.0)) d.event
 
       waits : map hand_plan q.waiting.items ≡ slice_set x.waiting place None
       waits = ap (map hand_plan) waiting ∙ map-set hand_plan p.waiting.items place None
@@ -204,9 +186,9 @@ module _ (p : Player) (place : ℕ) (c : CheckedModel) (r : IsSetUp p) (there : 
 
   -- the plan does not start, and is back in its place
   pub not_begun_so : (q : Player) (why : BeginFault) → IsDirected p.director (Begin c.plan) (played.NotBegun why) q.director → q.director ≡ p.director → q.waiting.items ≡ p.waiting.items →
-      q.places.items ≡ p.places.items → IsEventPlayed p (text.Begin place) (played.NotBegun why) q
+      q.places.items ≡ p.places.items → IsEventPlayed p (event.Begin place) (played.NotBegun why) q
   not_begun_so q why d same waiting places = record {
-    turn = ap (event_turn_by (scene_of p) (text.Begin place)) plan_asked ∙ outcome ∙ ap (λ x. (Answered (played.NotBegun why), x)) scene_is;
+    turn = ap (event_turn_by (scene_of p) (event.Begin place)) plan_asked ∙ outcome ∙ ap (λ x. (Answered (played.NotBegun why), x)) scene_is;
     running = d.running;
     begun = begun_there p.director q.director (Begin c.plan) (played.NotBegun why) d;
     ready = record {
@@ -223,8 +205,8 @@ module _ (p : Player) (place : ℕ) (c : CheckedModel) (r : IsSetUp p) (there : 
       next : Scene
       next = record x { state = state_of q.director }
 
-      outcome : event_turn_by x (text.Begin place) (Some (Begin c.plan)) ≡ (Answered (played.NotBegun why), next)
-      outcome = ap (λ o. (o.0, after_event (record x { state = o.1 }) (text.Begin place) o.0)) d.event
+      outcome : event_turn_by x (event.Begin place) (Some (Begin c.plan)) ≡ (Answered (played.NotBegun why), next)
+      outcome = ap (λ o. (o.0, after_event (record x { state = o.1 }) (event.Begin place) o.0)) d.event
 
       waits : map hand_plan q.waiting.items ≡ x.waiting
       waits = ap (map hand_plan) waiting
@@ -235,7 +217,7 @@ module _ (p : Player) (place : ℕ) (c : CheckedModel) (r : IsSetUp p) (there : 
 -- ---- the line of an event
 
 -- the answer behind the event's front is the line of what the event led to
-pub line_of : {A E : Type 0} (setup : Setup) (many : Bool) (i : ℕ) (p q : Player) (e : EventText) (a : Played) → IsEventPlayed p e a q → (r : Result A E) (old front new : List ℕ) →
+pub line_of : {A E : Type 0} (setup : Setup) (many : Bool) (i : ℕ) (p q : Player) (e : Event) (a : Played) → IsEventPlayed p e a q → (r : Result A E) (old front new : List ℕ) →
     front ≡ old ++ event_front i → OnOk r (new ≡ front ++ played_line setup many (scene_of q) a) →
     OnOk r (new ≡ old ++ outcome_line setup many i (event_turn (scene_of p) e).1 (event_turn (scene_of p) e).0)
 line_of setup many i p q e a t (Err error) old front new is added = tt
@@ -256,6 +238,5 @@ stream_added many place w number i out name new long named length_is added =
 -- ---- the names that events know
 
 -- an event that a configuration knows is known to each machine of it
-pub event_known : (m : MachineModel) (setup : Setup) (event : EventText) → m.placement.setup ≡ setup → IsKnownEvent (length setup.shards) (length setup.servers) event →
-    IsKnownEvent (state_of m).sizes.shards (state_of m).sizes.servers event
-event_known m setup event e known = subst (λ (c : Sizes). IsKnownEvent c.shards c.servers event) (sym (sizes_are m ∙ ap sizes_of e)) known
+pub event_known : (m : MachineModel) (setup : Setup) (event : Event) → m.placement.setup ≡ setup → NamesKnown (sizes_of setup) event → NamesKnown (state_of m).sizes event
+event_known m setup event e known = subst (λ c. NamesKnown c event) (sym (sizes_are m ∙ ap sizes_of e)) known

@@ -21,7 +21,7 @@ use Rattle.sm_report.specs.Report.{Output, refused}
 use Rattle.sm_report_text.specs.Checking.{stuck_line, fault_line, holding_line, accepted_line}
 use Rattle.sm_report.specs.Playing.{Scene}
 use Rattle.sm_report_text.specs.EventLines.{plan_front}
-use Rattle.sm_plan_text.specs.declared.event.EventText.{EventText}
+use Rattle.sm_protocol.specs.declared.event.Event.{Event}
 use Rattle.sm_report.specs.Stages.{Then, read_stage, member_stage, alone_stage, placement_stage, log_stage, begin_stage, IsFaultReport, AtCheck, AtChecks, AtStart}
 use Rattle.sm_report.specs.Output.{IsCalled, IsOpenedForCalls, IsAcceptedReport, IsPlanReport, IsOpenedForCheck, plans_of, has_list, IsPlayedOutput, IsBegunForPlay, IsLoggedForPlay, IsPlacedForPlay, IsOpenedForPlay, IsAloneForPlay, IsPlayReport, IsLoggedForPlan, IsPlacedForPlan, IsOpenedForPlan, IsPlanningReport, IsDocumentReport, IsReport}
 use Rattle.sm_report.specs.Planning.{aim_stage, opened_basis}
@@ -103,7 +103,7 @@ plan_one verdict setup plan p =
     check_one verdict.check (sizes_of setup) [] plan (AtStart setup p plan (IsAcceptedReport plan))
     (start_one verdict setup p plan (IsAcceptedReport plan) (given_one _))
 
-begun_one : (setup : Setup) (plan : Option PlanModel) (plans : Option (List PlanModel)) (events : List EventText) (x : Scene) → IsOne (IsBegunForPlay setup plan plans events x)
+begun_one : (setup : Setup) (plan : Option PlanModel) (plans : Option (List PlanModel)) (events : List Event) (x : Scene) → IsOne (IsBegunForPlay setup plan plans events x)
 begun_one setup (Some plan) None events x = then_one (begin_stage setup x) (IsPlayedOutput setup false (accepted_line plan) events) (λ y. given_one _)
 begun_one setup (Some plan) (Some plans) events x = given_one _
 begun_one setup None plans events x = given_one _

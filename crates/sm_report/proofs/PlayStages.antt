@@ -8,7 +8,7 @@ use Rattle.sm_verifier.specs.Checked.{CheckedModel}
 use Rattle.sm_machine.specs.Hand.{AreFor, hand_plan}
 use Rattle.sm_placement.specs.Setup.{Setup, Sizes, sizes_of}
 use Rattle.sm_placement.specs.Place.{Place}
-use Rattle.sm_plan_text.specs.declared.event.EventText.{EventText}
+use Rattle.sm_protocol.specs.declared.event.Event.{Event}
 use Rattle.sm_plan_code.specs.Plan.{PlanModel}
 use Rattle.sm_verifier.specs.Plan.{IsSound}
 use Rattle.sm_report.specs.declared.early.Early.{Early}
@@ -126,7 +126,7 @@ pub passed_report : (c d : Sizes) (many : Bool) (Next : Output → Type 0) (plan
 passed_report c d many Next plans made same passed next = subst (λ s. AtChecks s many 0 plans Next made) same (passed_on c many Next plans made passed next)
 
 -- the output of a player that is at this scene
-pub played_at : (setup : Setup) (many : Bool) (front text : List ℕ) (events : List EventText) (x y : Scene) (made : Output) → made ≡ played_output setup many front events x → front ≡ text → x ≡ y →
+pub played_at : (setup : Setup) (many : Bool) (front text : List ℕ) (events : List Event) (x y : Scene) (made : Output) → made ≡ played_output setup many front events x → front ≡ text → x ≡ y →
     IsPlayedOutput setup many text events y made
 played_at setup many front text events x y made is same scene = is ∙ ap (λ f. played_output setup many f events x) same ∙ ap (played_output setup many text events) scene
 
@@ -139,7 +139,7 @@ pub some_known : {A B : Type 0} (f : A → B) (P : B → Type 0) (o : Option A) 
 some_known f P o x is h = subst (λ o. IfSome (option_map f o) P) is h
 
 -- the report of a document with one plan
-pub one_at : (setup : Setup) (c : Sizes) (p : Place) (log : ℕ) (plans : List PlanModel) (plan : PlanModel) (front : List ℕ) (events : List EventText) (x : Scene) (result : Result Output Early) → c ≡ sizes_of setup →
+pub one_at : (setup : Setup) (c : Sizes) (p : Place) (log : ℕ) (plans : List PlanModel) (plan : PlanModel) (front : List ℕ) (events : List Event) (x : Scene) (result : Result Output Early) → c ≡ sizes_of setup →
     plans ≡ plan ∷ [] → front ≡ accepted_line plan → x ≡ opened_scene c p log plans → ((y : Output) → AtChecks c false 0 plans (λ other. other ≡ y) y) →
     IfMade result (Then (begin_stage setup x) (IsPlayedOutput setup false front events)) →
     IfMade result (AtChecks (sizes_of setup) false 0 (plan ∷ []) (Then (begin_stage setup (opened_scene (sizes_of setup) p log (plan ∷ []))) (IsPlayedOutput setup false (accepted_line plan) events)))

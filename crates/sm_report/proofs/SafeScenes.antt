@@ -1,23 +1,20 @@
 -- The scenes that a document's events lead to are those of a run of the protocol, which is safe.
-use Rattle.std.proofs.Common.{◌≡◌, ◌∷◌, [], ℕ, zero, suc, List, Option, Some, None, length, map, refl, sym, ap, ◌∙◌, subst}
-use Rattle.std.specs.Prelude.{option_and_then, option_map, slice_index_or, slice_set}
+use Rattle.std.proofs.Common.{◌≡◌, ◌∷◌, [], ℕ, zero, suc, List, Option, Some, None, map, refl, ap, ◌∙◌, subst}
+use Rattle.std.specs.Prelude.{option_and_then, option_map, slice_index_or}
 use Rattle.std.specs.List.{AllByRecursion, filter_map}
-use Rattle.sm_placement.specs.Setup.{Setup, Sizes, sizes_of}
+use Rattle.sm_placement.specs.Setup.{Sizes, sizes_of}
 use Rattle.sm_plan_code.specs.Plan.{PlanModel}
 use Rattle.sm_verifier.specs.Plan.{IsCheckedPlan}
-use Rattle.sm_plan_text.specs.declared.event.EventText.{EventText}
-use Rattle.sm_plan_text.specs.declared.event.EventText.TheVariants as text
-use Rattle.sm_plan_text.specs.Events.{IsKnownEvent}
 use Rattle.sm_protocol.specs.declared.event.Event.{Event}
 use Rattle.sm_protocol.specs.declared.event.Event.TheVariants as event
 use Rattle.sm_protocol.specs.declared.event.Played.{Played}
 use Rattle.sm_protocol.specs.declared.event.Played.TheVariants as played
-use Rattle.sm_protocol.specs.State.{State, opened}
+use Rattle.sm_protocol.specs.State.{State}
 use Rattle.sm_protocol.specs.Steps.{Outcome, Refused, Answered}
 use Rattle.sm_protocol.specs.Ticket.{Ticket, passes}
 use Rattle.sm_protocol.specs.Happens.{Happening, Step, Lose, Refill, Arrive, PassOn, Approve, Done, Begin, happens, run}
 use Rattle.sm_protocol.specs.Log.{named}
-use Rattle.sm_protocol.specs.Laws.{AllFit, FitsConfig, NamesKnown, IsOpening, IsReached, RunsAreSafe}
+use Rattle.sm_protocol.specs.Laws.{AllFit, FitsConfig, NamesKnown, RunsAreSafe}
 use Rattle.sm_protocol.proofs.Reached.{reached_by}
 use Rattle.sm_machine.proofs.FirstPlaces.{left_there}
 use Rattle.sm_report.specs.Playing.{Scene, after_event, after_start, asked_by, event_named, event_turn, event_turn_by, opened_scene, scene_after}
@@ -31,12 +28,12 @@ start_state : (x : Scene) (place : ℕ) (answer : Played) → (after_start x pla
 start_state x place (played.Begun number) = refl
 start_state x place _ = refl
 
-after_state : (x : Scene) (e : EventText) (o : Outcome) → (after_event x e o).state ≡ x.state
-after_state x (text.Begin place) (Answered answer) = start_state x place answer
-after_state x (text.Begin place) Refused = refl
+after_state : (x : Scene) (e : Event) (o : Outcome) → (after_event x e o).state ≡ x.state
+after_state x (event.Begin place) (Answered answer) = start_state x place answer
+after_state x (event.Begin place) Refused = refl
 after_state x _ o = refl
 
-turn_runs : (x : Scene) (e : EventText) (es : List EventText) (o : Option Happening) →
+turn_runs : (x : Scene) (e : Event) (es : List Event) (o : Option Happening) →
     ((y : Scene) → (scene_after es y).state ≡ run (happenings es y) y.state) →
     (scene_after es (event_turn_by x e o).1).state ≡ run (filter_map (λ h. h) (o ∷ all_asked es (event_turn_by x e o).1)) x.state
 turn_runs x e es None rest = rest x
@@ -44,7 +41,7 @@ turn_runs x e es (Some h) rest =
     let y : Scene = after_event (record x { state = (happens x.state h).1 }) e (happens x.state h).0 in
     rest y ∙ ap (run (happenings es y)) (after_state (record x { state = (happens x.state h).1 }) e (happens x.state h).0)
 
-scenes_run : (es : List EventText) (x : Scene) → (scene_after es x).state ≡ run (happenings es x) x.state
+scenes_run : (es : List Event) (x : Scene) → (scene_after es x).state ≡ run (happenings es x) x.state
 scenes_run [] x = refl
 scenes_run (e ∷ es) x = turn_runs x e es (asked_by x e) (scenes_run es)
 
@@ -72,31 +69,25 @@ event_fits : (w : State) (c : Sizes) (o : Option Event) (h : Happening) → ((e 
 event_fits w c None h k is = absurd (cc)
 event_fits w c (Some e) h k is = name_fits w c e h (k e refl) is
 
-asked_fits : (c : Sizes) (x : Scene) (e : EventText) (h : Happening) → WaitChecked c x → IsKnownEvent c.shards c.servers e → asked_by x e ≡ Some h → FitsConfig c h
-asked_fits c x (text.Begin place) h all k is = by_plan (slice_index_or x.waiting place None) refl is
+asked_fits : (c : Sizes) (x : Scene) (e : Event) (h : Happening) → WaitChecked c x → NamesKnown c e → asked_by x e ≡ Some h → FitsConfig c h
+asked_fits c x (event.Begin place) h all k is = by_plan (slice_index_or x.waiting place None) refl is
   where
     by_plan : (o : Option PlanModel) → slice_index_or x.waiting place None ≡ o → option_map Begin o ≡ Some h → FitsConfig c h
     by_plan None at is = absurd (cc)
     by_plan (Some plan) at is = subst (FitsConfig c) (let same : Begin plan ≡ h = cc in same) (all place plan at)
-asked_fits c x (text.Step place i) h all k is = event_fits x.state c (event_named x (text.Step place i)) h (λ ev e. named_known x c (text.Step place i) ev k e) is
-asked_fits c x (text.Lose place i after) h all k is = event_fits x.state c (event_named x (text.Lose place i after)) h (λ ev e. named_known x c (text.Lose place i after) ev k e) is
-asked_fits c x (text.Refill place i more) h all k is = event_fits x.state c (event_named x (text.Refill place i more)) h (λ ev e. named_known x c (text.Refill place i more) ev k e) is
-asked_fits c x (text.Request s v) h all k is = event_fits x.state c (event_named x (text.Request s v)) h (λ ev e. named_known x c (text.Request s v) ev k e) is
-asked_fits c x (text.PassOn place) h all k is = event_fits x.state c (event_named x (text.PassOn place)) h (λ ev e. named_known x c (text.PassOn place) ev k e) is
-asked_fits c x (text.Approve v) h all k is = event_fits x.state c (event_named x (text.Approve v)) h (λ ev e. named_known x c (text.Approve v) ev k e) is
-asked_fits c x (text.Done v) h all k is = event_fits x.state c (event_named x (text.Done v)) h (λ ev e. named_known x c (text.Done v) ev k e) is
+asked_fits c x e h all k is = event_fits x.state c (event_named x e) h (λ ev named. named_known x c e ev k named) is
 
 -- plans that wait stay checked
 start_checked : (c : Sizes) (x : Scene) (place : ℕ) (answer : Played) → WaitChecked c x → WaitChecked c (after_start x place answer)
 start_checked c x place (played.Begun number) all = λ at plan e. all at plan (left_there x.waiting place at plan e)
 start_checked c x place _ all = all
 
-after_checked : (c : Sizes) (x : Scene) (e : EventText) (o : Outcome) → WaitChecked c x → WaitChecked c (after_event x e o)
-after_checked c x (text.Begin place) (Answered answer) all = start_checked c x place answer all
-after_checked c x (text.Begin place) Refused all = all
+after_checked : (c : Sizes) (x : Scene) (e : Event) (o : Outcome) → WaitChecked c x → WaitChecked c (after_event x e o)
+after_checked c x (event.Begin place) (Answered answer) all = start_checked c x place answer all
+after_checked c x (event.Begin place) Refused all = all
 after_checked c x _ o all = all
 
-turn_checked : (c : Sizes) (x : Scene) (e : EventText) (o : Option Happening) → WaitChecked c x → WaitChecked c (event_turn_by x e o).1
+turn_checked : (c : Sizes) (x : Scene) (e : Event) (o : Option Happening) → WaitChecked c x → WaitChecked c (event_turn_by x e o).1
 turn_checked c x e None all = all
 turn_checked c x e (Some h) all = after_checked c (record x { state = (happens x.state h).1 }) e (happens x.state h).0 all
 
@@ -104,7 +95,7 @@ all_so : (c : Sizes) (o : Option Happening) (hs : List (Option Happening)) → (
 all_so c None hs own rest = rest
 all_so c (Some h) hs own rest = (own h refl, rest)
 
-all_fit : (c : Sizes) (es : List EventText) (x : Scene) → WaitChecked c x → AllByRecursion (IsKnownEvent c.shards c.servers) es → AllFit c (happenings es x)
+all_fit : (c : Sizes) (es : List Event) (x : Scene) → WaitChecked c x → AllByRecursion (NamesKnown c) es → AllFit c (happenings es x)
 all_fit c [] x all k = tt
 all_fit c (e ∷ es) x all k =
     all_so c (asked_by x e) (all_asked es (event_turn x e).1) (λ h is. asked_fits c x e h all k.0 is) (all_fit c es (event_turn x e).1 (turn_checked c x e (asked_by x e) all) k.1)

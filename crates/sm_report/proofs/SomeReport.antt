@@ -19,7 +19,7 @@ use Rattle.sm_report.specs.declared.command.Command.{Command}
 use Rattle.sm_report.specs.declared.command.Command.TheVariants.{Calls, Check, Play, Plan}
 use Rattle.sm_report.specs.Report.{Output, refused, done}
 use Rattle.sm_report.specs.Playing.{Scene}
-use Rattle.sm_plan_text.specs.declared.event.EventText.{EventText}
+use Rattle.sm_protocol.specs.declared.event.Event.{Event}
 use Rattle.sm_report_text.specs.Checking.{fault_line, holding_line, accepted_line}
 use Rattle.sm_report_text.specs.EventLines.{plan_front}
 use Rattle.sm_report.specs.Stages.{Then, read_or_bad, read_stage, member_stage, alone_stage, placement_stage, log_stage, begin_stage, AtCheck, AtChecks, AtStart}
@@ -75,7 +75,7 @@ checks_some finds setup many k (plan ∷ plans) Next all next =
     check_some finds setup (plan_front many k) plan (AtChecks (sizes_of setup) many (k + 1) plans Next) (all 0 plan (omega arith))
     (checks_some finds setup many (k + 1) plans Next (λ i d below. all (suc i) d (omega arith)) next)
 
-begun_some : (setup : Setup) (plan : Option PlanModel) (plans : Option (List PlanModel)) (events : List EventText) (x : Scene) → IsMade (IsBegunForPlay setup plan plans events x)
+begun_some : (setup : Setup) (plan : Option PlanModel) (plans : Option (List PlanModel)) (events : List Event) (x : Scene) → IsMade (IsBegunForPlay setup plan plans events x)
 begun_some setup (Some plan) None events x = then_some (begin_stage setup x) (IsPlayedOutput setup false (accepted_line plan) events) (λ y begun. (played_output setup false (accepted_line plan) events y, refl))
 begun_some setup (Some plan) (Some plans) events x = (played_output setup true [] events x, refl)
 begun_some setup None None events x = (played_output setup false [] events x, refl)

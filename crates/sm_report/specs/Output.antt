@@ -17,7 +17,7 @@ use Rattle.sm_report.specs.Stages.{Then, read_stage, member_stage, alone_stage, 
 use Rattle.sm_report.specs.Playing.{Scene, opened_scene, scene_after}
 use Rattle.sm_report.specs.PlayLines.{event_lines, all_plan_lines}
 use Rattle.sm_report.specs.Planning.{Aim, aim_stage, opened_basis, IsAnswered}
-use Rattle.sm_plan_text.specs.declared.event.EventText.{EventText}
+use Rattle.sm_protocol.specs.declared.event.Event.{Event}
 
 -- ---- `calls`
 
@@ -70,31 +70,31 @@ has_list None = false
 
 -- the answers to events that are played one after the other behind this front, how far the streams have come, and the placement
 -- after them
-abbrev pub played_output : Setup → Bool → List ℕ → List EventText → Scene → Output
+abbrev pub played_output : Setup → Bool → List ℕ → List Event → Scene → Output
 played_output setup many front events x =
     done (front ++ event_lines setup many x 0 events ++ all_plan_lines many (scene_after events x) ++ ending setup (scene_after events x).state.place)
 
 -- the events are played at a scene
-abbrev pub IsPlayedOutput : Setup → Bool → List ℕ → List EventText → Scene → Output → Type 0
+abbrev pub IsPlayedOutput : Setup → Bool → List ℕ → List Event → Scene → Output → Type 0
 IsPlayedOutput setup many front events x output = output ≡ played_output setup many front events x
 
 -- One plan has begun before any event, and is accepted then; the plans of a list are begun by events.
-abbrev pub IsBegunForPlay : Setup → Option PlanModel → Option (List PlanModel) → List EventText → Scene → Output → Type 0
+abbrev pub IsBegunForPlay : Setup → Option PlanModel → Option (List PlanModel) → List Event → Scene → Output → Type 0
 IsBegunForPlay setup (Some plan) None events x = Then (begin_stage setup x) (IsPlayedOutput setup false (accepted_line plan) events)
 IsBegunForPlay setup plan plans events x = IsPlayedOutput setup (has_list plans) [] events x
 
 -- the plans of a document at its placement, which has room in the log
-abbrev pub IsLoggedForPlay : DocumentModel → List EventText → Place → Unit {0} → Output → Type 0
+abbrev pub IsLoggedForPlay : DocumentModel → List Event → Place → Unit {0} → Output → Type 0
 IsLoggedForPlay d events p _ =
     AtChecks (sizes_of d.setup) (has_list d.plans) 0 (plans_of d.plan d.plans)
     (IsBegunForPlay d.setup d.plan d.plans events (opened_scene (sizes_of d.setup) p d.log (plans_of d.plan d.plans)))
 
 -- the events of a document at its placement: the log has to have a place for each server that is down
-abbrev pub IsPlacedForPlay : DocumentModel → List EventText → Place → Output → Type 0
+abbrev pub IsPlacedForPlay : DocumentModel → List Event → Place → Output → Type 0
 IsPlacedForPlay d events p = Then (log_stage d p) (IsLoggedForPlay d events p)
 
 -- the events of a document: its placement is opened before they are played, or the report says why it is not
-abbrev pub IsOpenedForPlay : DocumentModel → List EventText → Output → Type 0
+abbrev pub IsOpenedForPlay : DocumentModel → List Event → Output → Type 0
 IsOpenedForPlay d events = Then (placement_stage d) (IsPlacedForPlay d events)
 
 -- a document that has not both a plan and a list of plans: it has to have events

@@ -7,7 +7,7 @@ use Rattle.sm_reservation.specs.declared.stream_id.StreamId.{StreamId}
 use Rattle.sm_plan_code.specs.Plan.{PlanModel}
 use Rattle.sm_task_controller.specs.declared.decision.Denied.{Denied}
 use Rattle.sm_task_controller.specs.declared.decision.Denied.TheVariants as denied
-use Rattle.sm_plan_text.specs.declared.event.EventText.{EventText}
+use Rattle.sm_protocol.specs.declared.event.Event.{Event}
 use Rattle.sm_protocol.specs.declared.event.Played.{Played}
 use Rattle.sm_protocol.specs.declared.event.Played.TheVariants as played
 use Rattle.sm_protocol.specs.declared.event.BeginFault.{BeginFault}
@@ -53,7 +53,7 @@ outcome_line setup many i x Refused = []
 outcome_line setup many i x (Answered answer) = event_front i ++ played_line setup many x answer
 
 -- the lines of events that are played one after the other, numbered from i
-abbrev pub event_lines : Setup → Bool → Scene → ℕ → List EventText → List ℕ
+abbrev pub event_lines : Setup → Bool → Scene → ℕ → List Event → List ℕ
 event_lines setup many x i [] = []
 event_lines setup many x i (e ∷ es) = outcome_line setup many i (event_turn x e).1 (event_turn x e).0 ++ event_lines setup many (event_turn x e).1 (i + 1) es
 

@@ -1,8 +1,8 @@
 -- The player of events: a machine with all its rights, and the plans of a document.
 -- Internal definitions: you need not read them for the public contracts.
 use Rattle.std.specs.Prelude.{◌≡◌, ◌≢◌, ◌<◌, ◌≤◌, ◌^◌, ℕ, length, map}
-use Rattle.sm_plan_text.specs.declared.event.EventText.{EventText}
-use Rattle.sm_plan_text.specs.declared.event.EventText.TheVariants as text
+use Rattle.sm_protocol.specs.declared.event.Event.{Event}
+use Rattle.sm_protocol.specs.declared.event.Event.TheVariants as event
 use Rattle.sm_protocol.specs.declared.event.Played.{Played}
 use Rattle.sm_protocol.specs.declared.event.Played.TheVariants as played
 use Rattle.sm_protocol.specs.Steps.{Answered}
@@ -22,8 +22,8 @@ pub record IsSetUp (p : Player) : Type 0 where
   pub checked : AreFor p.director.placement.setup p.waiting.items
 
 -- the event starts no plan
-abbrev pub IsNoBegin : EventText → Type 0
-IsNoBegin (text.Begin place) = ⊥
+abbrev pub IsNoBegin : Event → Type 0
+IsNoBegin (event.Begin place) = ⊥
 IsNoBegin _ = Unit {0}
 
 -- a plan whose start is answered is there
@@ -31,7 +31,7 @@ abbrev pub IsBegunThere : Scene → Played → Type 0
 IsBegunThere x answer = (number : ℕ) → answer ≡ played.Begun number → number < length x.state.plans
 
 -- The event was played, with this answer, which is not that the machine is halted. The configuration is as it was.
-pub record IsEventPlayed (p : Player) (e : EventText) (answer : Played) (q : Player) : Type 0 where
+pub record IsEventPlayed (p : Player) (e : Event) (answer : Played) (q : Player) : Type 0 where
   pub turn : event_turn (scene_of p) e ≡ (Answered answer, scene_of q)
   pub running : answer ≢ played.Halted
   pub begun : IsBegunThere (scene_of q) answer

@@ -8,8 +8,6 @@ use Rattle.sm_placement.specs.Setup.{Sizes}
 use Rattle.sm_placement.specs.Place.{Place}
 use Rattle.sm_reservation.specs.declared.stream_id.StreamId.{StreamId}
 use Rattle.sm_plan_code.specs.Plan.{PlanModel}
-use Rattle.sm_plan_text.specs.declared.event.EventText.{EventText}
-use Rattle.sm_plan_text.specs.declared.event.EventText.TheVariants as text
 use Rattle.sm_protocol.specs.declared.event.Played.{Played}
 use Rattle.sm_protocol.specs.declared.event.Played.TheVariants as played
 use Rattle.sm_protocol.specs.declared.event.Event.{Event}
@@ -41,25 +39,22 @@ start_number places place = position (λ begun. begun == place) places
 abbrev pub if_begun : State → StreamId → Option StreamId
 if_begun w id = if is_begun w id then Some id else None
 
--- a stream by its plan's place in the document and its own place in the plan, if it has begun
-abbrev pub named_stream : Scene → ℕ → ℕ → Option StreamId
-named_stream x place i = option_and_then (λ number. if_begun x.state (stream_id number i)) (start_number x.places place)
+-- a stream of the document by its plan's number in place of the plan's place there, if it has begun
+abbrev pub named_stream : Scene → StreamId → Option StreamId
+named_stream x id = option_and_then (λ number. if_begun x.state (stream_id number id.stream)) (start_number x.places id.plan)
 
--- The event of the protocol that an event of a document is; None if its stream has not begun. A start is none, since it names its plan by
--- a place in the document.
-abbrev pub event_named : Scene → EventText → Option Event
-event_named x (text.Step place i) = option_map event.Step (named_stream x place i)
-event_named x (text.Lose place i after) = option_map (λ id. event.Lose id after) (named_stream x place i)
-event_named x (text.Refill place i more) = option_map (λ id. event.Refill id more) (named_stream x place i)
-event_named x (text.Request s v) = Some (event.Arrive s v)
-event_named x (text.PassOn place) = Some (event.PassOn place)
-event_named x (text.Approve v) = Some (event.Approve v)
-event_named x (text.Done v) = Some (event.Done v)
-event_named x (text.Begin place) = None
+-- An event of the document with its stream as it has begun; None if that has not begun. A start is none, since it names its plan by a place in
+-- the document.
+abbrev pub event_named : Scene → Event → Option Event
+event_named x (event.Step id) = option_map event.Step (named_stream x id)
+event_named x (event.Lose id after) = option_map (λ begun. event.Lose begun after) (named_stream x id)
+event_named x (event.Refill id more) = option_map (λ begun. event.Refill begun more) (named_stream x id)
+event_named x (event.Begin place) = None
+event_named x e = Some e
 
 -- what an event asks for; None if there is nothing that it speaks of
-abbrev pub asked_by : Scene → EventText → Option Happening
-asked_by x (text.Begin place) = option_map Begin (slice_index_or x.waiting place None)
+abbrev pub asked_by : Scene → Event → Option Happening
+asked_by x (event.Begin place) = option_map Begin (slice_index_or x.waiting place None)
 asked_by x e = option_and_then (named x.state) (event_named x e)
 
 -- ---- what becomes of it
@@ -70,20 +65,20 @@ after_start x place (played.Begun number) = record x { waiting = slice_set x.wai
 after_start x place _ = x
 
 -- the scene after an event, with the state that it has led to
-abbrev pub after_event : Scene → EventText → Outcome → Scene
-after_event x (text.Begin place) (Answered answer) = after_start x place answer
+abbrev pub after_event : Scene → Event → Outcome → Scene
+after_event x (event.Begin place) (Answered answer) = after_start x place answer
 after_event x _ _ = x
 
 -- an event that speaks of nothing is Unknown, and changes nothing
-abbrev pub event_turn_by : Scene → EventText → Option Happening → Outcome × Scene
+abbrev pub event_turn_by : Scene → Event → Option Happening → Outcome × Scene
 event_turn_by x e None = (Answered played.Unknown, x)
 event_turn_by x e (Some h) = ((happens x.state h).0, after_event (record x { state = (happens x.state h).1 }) e (happens x.state h).0)
 
 -- an event, with its outcome
-abbrev pub event_turn : Scene → EventText → Outcome × Scene
+abbrev pub event_turn : Scene → Event → Outcome × Scene
 event_turn x e = event_turn_by x e (asked_by x e)
 
 -- the scene after a list of events
-abbrev pub scene_after : List EventText → Scene → Scene
+abbrev pub scene_after : List Event → Scene → Scene
 scene_after [] x = x
 scene_after (e ∷ es) x = scene_after es (event_turn x e).1

@@ -28,7 +28,7 @@ use Rattle.sm_report_text.specs.Checking.{fault_line, holding_line}
 use Rattle.sm_report_text.specs.Lines.{line}
 use Rattle.sm_report.specs.Playing.{Scene, event_turn}
 use Rattle.sm_report_text.specs.EventLines.{plan_front, not_begun_line}
-use Rattle.sm_plan_text.specs.declared.event.EventText.TheVariants.{Begin}
+use Rattle.sm_protocol.specs.declared.event.Event.TheVariants.{Begin}
 use Rattle.sm_protocol.specs.declared.event.Played.TheVariants.{NotBegun}
 use Rattle.sm_protocol.specs.State.{State}
 use Rattle.sm_protocol.specs.Steps.{Outcome, Answered}

@@ -4,9 +4,9 @@ ghost use Rattle.sm_placement.specs.Setup.{sizes_of};
 ghost use Rattle.sm_placement.specs.Place.{down_count};
 ghost use Rattle.sm_placement.specs.Layout.{place_of};
 ghost use Rattle.sm_placement.specs.Lead.{IsSettled};
-ghost use Rattle.sm_plan_text.specs.declared.event.EventText.TheVariants as text;
-ghost use Rattle.sm_plan_text.specs.Events.{IsKnownEvent};
+ghost use Rattle.sm_protocol.specs.declared.event.Event.TheVariants.{Begin};
 ghost use Rattle.sm_protocol.specs.State.{opened};
+ghost use Rattle.sm_protocol.specs.Laws.{NamesKnown};
 ghost use Rattle.sm_machine.specs.Hand.{AreFor, hand_plan};
 ghost use Rattle.sm_machine.specs.State.{state_of};
 ghost use Rattle.sm_report.specs.Playing.{event_named, start_number, named_stream};
@@ -16,7 +16,6 @@ ghost use Rattle.sm_plan_code.specs.declared.limits.TheConstants.{MOST_PLACES};
 use crate::stages::director;
 use sm_machine::{Director, Machine, make_ready};
 use sm_placement::Placement;
-use sm_plan_text::EventText;
 use sm_protocol::{Event, Played};
 use sm_reservation::StreamId;
 use sm_verifier::Checked;
@@ -107,13 +106,13 @@ impl Player {
         start_number(self.places.as_slice(), place)
     }
 
-    /// Returns a stream by its plan's place in the document and its own place in the plan, if it has begun.
-    fn named_stream(&self, place: u32, stream: u32) -> Option<StreamId>
+    /// Returns a stream of the document by its plan's number in place of the plan's place there, if it has begun.
+    fn named_stream(&self, stream: StreamId) -> Option<StreamId>
         requires { IsSetUp self.now }
-        ensures { result ≡ named_stream (scene_of self.now) place stream }
+        ensures { result ≡ named_stream (scene_of self.now) stream }
     {
-        let plan = self.number_of(place as usize)?;
-        let id = StreamId { plan, stream };
+        let plan = self.number_of(stream.plan as usize)?;
+        let id = StreamId { plan, ..stream };
         if self.machine().is_begun(id) {
             Some(id)
         } else {
@@ -121,40 +120,33 @@ impl Player {
         }
     }
 
-    /// Returns the event of the protocol for an event of a document. None if its stream has not begun, and for a start.
-    fn event_named(&self, event: EventText) -> Option<Event>
+    /// Returns an event of the document with its stream as it has begun. None if that has not begun, and for a start.
+    fn event_named(&self, event: Event) -> Option<Event>
         requires { IsSetUp self.now }
         ensures { result ≡ event_named (scene_of self.now) event }
     {
         match event {
-            EventText::Step { plan, stream } => match self.named_stream(plan, stream) {
-                Some(stream) => Some(Event::Step { stream }),
-                None => None,
-            },
-            EventText::Lose {
-                plan,
-                stream,
-                after,
-            } => match self.named_stream(plan, stream) {
-                Some(stream) => Some(Event::Lose { stream, after }),
-                None => None,
-            },
-            EventText::Refill { plan, stream, more } => match self.named_stream(plan, stream) {
-                Some(stream) => Some(Event::Refill { stream, more }),
-                None => None,
-            },
-            EventText::Request { shard, server } => Some(Event::Arrive { shard, server }),
-            EventText::PassOn { ticket } => Some(Event::PassOn { place: ticket }),
-            EventText::Approve { server } => Some(Event::Approve { server }),
-            EventText::Done { server } => Some(Event::Done { server }),
-            EventText::Begin { .. } => None,
+            Event::Step { stream } => {
+                let stream = self.named_stream(stream)?;
+                Some(Event::Step { stream })
+            }
+            Event::Lose { stream, after } => {
+                let stream = self.named_stream(stream)?;
+                Some(Event::Lose { stream, after })
+            }
+            Event::Refill { stream, more } => {
+                let stream = self.named_stream(stream)?;
+                Some(Event::Refill { stream, more })
+            }
+            Event::Begin { .. } => None,
+            _ => Some(event),
         }
     }
 
     /// Plays an event that is no start.
-    fn play_named(&mut self, event: EventText) -> Played
+    fn play_named(&mut self, event: Event) -> Played
         requires ready { IsSetUp self.old }
-        requires known { IsKnownEvent (state_of self.old.director).sizes.shards (state_of self.old.director).sizes.servers event }
+        requires known { NamesKnown (state_of self.old.director).sizes event }
         requires other { IsNoBegin event }
         ensures { IsEventPlayed self.old event result self.new }
     {
@@ -166,7 +158,7 @@ impl Player {
 
     fn begin(&mut self, alloc: Global, place: u32) -> Result<Played, AllocError>
         requires { IsSetUp self.old }
-        ensures { IfOk result (λ answer. IsEventPlayed self.old (text.Begin place) answer self.new) }
+        ensures { IfOk result (λ answer. IsEventPlayed self.old (Begin place) answer self.new) }
     {
         let at = place as usize;
         if at >= self.waiting.len() {
@@ -193,13 +185,13 @@ impl Player {
     }
 
     /// Plays an event.
-    pub fn play(&mut self, alloc: Global, event: EventText) -> Result<Played, AllocError>
+    pub fn play(&mut self, alloc: Global, event: Event) -> Result<Played, AllocError>
         requires ready { IsSetUp self.old }
-        requires known { IsKnownEvent (state_of self.old.director).sizes.shards (state_of self.old.director).sizes.servers event }
+        requires known { NamesKnown (state_of self.old.director).sizes event }
         ensures { IfOk result (λ answer. IsEventPlayed self.old event answer self.new) }
     {
         match event {
-            EventText::Begin { plan } => self.begin(alloc, plan),
+            Event::Begin { plan } => self.begin(alloc, plan),
             _ => Ok(self.play_named(event)),
         }
     }

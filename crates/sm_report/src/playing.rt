@@ -1,8 +1,9 @@
 //! The lines of a player's answers, and of how far its plans have come.
 ghost use Rattle.std.specs.Prelude.{◌≡◌, ◌≢◌, ◌<◌, ◌++◌, All, OnOk, length, string_bytes, true};
-ghost use Rattle.sm_plan_text.specs.Events.{IsKnownEvent};
+ghost use Rattle.sm_placement.specs.Setup.{sizes_of};
 ghost use Rattle.sm_protocol.specs.declared.event.Played.TheVariants as played;
 ghost use Rattle.sm_protocol.specs.State.{is_begun, progress_of};
+ghost use Rattle.sm_protocol.specs.Laws.{NamesKnown};
 ghost use Rattle.sm_machine.specs.State.{state_of};
 ghost use Rattle.sm_report.specs.Playing.{event_turn, scene_after};
 ghost use Rattle.sm_report.specs.PlayLines.{begun_line, progress_line_of, progress_lines, played_line, outcome_line, event_lines, plan_lines, all_plan_lines};
@@ -12,8 +13,7 @@ ghost use Rattle.sm_report.specs.Player.{scene_of, IsSetUp, IsBegunThere};
 use crate::player::Player;
 use sm_placement::Config;
 use sm_plan_code::{Plan, Stream};
-use sm_plan_text::EventText;
-use sm_protocol::Played;
+use sm_protocol::{Event, Played};
 use sm_report_text::{
     call_count, push_at, push_begun, push_blocked, push_denied, push_done, push_event_front,
     push_executed, push_not_begun, push_passed, push_refill_fault, push_stream_text, push_waiting,
@@ -74,11 +74,11 @@ fn play_event(
     many: bool,
     player: &mut Player,
     i: usize,
-    event: EventText,
+    event: Event,
 ) -> Result<(), AllocError>
     requires ready { IsSetUp player.old }
     requires setup { player.old.director.placement.setup ≡ config.now }
-    requires known { IsKnownEvent (length config.now.shards) (length config.now.servers) event }
+    requires known { NamesKnown (sizes_of config.now) event }
     ensures line { OnOk result (string_bytes out.new ≡ string_bytes out.old ++ outcome_line config.now many i (event_turn (scene_of player.old) event).1 (event_turn (scene_of player.old) event).0) }
     ensures scene { OnOk result (scene_of player.new ≡ (event_turn (scene_of player.old) event).1) }
     ensures setup { OnOk result (player.new.director.placement.setup ≡ player.old.director.placement.setup) }
@@ -98,11 +98,11 @@ pub fn play_events(
     config: &Config,
     many: bool,
     player: &mut Player,
-    events: &[EventText],
+    events: &[Event],
 ) -> Result<(), AllocError>
     requires ready { IsSetUp player.old }
     requires setup { player.old.director.placement.setup ≡ config.now }
-    requires known { All (IsKnownEvent (length config.now.shards) (length config.now.servers)) events.now }
+    requires known { All (NamesKnown (sizes_of config.now)) events.now }
     ensures text { OnOk result (string_bytes out.new ≡ string_bytes out.old ++ event_lines config.now many (scene_of player.old) 0 events.now ++ all_plan_lines many (scene_after events.now (scene_of player.old))) }
     ensures scene { OnOk result (scene_of player.new ≡ scene_after events.now (scene_of player.old)) }
     ensures setup { OnOk result (player.new.director.placement.setup ≡ player.old.director.placement.setup) }

@@ -7,8 +7,8 @@ ghost use Rattle.sm_placement.specs.Lead.{IsSettled};
 ghost use Rattle.sm_plan_code.specs.Plan.{IsKnownPlan};
 ghost use Rattle.sm_verifier.specs.Plan.{IsSound};
 ghost use Rattle.sm_plan_text.specs.Documents.{IsDocument};
-ghost use Rattle.sm_plan_text.specs.Events.{IsKnownEvent};
 ghost use Rattle.sm_plan_text.specs.Reading.{rows_of};
+ghost use Rattle.sm_protocol.specs.Laws.{NamesKnown};
 ghost use Rattle.sm_machine.specs.Hand.{AreFor, hand_plan};
 ghost use Rattle.sm_report_text.specs.Checking.{accepted_line};
 ghost use Rattle.sm_report.specs.Early.{IfEnded, IfMade};
@@ -27,8 +27,8 @@ use crate::playing::play_events;
 use crate::stages::{checked, member, placement, require_log_room, require_one_source_of_plans};
 use sm_placement::{Config, Placement};
 use sm_plan_code::Plan;
-use sm_plan_text::{Document, EventText, Member};
-use sm_protocol::Played;
+use sm_plan_text::{Document, Member};
+use sm_protocol::{Event, Played};
 use sm_report_text::{push_accepted, push_ending, push_plan_front};
 use sm_verifier::Checked;
 use std::alloc::{AllocError, Global};
@@ -105,10 +105,10 @@ fn report_played(
     front: String,
     many: bool,
     mut player: Player,
-    events: &[EventText],
+    events: &[Event],
 ) -> Result<Made, AllocError>
     requires ready { IsSetUp player }
-    requires known { All (IsKnownEvent (length config.now.shards) (length config.now.servers)) events.now }
+    requires known { All (NamesKnown (sizes_of config.now)) events.now }
     requires setup { player.director.placement.setup ≡ config.now }
     ensures { IfOk result (λ made. made ≡ played_output config.now many (string_bytes front) events.now (scene_of player)) }
 {
@@ -128,14 +128,14 @@ fn report_list(
     placement: Placement,
     log: u32,
     plans: Vec<Plan>,
-    events: &[EventText],
+    events: &[Event],
 ) -> Result<Made, Early>
     requires setup { placement.setup ≡ config.now }
     requires settled { IsSettled (sizes_of placement.setup) (place_of placement) }
     requires room { down_count (sizes_of placement.setup) (place_of placement) ≤ log }
     requires most { log ≤ MOST_PLACES }
     requires known { All (IsKnownPlan (length placement.setup.shards) (length placement.setup.servers)) plans.items }
-    requires events { All (IsKnownEvent (length config.now.shards) (length config.now.servers)) events.now }
+    requires events { All (NamesKnown (sizes_of config.now)) events.now }
     ensures { IfMade result (AtChecks (sizes_of config.now) many 0 plans.items
         (IsPlayedOutput config.now many [] events.now (opened_scene (sizes_of config.now) (place_of placement) log plans.items))) }
 {
@@ -151,7 +151,7 @@ fn begin_alone(alloc: Global, config: &Config, player: &mut Player) -> Result<()
     ensures setup { OnOk result (player.new.director.placement.setup ≡ player.old.director.placement.setup) }
     ensures ends { IfErr result (λ early. IfEnded early (λ made. begin_stage config.now (scene_of player.old) ≡ Err made)) }
 {
-    match player.play(alloc, EventText::Begin { plan: 0 }) {
+    match player.play(alloc, Event::Begin { plan: 0 }) {
         Ok(Played::NotBegun(why)) => Err(Early::Report(Made::not_begun(alloc, config, why)?)),
         Ok(_) => Ok(()),
         Err(_) => Err(Early::NoMemory),
@@ -164,10 +164,10 @@ fn report_begun(
     config: &Config,
     front: String,
     mut player: Player,
-    events: &[EventText],
+    events: &[Event],
 ) -> Result<Made, Early>
     requires ready { IsSetUp player }
-    requires known { All (IsKnownEvent (length config.now.shards) (length config.now.servers)) events.now }
+    requires known { All (NamesKnown (sizes_of config.now)) events.now }
     requires setup { player.director.placement.setup ≡ config.now }
     ensures { IfMade result (Then (begin_stage config.now (scene_of player)) (IsPlayedOutput config.now false (string_bytes front) events.now)) }
 {
@@ -187,14 +187,14 @@ fn report_one(
     placement: Placement,
     log: u32,
     plan: Plan,
-    events: &[EventText],
+    events: &[Event],
 ) -> Result<Made, Early>
     requires setup { placement.setup ≡ config.now }
     requires settled { IsSettled (sizes_of placement.setup) (place_of placement) }
     requires room { down_count (sizes_of placement.setup) (place_of placement) ≤ log }
     requires most { log ≤ MOST_PLACES }
     requires known { IsKnownPlan (length placement.setup.shards) (length placement.setup.servers) plan }
-    requires events { All (IsKnownEvent (length config.now.shards) (length config.now.servers)) events.now }
+    requires events { All (NamesKnown (sizes_of config.now)) events.now }
     ensures { IfMade result (AtChecks (sizes_of config.now) false 0 (plan ∷ [])
         (Then (begin_stage config.now (opened_scene (sizes_of config.now) (place_of placement) log (plan ∷ []))) (IsPlayedOutput config.now false (accepted_line plan) events.now))) }
 {
@@ -212,13 +212,13 @@ fn report_logged(
     alloc: Global,
     document: &mut Document,
     placement: Placement,
-    events: &[EventText],
+    events: &[Event],
 ) -> Result<Made, Early>
     requires document { IsDocument (rows_of document.old) }
     requires setup { placement.setup ≡ (rows_of document.old).setup }
     requires settled { IsSettled (sizes_of placement.setup) (place_of placement) }
     requires room { down_count (sizes_of placement.setup) (place_of placement) ≤ document.old.log }
-    requires events { All (IsKnownEvent (length (rows_of document.old).setup.shards) (length (rows_of document.old).setup.servers)) events.now }
+    requires events { All (NamesKnown (sizes_of (rows_of document.old).setup)) events.now }
     ensures { IfMade result (IsLoggedForPlay (rows_of document.old) events.now (place_of placement) tt) }
 {
     let log = document.log;
@@ -247,12 +247,12 @@ fn report_placed(
     alloc: Global,
     document: &mut Document,
     placement: Placement,
-    events: &[EventText],
+    events: &[Event],
 ) -> Result<Made, Early>
     requires document { IsDocument (rows_of document.old) }
     requires setup { placement.setup ≡ (rows_of document.old).setup }
     requires settled { IsSettled (sizes_of placement.setup) (place_of placement) }
-    requires events { All (IsKnownEvent (length (rows_of document.old).setup.shards) (length (rows_of document.old).setup.servers)) events.now }
+    requires events { All (NamesKnown (sizes_of (rows_of document.old).setup)) events.now }
     ensures { IfMade result (IsPlacedForPlay (rows_of document.old) events.now (place_of placement)) }
 {
     require_log_room(alloc, document, &placement)?;
@@ -260,13 +260,9 @@ fn report_placed(
 }
 
 /// Returns the report of a document's events, which were taken out of it.
-fn report_events(
-    alloc: Global,
-    document: &mut Document,
-    events: &[EventText],
-) -> Result<Made, Early>
+fn report_events(alloc: Global, document: &mut Document, events: &[Event]) -> Result<Made, Early>
     requires document { IsDocument (rows_of document.old) }
-    requires events { All (IsKnownEvent (length (rows_of document.old).setup.shards) (length (rows_of document.old).setup.servers)) events.now }
+    requires events { All (NamesKnown (sizes_of (rows_of document.old).setup)) events.now }
     ensures { IfMade result (IsOpenedForPlay (rows_of document.old) events.now) }
 {
     let placement = placement(alloc, document)?;

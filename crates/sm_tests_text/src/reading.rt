@@ -2,7 +2,9 @@
 use super::fixtures::{EVERYTHING, PLACEMENT};
 use sm_placement::{Server, Shard};
 use sm_plan_code::Move;
-use sm_plan_text::{Document, EventText, TextFault, read_document};
+use sm_plan_text::{Document, TextFault, read_document};
+use sm_protocol::Event;
+use sm_reservation::StreamId;
 use sm_server::{Call, Cell, Role, ServerId, ShardId};
 use std::process::Abort;
 use std::test::Fail;
@@ -169,36 +171,44 @@ fn reads_each_call(rt: HostRuntime) -> Result<(), Fail> {
     Ok(())
 }
 
-const fn step(plan: u32, stream: u32) -> EventText {
-    EventText::Step { plan, stream }
+const fn stream_of(plan: u32, stream: u32) -> StreamId {
+    StreamId { plan, stream }
 }
 
-const fn lose(plan: u32, stream: u32, after: bool) -> EventText {
-    EventText::Lose {
-        plan,
-        stream,
+const fn step(plan: u32, stream: u32) -> Event {
+    Event::Step {
+        stream: stream_of(plan, stream),
+    }
+}
+
+const fn lose(plan: u32, stream: u32, after: bool) -> Event {
+    Event::Lose {
+        stream: stream_of(plan, stream),
         after,
     }
 }
 
-const fn refill(plan: u32, stream: u32, more: u32) -> EventText {
-    EventText::Refill { plan, stream, more }
+const fn refill(plan: u32, stream: u32, more: u32) -> Event {
+    Event::Refill {
+        stream: stream_of(plan, stream),
+        more,
+    }
 }
 
 /// Checks that the plan is the first one if it is missing.
 #[test]
 fn reads_each_event(rt: HostRuntime) -> Result<(), Fail> {
-    let request = EventText::Request {
+    let request = Event::Arrive {
         shard: ShardId::new(1),
         server: ServerId::new(1),
     };
-    let pass_on = EventText::PassOn {
-        ticket: 4_294_967_295,
+    let pass_on = Event::PassOn {
+        place: 4_294_967_295,
     };
-    let approve = EventText::Approve {
+    let approve = Event::Approve {
         server: ServerId::new(0),
     };
-    let done = EventText::Done {
+    let done = Event::Done {
         server: ServerId::new(1),
     };
     let events = [
@@ -212,7 +222,7 @@ fn reads_each_event(rt: HostRuntime) -> Result<(), Fail> {
         lose(0, 3, false),
         refill(4, 5, 262_144),
         refill(0, 6, 0),
-        EventText::Begin { plan: 16 },
+        Event::Begin { plan: 16 },
     ];
     let document = read_document(rt.alloc(), EVERYTHING.as_bytes())?;
     assert!(rt; are_read(&document.events, &events));
