@@ -7,3 +7,4 @@ pub mod Rows
 pub mod Begun
 pub mod Renumbered
 pub mod InForce
+pub mod Awaited

@@ -1,3 +1,4 @@
+pub mod Waiting
 pub mod Faults
 pub mod Numbers
 pub mod Roles

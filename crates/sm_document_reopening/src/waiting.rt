@@ -1,8 +1,9 @@
 //! Awaited answers.
-ghost use Rattle.std.specs.Prelude.{◌≡◌, ◌&&◌, not, is_some};
-ghost use Rattle.sm_network.specs.Reopening.{is_asked};
+ghost use Rattle.std.specs.Prelude.{◌≡◌, ◌∷◌, ◌++◌, [], IfOk, OnOk, is_some};
+ghost use Rattle.std.specs.List.{filter};
 ghost use Rattle.sm_reopening.specs.Ongoing.{net_reopening};
-ghost use Rattle.sm_reopening.specs.Settles.{net_party};
+ghost use Rattle.sm_reopening.specs.Settles.{is_unsettled, net_party};
+ghost use Rattle.sm_document_reopening.specs.Waiting.{is_unanswered, unanswered_parties, unsettled_parties};
 
 use crate::reopening::DocumentReopening;
 use sm_reopening::Party;
@@ -23,7 +24,7 @@ pub enum Stage {
 impl DocumentReopening {
     /// Returns whether a party is asked, and has not answered the fence.
     pub fn is_unanswered(&self, party: &Party) -> bool
-        ensures { result ≡ (is_asked (net_reopening self.now.ongoing) (net_party party.now) && not (is_some ((net_reopening self.now.ongoing).told (net_party party.now)))) }
+        ensures { result ≡ is_unanswered (net_reopening self.now.ongoing) (net_party party.now) }
     {
         match party {
             Party::Server(server) => {
@@ -33,17 +34,25 @@ impl DocumentReopening {
         }
     }
 
-    /// Returns the parties, in their order, that have not answered the fence.
-    pub fn unanswered(&self, alloc: Global) -> Result<Vec<Party>, AllocError> {
-        let mut parties = Vec::new(alloc);
-        if self.is_unanswered(&Party::MapOwner) {
-            parties.push(Party::MapOwner)?;
+    /// Adds a party if it is asked, and has not answered the fence.
+    fn push_unanswered(&self, parties: &mut Vec<Party>, party: Party) -> Result<(), AllocError>
+        ensures { OnOk result (parties.new.items ≡ parties.old.items
+            ++ filter (λ p. is_unanswered (net_reopening self.now.ongoing) (net_party p)) (party ∷ [])) }
+    {
+        if self.is_unanswered(&party) {
+            parties.push(party)?;
         }
+        Ok(())
+    }
+
+    /// Returns the parties, in their order, that have not answered the fence.
+    pub fn unanswered(&self, alloc: Global) -> Result<Vec<Party>, AllocError>
+        ensures { IfOk result (λ parties. parties.items ≡ unanswered_parties (net_reopening self.now.ongoing)) }
+    {
+        let mut parties = Vec::new(alloc);
+        self.push_unanswered(&mut parties, Party::MapOwner)?;
         for number in 0..self.ongoing.server_count() {
-            let party = Party::Server(ServerId::new(number));
-            if self.is_unanswered(&party) {
-                parties.push(party)?;
-            }
+            self.push_unanswered(&mut parties, Party::Server(ServerId::new(number)))?;
         }
         Ok(parties)
     }
@@ -103,17 +112,25 @@ impl DocumentReopening {
         Ok(parties)
     }
 
-    /// Returns the parties, in their order, that were sent a settle and have not answered it.
-    pub fn unsettled(&self, alloc: Global) -> Result<Vec<Party>, AllocError> {
-        let mut parties = Vec::new(alloc);
-        if self.ongoing.is_unsettled(&Party::MapOwner) {
-            parties.push(Party::MapOwner)?;
+    /// Adds a party if it was sent a settle, and has not answered it.
+    fn push_unsettled(&self, parties: &mut Vec<Party>, party: Party) -> Result<(), AllocError>
+        ensures { OnOk result (parties.new.items ≡ parties.old.items
+            ++ filter (λ p. is_unsettled (net_reopening self.now.ongoing) (net_party p)) (party ∷ [])) }
+    {
+        if self.ongoing.is_unsettled(&party) {
+            parties.push(party)?;
         }
+        Ok(())
+    }
+
+    /// Returns the parties, in their order, that were sent a settle and have not answered it.
+    pub fn unsettled(&self, alloc: Global) -> Result<Vec<Party>, AllocError>
+        ensures { IfOk result (λ parties. parties.items ≡ unsettled_parties (net_reopening self.now.ongoing)) }
+    {
+        let mut parties = Vec::new(alloc);
+        self.push_unsettled(&mut parties, Party::MapOwner)?;
         for number in 0..self.ongoing.server_count() {
-            let party = Party::Server(ServerId::new(number));
-            if self.ongoing.is_unsettled(&party) {
-                parties.push(party)?;
-            }
+            self.push_unsettled(&mut parties, Party::Server(ServerId::new(number)))?;
         }
         Ok(parties)
     }

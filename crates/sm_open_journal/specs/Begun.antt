@@ -1,10 +1,10 @@
 -- Replies about a plan that has begun.
-use Rattle.std.specs.Prelude.{ℕ, List, [], ◌++◌, codes, count_by, sum_by}
-use Rattle.json.specs.Token.{Token}
+use Rattle.std.specs.Prelude.{ℕ, ◌==◌, ◌&&◌, Bool, true, List, [], ◌∷◌, ◌++◌, codes, count_by, sum_by, if◌then◌else◌}
+use Rattle.json.specs.Token.{Token, boolean, key}
 use Rattle.sm_plan_code.specs.Instr.{is_call}
 use Rattle.sm_protocol.specs.State.{plan_at, stream_count}
 use Rattle.sm_driver.specs.Driver.{DriverModel, record_of}
-use Rattle.sm_commands.specs.Members.{number_member, object_member}
+use Rattle.sm_commands.specs.Members.{list_member, number_member, object_member}
 use Rattle.sm_open_journal.specs.declared.begun_plan.BegunPlan.{BegunPlan}
 use Rattle.sm_open_journal.specs.Replies.{plan_members}
 
@@ -32,3 +32,16 @@ begun_member p = object_member (codes "begun") (size_of_plan p)
 -- a plan that has begun, the messages of all its streams, and whether it has ended
 abbrev pub begun_members : List ℕ → DriverModel → BegunPlan → List Token
 begun_members journal d p = begun_member p ++ plan_members journal d p.number []
+
+-- no orders have come up, and no plan has ended
+abbrev pub nothing_new : List Token
+nothing_new = list_member (codes "orders") [] ++ list_member (codes "ended") []
+
+-- the messages that a plan's streams stand before now, if it is one of the present epoch, and that goes on
+abbrev pub plan_members_again : List ℕ → DriverModel → BegunPlan → Bool → List Token
+plan_members_again journal d p goes_on = if goes_on && (p.epoch == d.epoch) then plan_members journal d p.number [] else nothing_new
+
+-- a plan that had begun before, with these
+abbrev pub begun_again_members : List ℕ → DriverModel → BegunPlan → Bool → List Token
+begun_again_members journal d p goes_on =
+    begun_member p ++ key (codes "again") ∷ boolean true ∷ plan_members_again journal d p goes_on

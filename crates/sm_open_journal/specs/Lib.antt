@@ -1,5 +1,9 @@
 pub mod Begun
 pub mod Calls
+pub mod Cells
+pub mod Given
 pub mod Messages
+pub mod Notices
 pub mod Permits
 pub mod Replies
+pub mod Restores

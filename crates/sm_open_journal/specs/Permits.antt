@@ -1,8 +1,10 @@
 -- Permits of restarts in replies, and the reply to an opening, which has those of the servers that are down.
-use Rattle.std.specs.Prelude.{ℕ, List, [], ◌++◌, codes, length}
+use Rattle.std.specs.Prelude.{ℕ, Bool, false, List, [], ◌++◌, codes, length, if◌then◌else◌}
 use Rattle.std.specs.List.{flat_map, range_with_len}
 use Rattle.std.specs.Option.{option_map_or}
 use Rattle.json.specs.Token.{Token}
+use Rattle.sm_placement.specs.Setup.{server_named}
+use Rattle.sm_network.specs.Controller.{is_permitted}
 use Rattle.sm_driver.specs.Driver.{DriverModel}
 use Rattle.sm_driver.specs.Permits.{permit_of}
 use Rattle.sm_commands.specs.Members.{list_member, number_member, object, object_member, server_text, text_member}
@@ -14,6 +16,19 @@ permit_members server permit = text_member (codes "server") server ++ number_mem
 -- the same under a word, as a member
 abbrev pub permit_member : List ℕ → List ℕ → ℕ → List Token
 permit_member word server permit = object_member word (permit_members server permit)
+
+-- the server of this name is down under this permit
+abbrev pub is_down_under : DriverModel → List ℕ → ℕ → Bool
+is_down_under d name permit =
+    option_map_or (λ v. is_permitted (permit_of d.permits v) permit) (server_named d.machine.placement.setup name) false
+
+-- the word for what came of a permit that was given to a server: the server is down under it, or its restart has ended
+abbrev pub word_of_permit : DriverModel → List ℕ → ℕ → List ℕ
+word_of_permit d server permit = if is_down_under d server permit then codes "approved" else codes "ended"
+
+-- the permit under that word, as a member
+abbrev pub given_member : DriverModel → List ℕ → ℕ → List Token
+given_member d server permit = permit_member (word_of_permit d server permit) server permit
 
 -- the permit under which a server is down, if it is
 abbrev pub permit_text : DriverModel → ℕ → List Token

@@ -31,7 +31,7 @@ fn role_word(role: Role) -> &'static str
 }
 
 /// Writes a handover: its other server, and its number.
-fn write_handover(
+pub fn write_handover(
     writer: &mut Writer,
     config: &Config,
     end: &str,

@@ -1,4 +1,7 @@
 //! Permits of restarts that were given under names.
+ghost use Rattle.std.specs.Prelude.{◌≡◌};
+ghost use Rattle.std.specs.Option.{option_copied};
+ghost use Rattle.sm_open_journal.specs.Given.{given_at};
 
 use std::alloc::{AllocError, Global};
 
@@ -37,7 +40,9 @@ impl GivenPermits {
     }
 
     /// Returns a permit that was given, if it has not been forgotten.
-    pub fn get(&self, at: GivenAt) -> Option<&GivenPermit> {
+    pub fn get(&self, at: GivenAt) -> Option<&GivenPermit>
+        ensures { option_copied result ≡ given_at self.now at }
+    {
         if at.epoch == self.epoch {
             self.present.get(at.index)
         } else {

@@ -32,7 +32,7 @@ pub use history::History;
 pub use messages::Messages;
 pub use notices::write_notices;
 pub use noting::{note_answered, note_begun};
-pub use opened::Opened;
+pub use opened::{Opened, write_no_list};
 pub use permits::write_permit;
 pub use published::write_map;
 pub use restored::ToldRestore;

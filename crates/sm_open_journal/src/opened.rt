@@ -1,7 +1,8 @@
 //! A journal that is open.
 ghost use Rattle.std.specs.Prelude.{◌≡◌, ◌++◌, [], IfOk, OnOk, string_bytes};
+ghost use Rattle.sm_commands.specs.Members.{list_member};
 ghost use Rattle.sm_open_journal.specs.Replies.{plan_members, taken_members};
-ghost use Rattle.sm_open_journal.specs.Begun.{begun_member, begun_members, begun_plan, size_of_plan};
+ghost use Rattle.sm_open_journal.specs.Begun.{begun_again_members, begun_member, begun_members, begun_plan, nothing_new, plan_members_again, size_of_plan};
 
 use crate::begun_plan::BegunPlan;
 use crate::given_permits::{GivenAt, GivenPermits};
@@ -41,14 +42,23 @@ struct Kept {
     told: Vec<ToldRestore>,
 }
 
-/// Writes, as members of a reply, that no orders came up and no plan has ended.
-fn write_nothing_new(writer: &mut Writer) -> Result<(), AllocError> {
-    writer.key("orders")?;
+/// Writes a member that is a list of nothing.
+pub fn write_no_list(writer: &mut Writer, name: &str) -> Result<(), AllocError>
+    ensures { OnOk result (writer.new.tokens ≡ writer.old.tokens ++ list_member name.now []) }
+{
+    writer.key(name)?;
     writer.begin_array()?;
     writer.end_array()?;
-    writer.key("ended")?;
-    writer.begin_array()?;
-    writer.end_array()
+    Ok(())
+}
+
+/// Writes, as members of a reply, that no orders came up and no plan has ended.
+fn write_nothing_new(writer: &mut Writer) -> Result<(), AllocError>
+    ensures { OnOk result (writer.new.tokens ≡ writer.old.tokens ++ nothing_new) }
+{
+    write_no_list(writer, "orders")?;
+    write_no_list(writer, "ended")?;
+    Ok(())
 }
 
 impl Opened {
@@ -188,15 +198,6 @@ impl Opened {
         }
     }
 
-    /// Returns whether a server is down under this permit.
-    pub fn has_permit(&self, server: &str, permit: u64) -> bool {
-        let Some(server) = self.driver.machine().config().server_named(server) else {
-            return false;
-        };
-        let given = self.driver.permits().get(server.number() as usize);
-        given == Some(&Some(permit))
-    }
-
     /// Returns how many plans have begun in the present epoch.
     pub fn plan_count(&self) -> u32 {
         let count = self.driver.machine().plan_count();
@@ -256,6 +257,23 @@ impl Opened {
         Ok(())
     }
 
+    /// Writes, as members of a reply, the orders that a plan has now, if it is one of the present epoch, and that goes on.
+    fn write_plan_again(
+        &self,
+        writer: &mut Writer,
+        plan: BegunPlan,
+        goes_on: bool,
+    ) -> Result<(), AllocError>
+        ensures { OnOk result (writer.new.tokens ≡ writer.old.tokens
+            ++ plan_members_again (string_bytes self.now.journal) self.now.driver plan goes_on) }
+    {
+        if goes_on && plan.epoch == self.driver.epoch() {
+            self.write_plan_now(writer, plan.number)
+        } else {
+            write_nothing_new(writer)
+        }
+    }
+
     /// Writes, as members of a reply, that a plan has begun before. If it is one of the present epoch, and that goes
     /// on, the reply has its orders as they are now.
     pub fn write_begun_again(
@@ -263,15 +281,15 @@ impl Opened {
         writer: &mut Writer,
         plan: BegunPlan,
         goes_on: bool,
-    ) -> Result<(), AllocError> {
+    ) -> Result<(), AllocError>
+        ensures { OnOk result (writer.new.tokens
+            ≡ writer.old.tokens ++ begun_again_members (string_bytes self.now.journal) self.now.driver plan goes_on) }
+    {
         write_begun_plan(writer, plan)?;
         writer.key("again")?;
         writer.boolean(true)?;
-        if goes_on && plan.epoch == self.driver.epoch() {
-            self.write_plan_now(writer, plan.number)
-        } else {
-            write_nothing_new(writer)
-        }
+        self.write_plan_again(writer, plan, goes_on)?;
+        Ok(())
     }
 }
 

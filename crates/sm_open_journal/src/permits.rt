@@ -3,7 +3,7 @@ ghost use Rattle.std.specs.Prelude.{◌≡◌, ◌++◌, OnOk, length, string_by
 ghost use Rattle.std.specs.List.{flat_map, range_with_len};
 ghost use Rattle.sm_driver.specs.Permits.{permit_of};
 ghost use Rattle.sm_commands.specs.Members.{server_text};
-ghost use Rattle.sm_open_journal.specs.Permits.{opened_member, opened_members, permit_member, permit_members, permit_text, permits_member};
+ghost use Rattle.sm_open_journal.specs.Permits.{given_member, is_down_under, opened_member, opened_members, permit_member, permit_members, permit_text, permits_member, word_of_permit};
 
 use crate::opened::Opened;
 use sm_commands::{Writer, server_name, write_number, write_text};
@@ -45,6 +45,39 @@ impl Opened {
             .get(server.number() as usize)
             .copied()
             .flatten()
+    }
+
+    /// Returns whether the server of a name is down under this permit.
+    fn is_down_under(&self, server: &str, permit: u64) -> bool
+        ensures { result ≡ is_down_under self.now.driver server.now permit }
+    {
+        match self.driver.machine().config().server_named(server) {
+            Some(server) => self.permit_of(server) == Some(permit),
+            None => false,
+        }
+    }
+
+    /// Returns the word for what came of a permit that was given to a server.
+    fn word_of_permit(&self, server: &str, permit: u64) -> &'static str
+        ensures { result.now ≡ word_of_permit self.now.driver server.now permit }
+    {
+        if self.is_down_under(server, permit) {
+            "approved"
+        } else {
+            "ended"
+        }
+    }
+
+    /// Writes, as a member, a permit that was given to a server before, and what came of it.
+    pub fn write_given(
+        &self,
+        writer: &mut Writer,
+        server: &str,
+        permit: u64,
+    ) -> Result<(), AllocError>
+        ensures { OnOk result (writer.new.tokens ≡ writer.old.tokens ++ given_member self.now.driver server.now permit) }
+    {
+        write_permit(writer, self.word_of_permit(server, permit), server, permit)
     }
 
     /// Returns the name of a server.

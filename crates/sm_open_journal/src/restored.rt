@@ -1,6 +1,8 @@
 //! Restores in replies.
-ghost use Rattle.std.specs.Prelude.{◌<◌};
+ghost use Rattle.std.specs.Prelude.{◌≡◌, ◌<◌, ◌++◌, OnOk, string_bytes, true};
 ghost use Rattle.sm_driver.specs.Driver.{record_of};
+ghost use Rattle.sm_driver.specs.Restores.{was_told};
+ghost use Rattle.sm_open_journal.specs.Restores.{TellsKept, bits_member, restore_members, restore_object};
 
 use crate::cells::write_slots;
 use crate::copying::copy_text;
@@ -16,9 +18,31 @@ pub fn write_bits(
     alloc: Global,
     name: &str,
     bits: u64,
-) -> Result<(), AllocError> {
+) -> Result<(), AllocError>
+    ensures { OnOk result (writer.new.tokens ≡ writer.old.tokens ++ bits_member name.now bits) }
+{
     let text = format!(in alloc; "{bits:x}")?;
     write_text(writer, name, text.as_str())
+}
+
+/// Writes the members of the restore of a server that has lost all it had.
+fn write_restore_members(
+    opened: &Opened,
+    alloc: Global,
+    writer: &mut Writer,
+    server: ServerId,
+    restore: &ServerRestore,
+) -> Result<(), AllocError>
+    ensures { OnOk result (writer.new.tokens
+        ≡ writer.old.tokens ++ restore_members (string_bytes opened.now.journal) opened.now.driver server restore.now) }
+{
+    write_text(writer, "server", opened.name_of(server))?;
+    write_bits(writer, alloc, "nonce", restore.nonce())?;
+    write_text(writer, "journal", opened.journal.as_str())?;
+    write_number(writer, "fence", opened.driver.fence())?;
+    write_number(writer, "base", restore.number())?;
+    write_slots(writer, opened.driver.machine().config(), restore.cells())?;
+    Ok(())
 }
 
 /// Writes the restore of a server that has lost all it had.
@@ -28,16 +52,14 @@ fn write_restore(
     writer: &mut Writer,
     server: ServerId,
     restore: &ServerRestore,
-) -> Result<(), AllocError> {
-    let config = opened.driver.machine().config();
+) -> Result<(), AllocError>
+    ensures { OnOk result (writer.new.tokens
+        ≡ writer.old.tokens ++ restore_object (string_bytes opened.now.journal) opened.now.driver server restore.now) }
+{
     writer.begin_object()?;
-    write_text(writer, "server", server_name(config, server))?;
-    write_bits(writer, alloc, "nonce", restore.nonce())?;
-    write_text(writer, "journal", opened.journal.as_str())?;
-    write_number(writer, "fence", opened.driver.fence())?;
-    write_number(writer, "base", restore.number())?;
-    write_slots(writer, config, restore.cells())?;
-    writer.end_object()
+    write_restore_members(opened, alloc, writer, server, restore)?;
+    writer.end_object()?;
+    Ok(())
 }
 
 /// The last restore of a server in an earlier epoch.
@@ -114,6 +136,7 @@ impl Opened {
     /// Returns whether a server was told under this nonce last.
     pub fn was_told(&self, server: ServerId, nonce: u64) -> bool
         requires { server < (record_of self.now.driver).sizes.servers }
+        ensures { was_told self.now.driver.restores server nonce ≡ true → result ≡ true }
     {
         match self.driver.restored(server) {
             Some(restore) => restore.nonce() == nonce,
@@ -130,6 +153,7 @@ impl Opened {
         nonce: u64,
     ) -> Result<(), AllocError>
         requires { server < (record_of self.now.driver).sizes.servers }
+        ensures { OnOk result (TellsKept (string_bytes self.now.journal) self.now.driver server writer.old.tokens writer.new.tokens) }
     {
         writer.key("restore")?;
         match self.driver.restored(server) {

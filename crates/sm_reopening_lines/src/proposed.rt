@@ -1,5 +1,8 @@
 //! Lines about the proposal, and about the progress of a reopening.
-use crate::sent::party_name;
+ghost use Rattle.std.specs.Prelude.{◌≡◌, ◌++◌, OnOk};
+ghost use Rattle.std.specs.List.{flat_map};
+ghost use Rattle.sm_reopening_lines.specs.Parties.{party_text, waiting_member};
+
 use sm_commands::{Writer, server_name, shard_name, write_number, write_text};
 use sm_document_reopening::{DocumentReopening, Proposal, ShortFloor, Stage};
 use sm_placement::Config;
@@ -7,21 +10,47 @@ use sm_reopening::Party;
 use sm_server::{Role, ServerId, ShardId};
 use std::alloc::{AllocError, Global};
 
+/// Writes the name of a party; the map's owner is null.
+fn write_party(
+    writer: &mut Writer,
+    reopening: &DocumentReopening,
+    party: Party,
+) -> Result<(), AllocError>
+    ensures { OnOk result (writer.new.tokens ≡ writer.old.tokens ++ party_text reopening.now.numbering party) }
+{
+    match party {
+        Party::Server(server) => writer.string(server_name(reopening.numbering(), server)),
+        Party::MapOwner => writer.null(),
+    }
+}
+
+/// Writes the names of parties.
+fn write_each_party(
+    writer: &mut Writer,
+    reopening: &DocumentReopening,
+    parties: &[Party],
+) -> Result<(), AllocError>
+    ensures { OnOk result (writer.new.tokens ≡ writer.old.tokens ++ flat_map (party_text reopening.now.numbering) parties.now) }
+{
+    for party in parties {
+        write_party(writer, reopening, *party)?;
+    }
+    Ok(())
+}
+
 /// Writes, as a member, whose answers are missing; the map's owner is null.
 pub fn write_waiting(
     writer: &mut Writer,
     reopening: &DocumentReopening,
     parties: &[Party],
-) -> Result<(), AllocError> {
+) -> Result<(), AllocError>
+    ensures { OnOk result (writer.new.tokens ≡ writer.old.tokens ++ waiting_member reopening.now.numbering parties.now) }
+{
     writer.key("waiting")?;
     writer.begin_array()?;
-    for party in parties {
-        match party_name(reopening, *party) {
-            Some(name) => writer.string(name)?,
-            None => writer.null()?,
-        }
-    }
-    writer.end_array()
+    write_each_party(writer, reopening, parties)?;
+    writer.end_array()?;
+    Ok(())
 }
 
 /// Returns the word for a role.

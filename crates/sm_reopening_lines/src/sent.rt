@@ -1,4 +1,8 @@
 //! Fences and settles as they go out.
+ghost use Rattle.std.specs.Prelude.{◌≡◌, ◌++◌, OnOk, option_map};
+ghost use Rattle.std.specs.List.{flat_map};
+ghost use Rattle.sm_reopening_lines.specs.Parties.{addressed_members, fence_text, fences_member, party_name};
+
 use sm_commands::{Writer, server_name, shard_name, write_name, write_number, write_text};
 use sm_document_reopening::DocumentReopening;
 use sm_placement::Placement;
@@ -7,7 +11,9 @@ use sm_server::{Cell, ServerId, ShardId};
 use std::alloc::{AllocError, Global};
 
 /// Returns the name of a party; the map's owner has none.
-pub(crate) fn party_name<'r>(reopening: &'r DocumentReopening, party: Party) -> Option<&'r str> {
+pub(crate) fn party_name<'r>(reopening: &'r DocumentReopening, party: Party) -> Option<&'r str>
+    ensures { option_map (λ name. name.now) result ≡ party_name reopening.now.numbering party }
+{
     match party {
         Party::Server(server) => Some(server_name(reopening.numbering(), server)),
         Party::MapOwner => None,
@@ -20,10 +26,43 @@ fn write_head(
     reopening: &DocumentReopening,
     journal: &str,
     party: Party,
-) -> Result<(), AllocError> {
+) -> Result<(), AllocError>
+    ensures { OnOk result (writer.new.tokens ≡ writer.old.tokens ++ addressed_members journal.now reopening.now party) }
+{
     write_name(writer, "server", party_name(reopening, party))?;
     write_text(writer, "journal", journal)?;
-    write_number(writer, "base", reopening.base())
+    write_number(writer, "base", reopening.base())?;
+    Ok(())
+}
+
+/// Writes the fence to a party.
+fn write_fence(
+    writer: &mut Writer,
+    reopening: &DocumentReopening,
+    journal: &str,
+    party: Party,
+) -> Result<(), AllocError>
+    ensures { OnOk result (writer.new.tokens ≡ writer.old.tokens ++ fence_text journal.now reopening.now party) }
+{
+    writer.begin_object()?;
+    write_head(writer, reopening, journal, party)?;
+    writer.end_object()?;
+    Ok(())
+}
+
+/// Writes the fences to parties.
+fn write_each_fence(
+    writer: &mut Writer,
+    reopening: &DocumentReopening,
+    journal: &str,
+    parties: &[Party],
+) -> Result<(), AllocError>
+    ensures { OnOk result (writer.new.tokens ≡ writer.old.tokens ++ flat_map (fence_text journal.now reopening.now) parties.now) }
+{
+    for party in parties {
+        write_fence(writer, reopening, journal, *party)?;
+    }
+    Ok(())
 }
 
 /// Writes, as a member, the fences that are not answered.
@@ -32,15 +71,15 @@ pub fn write_fences(
     alloc: Global,
     reopening: &DocumentReopening,
     journal: &str,
-) -> Result<(), AllocError> {
+) -> Result<(), AllocError>
+    ensures { OnOk result (writer.new.tokens ≡ writer.old.tokens ++ fences_member journal.now reopening.now) }
+{
+    let parties = reopening.unanswered(alloc)?;
     writer.key("fence")?;
     writer.begin_array()?;
-    for party in reopening.unanswered(alloc)? {
-        writer.begin_object()?;
-        write_head(writer, reopening, journal, party)?;
-        writer.end_object()?;
-    }
-    writer.end_array()
+    write_each_fence(writer, reopening, journal, parties.as_slice())?;
+    writer.end_array()?;
+    Ok(())
 }
 
 /// Returns the word for a cell of a settlement, if it holds something.

@@ -1,19 +1,25 @@
 -- Replies to lines. If a line changed something, its reply tells the change.
--- `ignored_answer` is internal: you need not read it for the public contracts.
-use Rattle.std.specs.Prelude.{◌≡◌, ℕ, ◌||◌, Bool, List, [], ◌++◌, Option, Some, None, codes, if◌then◌else◌, string_bytes, true}
+-- `ignored_answer`, `TellsGiven` and `TellsGivenAt` are internal: you need not read them for the public contracts.
+use Rattle.std.specs.Prelude.{◌≡◌, ℕ, ◌||◌, Bool, List, [], ◌++◌, IfSome, Option, Some, None, bytes_eq, codes, false, if◌then◌else◌, string_bytes, true}
 use Rattle.json.specs.Token.{Token}
 use Rattle.json.specs.Print.{print}
 use Rattle.sm_reservation.specs.declared.stream_id.StreamId.{StreamId}
 use Rattle.sm_plan_code.specs.Plan.{PlanModel}
-use Rattle.sm_driver.specs.Driver.{DriverModel, HasApproved, HasBegunPlan, HasEndedRestart, HasTakenStep, is_due, is_past, record_of}
+use Rattle.sm_driver.specs.Driver.{DriverModel, HasApproved, HasBegunPlan, HasEndedRestart, HasRestored, HasTakenStep, is_due, is_past, record_of}
 use Rattle.sm_commands.specs.declared.command.Id.{Id}
 use Rattle.sm_commands.specs.Members.{id_members, object, server_text, text_member}
+use Rattle.sm_commands.specs.Refusals.{TellsRefused}
 use Rattle.sm_commands.specs.Writer.{HasNoLineFeed}
+use Rattle.sm_open_journal.specs.declared.given_permits.GivenAt.{GivenAt}
+use Rattle.sm_open_journal.specs.declared.given_permits.GivenPermit.{GivenPermit}
 use Rattle.sm_open_journal.specs.declared.opened.Opened.{Opened}
 use Rattle.sm_open_journal.specs.Begun.{begun_members, begun_plan}
-use Rattle.sm_open_journal.specs.Permits.{opened_member, permit_member}
+use Rattle.sm_open_journal.specs.Given.{given_at}
+use Rattle.sm_open_journal.specs.Permits.{given_member, opened_member, permit_member}
 use Rattle.sm_open_journal.specs.Replies.{sinces_of, taken_members}
-use Rattle.sm_session.specs.Changes.{ComesInForce, HasGoneOn, HasReopened, OpensNext, RestoresServer}
+use Rattle.sm_open_journal.specs.Restores.{TellsKept}
+use Rattle.sm_reopening_lines.specs.Parties.{fences_member}
+use Rattle.sm_session.specs.Changes.{ComesInForce, HasGoneOn, HasReopened, OpensNext}
 use Rattle.sm_session.specs.declared.reopening.UnderWay.{UnderWay}
 use Rattle.sm_session.specs.declared.session.LineEffect.{LineEffect}
 use Rattle.sm_session.specs.declared.session.LineEffect.TheVariants.{Changed}
@@ -40,23 +46,37 @@ TellsApproved old new before after =
     (server : ℕ) × (permit : ℕ) × HasApproved server permit old new
     × (after ≡ before ++ permit_member (codes "approved") (server_text new.machine.placement.setup server) permit)
 
+-- Of a permit that was given under a name is told what came of it; if it was given to another server, that the line is refused.
+pub record TellsGiven (d : DriverModel) (server : List ℕ) (given : GivenPermit) (before after : List Token) : Type 0 where
+  pub same : bytes_eq (string_bytes given.server) server ≡ true → after ≡ before ++ given_member d server given.permit
+  pub other : bytes_eq (string_bytes given.server) server ≡ false → TellsRefused before after
+
+-- the same of the permit that a name stands for, if it has not been forgotten
+abbrev pub TellsGivenAt : Opened → GivenAt → List ℕ → List Token → List Token → Type 0
+TellsGivenAt o at server before after = IfSome (given_at o.permits at) (λ given. TellsGiven o.driver server given before after)
+
 -- the restart of a server has ended, and it is told which is up
 abbrev pub TellsUp : DriverModel → DriverModel → List Token → List Token → Type 0
 TellsUp old new before after =
     (server : ℕ) × (permit : ℕ) × (base : Option ℕ) × HasEndedRestart server permit base old new
     × (after ≡ before ++ text_member (codes "up") (server_text new.machine.placement.setup server))
 
+-- a server was restored, and is told what the driver keeps for it
+abbrev pub TellsRestored : DriverModel → DriverModel → List ℕ → List Token → List Token → Type 0
+TellsRestored old new journal before after =
+    (server : ℕ) × (nonce : ℕ) × HasRestored server nonce old new × TellsKept journal new server before after
+
 -- the next epoch has opened, and that is told
 abbrev pub TellsNext : DriverModel → DriverModel → List ℕ → List Token → List Token → Type 0
 TellsNext old new journal before after = OpensNext old new × (after ≡ before ++ opened_member journal new)
 
--- A command changes the driver of an open journal, and its reply tells the change. Of a restore no text is said here.
+-- A command changes the driver of an open journal, and its reply tells the change.
 pub data TellsChange (old new : DriverModel) (journal : List ℕ) (before after : List Token) : Type 0 where
   Begun : TellsBegun old new journal before after → TellsChange old new journal before after
   Moved : TellsMoved old new journal before after → TellsChange old new journal before after
   Approved : TellsApproved old new before after → TellsChange old new journal before after
   Up : TellsUp old new before after → TellsChange old new journal before after
-  Restored : RestoresServer old new → TellsChange old new journal before after
+  Restored : TellsRestored old new journal before after → TellsChange old new journal before after
   Next : TellsNext old new journal before after → TellsChange old new journal before after
 
 -- the reply tells the journal that is open
@@ -70,10 +90,15 @@ TellsDriven None new before after = TellsOpened new before after
 TellsDriven (Some old) (Some new) before after = TellsChange old.driver new.driver (string_bytes new.journal) before after
 TellsDriven (Some old) None before after = ⊥
 
--- The reply to a line that changed something. Of a reopening's lines only the last settle's text is said: the journal is open.
+-- the reply tells the fences to the parties that have not answered: those of the reopening that has begun
+abbrev pub TellsFences : Option UnderWay → List Token → List Token → Type 0
+TellsFences (Some u) before after = after ≡ before ++ fences_member (string_bytes u.journal) u.reopening
+TellsFences None before after = ⊥
+
+-- The reply to a line that changed something. Of an answer to a fence, of a confirmation and of any but the last settle no text is said.
 pub data TellsChanges (opened : Option Opened) (under : Option UnderWay) (new : Option Opened) (after_it : Option UnderWay) (before after : List Token) : Type 0 where
   Drives : under ≡ None → after_it ≡ None → TellsDriven opened new before after → TellsChanges opened under new after_it before after
-  Reopens : HasReopened opened under after_it → TellsChanges opened under new after_it before after
+  Reopens : HasReopened opened under after_it → TellsFences after_it before after → TellsChanges opened under new after_it before after
   Follows : HasGoneOn under after_it → TellsChanges opened under new after_it before after
   Opens : ComesInForce under after_it new → TellsOpened new before after → TellsChanges opened under new after_it before after
 

@@ -1,17 +1,17 @@
 //! Approvals of restarts.
-ghost use Rattle.std.specs.Prelude.{◌≡◌, ◌<◌, ℕ, IfOk, None, false, true};
+ghost use Rattle.std.specs.Prelude.{◌≡◌, ◌<◌, ℕ, IfOk, None, false, true, IfSome, OnOk};
 ghost use Rattle.sm_driver.specs.Driver.{HasApproved, record_of};
 ghost use Rattle.sm_names.specs.Names.{value_of};
 ghost use Rattle.sm_session.specs.Asked.{ApprovesRestartOf};
 ghost use Rattle.sm_session.specs.Changes.{ApprovesRestart};
-ghost use Rattle.sm_session.specs.Replies.{TellsApproved};
+ghost use Rattle.sm_session.specs.Replies.{TellsApproved, TellsGiven, TellsGivenAt};
 
 use crate::standing::Standing;
 use sm_commands::{
     BadLine, CommandMember, Field, LinePart, Writer, refuse, server_name, shard_name, write_bad,
     write_refusal,
 };
-use sm_open_journal::{GivenAt, Opened, write_permit};
+use sm_open_journal::{GivenAt, GivenPermit, Opened, write_permit};
 use sm_placement::Config;
 use sm_server::ServerId;
 use sm_task_controller::Denied;
@@ -41,6 +41,23 @@ fn write_denied(
     }
 }
 
+/// Writes a permit that was given before, and what came of it, unless it was given to another server.
+fn write_given_permit(
+    opened: &Opened,
+    alloc: Global,
+    writer: &mut Writer,
+    given: &GivenPermit,
+    server: &str,
+) -> Result<(), AllocError>
+    ensures { OnOk result (TellsGiven opened.now.driver server.now given.now writer.old.tokens writer.new.tokens) }
+{
+    if given.server.as_str() != server {
+        let other = Field::Name("server", given.server.as_str());
+        return refuse(writer, alloc, "OtherServer", &[other]);
+    }
+    opened.write_given(writer, server, given.permit)
+}
+
 /// Writes what came of a permit that was given under a name before: it is told again, or has ended since.
 fn write_given(
     opened: &Opened,
@@ -48,20 +65,13 @@ fn write_given(
     writer: &mut Writer,
     given: GivenAt,
     server: &str,
-) -> Result<(), AllocError> {
-    let Some(given) = opened.permits.get(given) else {
-        return Ok(());
-    };
-    if given.server.as_str() != server {
-        let other = Field::Name("server", given.server.as_str());
-        return refuse(writer, alloc, "OtherServer", &[other]);
+) -> Result<(), AllocError>
+    ensures { OnOk result (TellsGivenAt opened.now given server.now writer.old.tokens writer.new.tokens) }
+{
+    match opened.permits.get(given) {
+        Some(given) => write_given_permit(opened, alloc, writer, given, server),
+        None => Ok(()),
     }
-    let word = if opened.has_permit(server, given.permit) {
-        "approved"
-    } else {
-        "ended"
-    };
-    write_permit(writer, word, server, given.permit)
 }
 
 /// Approves the restart of a server, and notes the permit under a name, or writes why it is denied. Tells whether it is approved.
@@ -111,6 +121,9 @@ pub fn approve(
     ensures in_force { IfOk result (λ approved. approved ≡ true → at.is_reopening ≡ false) }
     ensures told { IfOk result (λ approved. approved ≡ true
         → TellsApproved opened.old.driver opened.new.driver writer.old.tokens writer.new.tokens) }
+    // Whoever asks again under the same name is told the same permit.
+    ensures again { IfSome (value_of opened.old.approvals by.now)
+        (λ given. OnOk result (TellsGivenAt opened.old given server.now writer.old.tokens writer.new.tokens)) }
 {
     if let Some(given) = opened.approvals.get(by) {
         write_given(opened, alloc, writer, given, server)?;

@@ -1,10 +1,10 @@
 //! The begin of a plan.
-ghost use Rattle.std.specs.Prelude.{◌≡◌, ◌++◌, ℕ, IfOk, IfSome, None, OnOk, length, false, string_bytes, true};
+ghost use Rattle.std.specs.Prelude.{◌≡◌, ◌++◌, ℕ, IfOk, IfSome, None, OnOk, length, false, string_bytes, true, not};
 ghost use Rattle.sm_placement.specs.Setup.{sizes_of};
 ghost use Rattle.sm_names.specs.Names.{value_of};
 ghost use Rattle.sm_plan_code.specs.Plan.{IsKnownPlan};
 ghost use Rattle.sm_verifier.specs.Plan.{IsCheckedPlan};
-ghost use Rattle.sm_open_journal.specs.Begun.{begun_members, begun_plan};
+ghost use Rattle.sm_open_journal.specs.Begun.{begun_members, begun_plan, begun_again_members};
 ghost use Rattle.json_tree.specs.View.{view};
 ghost use Rattle.sm_driver.specs.Driver.{HasBegunPlan};
 ghost use Rattle.sm_session.specs.Asked.{BeginsPlanOf};
@@ -116,6 +116,9 @@ pub fn begin(
     ensures in_force { IfOk result (λ begun. begun ≡ true → at.is_reopening ≡ false) }
     ensures told { IfOk result (λ begun. begun ≡ true
         → TellsBegun opened.old.driver opened.new.driver (string_bytes opened.new.journal) writer.old.tokens writer.new.tokens) }
+    // Whoever begins again under the same name is told the same plan.
+    ensures again { IfSome (value_of opened.old.plans name.now) (λ plan. OnOk result (writer.new.tokens ≡ writer.old.tokens
+        ++ begun_again_members (string_bytes opened.old.journal) opened.old.driver plan (not at.is_reopening))) }
 {
     if let Some(plan) = opened.plans.get(name) {
         opened.write_begun_again(writer, plan, !at.is_reopening)?;

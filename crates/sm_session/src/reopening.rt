@@ -3,16 +3,15 @@ ghost use Rattle.std.specs.Prelude.{◌≡◌, ◌<◌, ◌⊎◌, IfOk, IfSome,
 ghost use Rattle.std.specs.Option.{ForSome};
 ghost use Rattle.sm_reopening.specs.Ongoing.{net_reopening};
 ghost use Rattle.sm_session.specs.Changes.{BeginsReopening, ComesInForce, HasGoneOn, HasReopened, OpensOf, driver_of, reopening_under_way};
-ghost use Rattle.sm_session.specs.Replies.{TellsOpened};
+ghost use Rattle.sm_session.specs.Replies.{TellsFences, TellsOpened};
 
 use crate::answering::write_ignored;
 use crate::opening::read_document;
 use crate::standing::Standing;
-use crate::telling::write_no_list;
 use json_tree::Tree;
 use sm_commands::{ToldText, Writer, refuse};
 use sm_document_reopening::{DocumentReopening, ReopenFault};
-use sm_open_journal::Opened;
+use sm_open_journal::{Opened, write_no_list};
 use sm_plan_text::Document;
 use sm_reopening::SettledEffect;
 use sm_reopening_lines::{
@@ -37,15 +36,17 @@ struct NextEpoch {
 }
 
 impl UnderWay {
-    /// Writes, as members, the fences and the settles that are not answered.
+    /// Writes, as members, the fences and the settles that are not answered: there are no orders and no notices.
     pub fn write_orders(&self, alloc: Global, writer: &mut Writer) -> Result<(), AllocError> {
         let journal = self.journal.as_str();
+        write_no_list(writer, "orders")?;
         if self.reopening.is_confirmed() {
             write_no_list(writer, "fence")?;
         } else {
             write_fences(writer, alloc, &self.reopening, journal)?;
         }
-        write_settles(writer, alloc, &self.reopening, journal)
+        write_settles(writer, alloc, &self.reopening, journal)?;
+        write_no_list(writer, "notice")
     }
 
     /// Writes, as a member, how far the reopening is.
@@ -82,7 +83,8 @@ fn next_epoch(
     journal: Option<u64>,
     epoch: Option<u32>,
 ) -> Result<Option<NextEpoch>, AllocError>
-    ensures { IfOk result (λ found. IfSome found (λ next. ForSome last (λ l. l.epoch < next.epoch))) }
+    ensures later { IfOk result (λ found. IfSome found (λ next. ForSome last (λ l. l.epoch < next.epoch))) }
+    ensures quiet { IfOk result (λ found. IfSome found (λ next. writer.new.tokens ≡ writer.old.tokens)) }
 {
     match (last, journal, epoch) {
         (None, Some(journal), Some(epoch)) => return Ok(Some(NextEpoch { journal, epoch })),
@@ -165,6 +167,7 @@ fn begin_under(
     requires recorded { under_way.old ≡ None → IfSome opened.now (λ o. o.driver.epoch < next.epoch) }
     ensures begun { IfOk result (λ begun. begun ≡ true → HasReopened opened.now under_way.old under_way.new) }
     ensures unchanged { IfOk result (λ begun. begun ≡ false → under_way.new ≡ under_way.old) }
+    ensures told { IfOk result (λ begun. begun ≡ true → TellsFences under_way.new writer.old.tokens writer.new.tokens) }
 {
     match begun_under(opened, under_way, alloc, document, lost, next) {
         Ok(reopening) => {
@@ -193,6 +196,7 @@ pub(crate) fn reopen(
 ) -> Result<bool, AllocError>
     ensures begun { IfOk result (λ begun. begun ≡ true → HasReopened opened.now under_way.old under_way.new) }
     ensures unchanged { IfOk result (λ begun. begun ≡ false → under_way.new ≡ under_way.old) }
+    ensures told { IfOk result (λ begun. begun ≡ true → TellsFences under_way.new writer.old.tokens writer.new.tokens) }
 {
     let last = last_epoch(opened, under_way);
     let Some(next) = next_epoch(last, alloc, writer, journal, epoch)? else {

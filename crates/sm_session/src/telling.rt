@@ -1,4 +1,7 @@
 //! Lines that ask, and change nothing.
+ghost use Rattle.std.specs.Prelude.{◌≡◌, ◌++◌, None, OnOk};
+ghost use Rattle.sm_commands.specs.declared.line.LineCommand.TheVariants as line;
+ghost use Rattle.sm_session.specs.Questions.{orders_reply, present_notices, present_orders};
 
 use crate::answering::write_ignored;
 use crate::planning::{write_check, write_drain, write_moves};
@@ -8,21 +11,14 @@ use sm_commands::{
     write_number, write_text,
 };
 use sm_open_journal::{
-    Opened, write_audit, write_audited, write_failed, write_map, write_notices, write_plan_of,
-    write_recorded, write_shard_of, write_since,
+    Opened, write_audit, write_audited, write_failed, write_map, write_no_list, write_notices,
+    write_plan_of, write_recorded, write_shard_of, write_since,
 };
 use sm_reservation::StreamId;
 use std::alloc::{AllocError, Global};
 
 /// The number of the form of lines and replies, which rises if lines that were right no longer are.
 const FORMAT: u64 = 2;
-
-/// Writes a member that is a list of nothing.
-pub fn write_no_list(writer: &mut Writer, name: &str) -> Result<(), AllocError> {
-    writer.key(name)?;
-    writer.begin_array()?;
-    writer.end_array()
-}
 
 impl Session {
     /// Writes the reply to a command that asks.
@@ -31,7 +27,10 @@ impl Session {
         alloc: Global,
         command: LineCommand<'_, '_>,
         writer: &mut Writer,
-    ) -> Result<(), AllocError> {
+    ) -> Result<(), AllocError>
+        ensures orders { command ≡ line.Orders → self.now.under_way ≡ None
+            → OnOk result (writer.new.tokens ≡ writer.old.tokens ++ orders_reply self.now.opened) }
+    {
         match command {
             LineCommand::Orders => return self.write_orders(alloc, writer),
             LineCommand::Hello => return self.write_hello(writer),
@@ -137,23 +136,49 @@ impl Session {
         writer.end_object()
     }
 
-    /// Writes all present orders, what a reopening waits for, and the servers that are to be told that they were carried over.
-    fn write_orders(&self, alloc: Global, writer: &mut Writer) -> Result<(), AllocError> {
-        if let Some(current) = &self.under_way {
-            write_no_list(writer, "orders")?;
-            current.write_orders(alloc, writer)?;
-            return write_no_list(writer, "notice");
-        }
-        match &self.opened {
-            Some(opened) => opened.messages().write_all(alloc, writer)?,
-            None => write_no_list(writer, "orders")?,
-        }
+    /// Writes all present orders, and the servers that are to be told that they were carried over, as long as no reopening is under way.
+    fn write_orders_in_force(&self, alloc: Global, writer: &mut Writer) -> Result<(), AllocError>
+        ensures { OnOk result (writer.new.tokens ≡ writer.old.tokens ++ orders_reply self.now.opened) }
+    {
+        write_present_orders(&self.opened, alloc, writer)?;
         write_no_list(writer, "fence")?;
         write_no_list(writer, "settle")?;
-        match &self.opened {
-            Some(opened) => write_notices(opened, writer),
-            None => write_no_list(writer, "notice"),
+        write_present_notices(&self.opened, writer)?;
+        Ok(())
+    }
+
+    /// Writes all present orders, what a reopening waits for, and the servers that are to be told that they were carried over.
+    fn write_orders(&self, alloc: Global, writer: &mut Writer) -> Result<(), AllocError>
+        ensures { self.now.under_way ≡ None → OnOk result (writer.new.tokens ≡ writer.old.tokens ++ orders_reply self.now.opened) }
+    {
+        match &self.under_way {
+            Some(current) => current.write_orders(alloc, writer),
+            None => self.write_orders_in_force(alloc, writer),
         }
+    }
+}
+
+/// Writes, as a member, the orders and publications of the journal that is open: none if none is.
+fn write_present_orders(
+    opened: &Option<Opened>,
+    alloc: Global,
+    writer: &mut Writer,
+) -> Result<(), AllocError>
+    ensures { OnOk result (writer.new.tokens ≡ writer.old.tokens ++ present_orders opened.now) }
+{
+    match opened {
+        Some(opened) => opened.messages().write_all(alloc, writer),
+        None => write_no_list(writer, "orders"),
+    }
+}
+
+/// Writes, as a member, the servers that are to be told that they were carried over: none if no journal is open.
+fn write_present_notices(opened: &Option<Opened>, writer: &mut Writer) -> Result<(), AllocError>
+    ensures { OnOk result (writer.new.tokens ≡ writer.old.tokens ++ present_notices opened.now) }
+{
+    match opened {
+        Some(opened) => write_notices(opened, writer),
+        None => write_no_list(writer, "notice"),
     }
 }
 
