@@ -1,5 +1,5 @@
 -- The driver that comes of a reopening.
-use Rattle.std.proofs.Common.{◌≡◌, ◌∙◌, ◌<◌, ◌&&◌, ℕ, Bool, true, false, List, Option, Some, None, is_some, not, length, map, get_or, slice_get, sym, ap, subst, refl, arith, inl, inr, [], true≢false}
+use Rattle.std.proofs.Common.{◌≡◌, ◌∙◌, ◌<◌, ◌&&◌, ℕ, Bool, true, false, List, Option, Some, None, is_some, not, length, map, get_or, replicate, slice_get, sym, ap, subst, refl, arith, inl, inr, [], true≢false}
 use Rattle.std.specs.List.{range_with_len}
 use Rattle.std.specs.Option.{option_or, unwrap_or}
 use Rattle.std.proofs.lemmas.Bool.{cases_lt}
@@ -9,13 +9,15 @@ use Rattle.std.proofs.lemmas.Option.{get_or_from_slice_get, none-some, slice_get
 use Rattle.sm_placement.proofs.ConfigLemmas.{length_map}
 use Rattle.sm_placement.proofs.NamedLemmas.{server_named_at}
 use Rattle.sm_placement.specs.Layout.{PlacementModel, place_of}
-use Rattle.sm_placement.specs.Setup.{IsSetup, ServerRow, Setup, names_of_servers, names_of_shards, no_server, server_named}
+use Rattle.sm_placement.specs.Setup.{IsSetup, Setup, names_of_servers, no_server, server_named}
+use Rattle.sm_protocol.specs.State.{opened}
 use Rattle.sm_network.specs.Reopening.{Server, Settlement}
 use Rattle.sm_reopening.specs.Ongoing.{net_reopening}
 use Rattle.sm_driver.specs.Carried.{was_carried}
 use Rattle.sm_driver.specs.Driver.{DriverModel, base}
 use Rattle.sm_driver.specs.Orders.{epoch_base}
 use Rattle.sm_driver.specs.Permits.{AreEarlierPermits, opening_permit, permit_of}
+use Rattle.sm_document_reopening.specs.Eased.{IsEased}
 use Rattle.sm_document_reopening.specs.InForce.{IsInForce, IsOpenedOver}
 use Rattle.sm_document_reopening.specs.Reopening.{IsNextOpening, IsReopening, ReopeningModel}
 use Rattle.sm_document_reopening.proofs.Numbers.{server_name_at}
@@ -74,11 +76,11 @@ in_force r s p d kept marks is next settled keeps mark opens =
     let n : IsNextOpening r.document r.shards r.servers s p = is.next p s next settled in
     let down = λ (v j : ℕ) (server : slice_get r.servers v ≡ Some j). ap (λ w. w.place.down v) opens.state ∙ n.same.down v j server in
     record {
+      state = opens.state ∙ ap (λ w. opened w.sizes w.place r.document.log) (sym opens.state);
       journal = opens.journal_kept;
       epoch = opens.epoch_opened;
       fence = opens.fence ∙ ap epoch_base opens.epoch_opened ∙ sym is.base;
-      servers = ap names_of_servers opens.setup ∙ n.same.server_names;
-      shards = ap names_of_shards opens.setup ∙ n.same.shard_names;
+      setup = subst (IsEased r.document.config) (sym opens.setup) n.same.eased;
       cells = λ k v i j shard server. ap (λ w. w.place.cells k v) opens.state ∙ n.same.cells k v i j shard server;
       down = down;
       permits = λ v j permit server held is_down.
@@ -90,12 +92,14 @@ in_force r s p d kept marks is next settled keeps mark opens =
           ∙ read_range (λ u. was_carried marks u && (place_of p).down u) (length p.setup.servers) v false (within v j server)
           ∙ ap (λ b. b && (place_of p).down v) (ap (λ ms. was_carried ms v) mark ∙ read_mapped (λ u. not (is_some ((net_reopening r.ongoing).told (Server u)))) r.servers v j false server)
           ∙ ap (λ b. not (is_some ((net_reopening r.ongoing).told (Server j))) && b) (n.same.down v j server);
+      restores = opens.restored ∙ ap (λ n. replicate n None) as_many;
     }
   where
+    as_many : length p.setup.servers ≡ length r.document.config.servers
+    as_many = ap length (is.next p s next settled).same.eased.servers
+
     within : (v j : ℕ) → slice_get r.servers v ≡ Some j → v < length p.setup.servers
-    within v j server =
-        let same = ap length (is.next p s next settled).same.server_names in
-        omega (arith, server_place r v j is server, same, length_map (λ (x : ServerRow). x.name) p.setup.servers, length_map (λ (x : ServerRow). x.name) r.document.config.servers)
+    within v j server = omega (arith, server_place r v j is server, as_many)
 
     given : (v : ℕ) {permit : ℕ} → (place_of p).down v ≡ true → permit_of kept v ≡ Some permit → opening_permit (base d) kept (place_of p).down v ≡ Some permit
     given v {permit} is_down has = rw is_down (first_given (permit_of kept v) permit _ has)

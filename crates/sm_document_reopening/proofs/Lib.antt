@@ -1,5 +1,6 @@
 pub mod Numbers
-pub mod Floors
+pub mod Eased
+mod Floors
 pub mod Naming
 pub mod Lists
 pub mod Frames

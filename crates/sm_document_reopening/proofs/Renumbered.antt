@@ -6,6 +6,7 @@ use Rattle.sm_placement.proofs.ConfigLemmas.{length_map}
 use Rattle.sm_placement.specs.Setup.{ServerRow, ShardRow, names_of_servers, names_of_shards}
 use Rattle.sm_placement.specs.Layout.{PlacementModel, place_of}
 use Rattle.sm_document_reopening.specs.declared.roles.Roles.{Roles}
+use Rattle.sm_document_reopening.specs.Eased.{IsEased}
 use Rattle.sm_document_reopening.specs.Reopening.{IsRenumbered, IsReopening, ReopeningModel}
 use Rattle.sm_document_reopening.specs.Roles.{cell_by_role, is_down_in}
 use Rattle.sm_document_reopening.specs.RoleGrids.{role_at}
@@ -30,13 +31,14 @@ server_number_within r v j is e = found (slice_get (names_of_servers r.document.
 pub renumbered : (r : ReopeningModel) (roles : Roles) (down marks others : List Bool) (p next : PlacementModel) (room : ℕ) → IsReopening r → marks ≡ down → others ≡ down →
     ((s v : ℕ) → (place_of p).cells s v ≡ cell_by_role (role_at roles s v)) →
     ((v : ℕ) → v < length r.numbering.servers → (place_of p).down v ≡ is_down_in marks v) →
-    names_of_servers next.setup ≡ names_of_servers r.document.config → names_of_shards next.setup ≡ names_of_shards r.document.config →
+    names_of_servers next.setup ≡ names_of_servers r.document.config → names_of_shards next.setup ≡ names_of_shards r.document.config → IsEased r.document.config next.setup →
     ((k v : ℕ) → k < length r.document.config.shards → v < length r.document.config.servers → (place_of next).cells k v ≡ cell_by_role (role_at roles (get_or r.shards k 4294967295) (get_or r.servers v 4294967295))) →
     ((v : ℕ) → v < length r.document.config.servers → (place_of next).down v ≡ is_down_in (map (is_down_in others) r.servers) v) →
     IsRenumbered r.document.config r.shards r.servers (record { setup = p.setup; place = place_of p; room = room }) next
-renumbered r roles down marks others p next room is same also cells downs servers shards next_cells next_downs = record {
+renumbered r roles down marks others p next room is same also cells downs servers shards eased next_cells next_downs = record {
   server_names = servers;
   shard_names = shards;
+  eased = eased;
   cells = λ k v i j shard server.
       next_cells k v (shard_place r k i is shard) (server_place r v j is server)
       ∙ ap (λ n. cell_by_role (role_at roles n (get_or r.servers v 4294967295))) (get_or_from_slice_get r.shards k i 4294967295 shard)

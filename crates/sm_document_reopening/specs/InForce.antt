@@ -1,7 +1,7 @@
 -- The outcome of a reopening once its settlement is in force.
 -- `IsOpenedOver` is internal: you need not read it for the public contracts.
-use Rattle.std.specs.Prelude.{◌≡◌, ◌&&◌, ℕ, Bool, List, Option, Some, is_some, length, not, slice_get, true}
-use Rattle.sm_placement.specs.Setup.{names_of_servers, names_of_shards, sizes_of}
+use Rattle.std.specs.Prelude.{◌≡◌, ◌&&◌, ℕ, Bool, List, Option, None, Some, is_some, length, not, replicate, slice_get, true}
+use Rattle.sm_placement.specs.Setup.{sizes_of}
 use Rattle.sm_placement.specs.Layout.{PlacementModel, place_of}
 use Rattle.sm_protocol.specs.State.{opened}
 use Rattle.sm_network.specs.Reopening.{Server, Settlement}
@@ -9,20 +9,23 @@ use Rattle.sm_reopening.specs.Ongoing.{net_reopening}
 use Rattle.sm_driver.specs.Carried.{carried_down, was_carried}
 use Rattle.sm_driver.specs.Driver.{DriverModel, base, record_of}
 use Rattle.sm_driver.specs.Permits.{opening_permits, permit_of}
+use Rattle.sm_document_reopening.specs.Eased.{IsEased}
 use Rattle.sm_document_reopening.specs.Reopening.{ReopeningModel}
 
--- The driver has the document's servers and shards, in its order, with the cells that were settled for their numbers. Permits of servers that
--- are down stay, and those are carried over that are down and have told nothing.
+-- The driver was opened now, with the document's servers, shards and log, in its order, and with the cells that were settled for their numbers:
+-- nothing has begun, and no server was restored. No floor is above the document's. Permits of servers that are down stay, and those are carried
+-- over that are down and have told nothing.
 pub record IsInForce (r : ReopeningModel) (s : Settlement) (d : DriverModel) : Type 0 where
+  pub state : record_of d ≡ opened (record_of d).sizes (record_of d).place r.document.log
   pub journal : d.journal ≡ r.journal
   pub epoch : d.epoch ≡ r.epoch
   pub fence : d.fence ≡ (net_reopening r.ongoing).base
-  pub servers : names_of_servers d.machine.placement.setup ≡ names_of_servers r.document.config
-  pub shards : names_of_shards d.machine.placement.setup ≡ names_of_shards r.document.config
+  pub setup : IsEased r.document.config d.machine.placement.setup
   pub cells : (k v i j : ℕ) → slice_get r.shards k ≡ Some i → slice_get r.servers v ≡ Some j → (record_of d).place.cells k v ≡ s.place.cells i j
   pub down : (v j : ℕ) → slice_get r.servers v ≡ Some j → (record_of d).place.down v ≡ s.place.down j
   pub permits : (v j permit : ℕ) → slice_get r.servers v ≡ Some j → permit_of r.permits j ≡ Some permit → s.place.down j ≡ true → permit_of d.permits v ≡ Some permit
   pub carried : (v j : ℕ) → slice_get r.servers v ≡ Some j → was_carried d.carried v ≡ (not (is_some ((net_reopening r.ongoing).told (Server j))) && s.place.down j)
+  pub restores : d.restores ≡ replicate (length r.document.config.servers) None
 
 -- the driver was opened over a placement, with permits and carried servers of before
 pub record IsOpenedOver (p : PlacementModel) (log journal epoch : ℕ) (permits : List (Option ℕ)) (marks : List Bool) (d : DriverModel) : Type 0 where
@@ -33,3 +36,4 @@ pub record IsOpenedOver (p : PlacementModel) (log journal epoch : ℕ) (permits 
   pub fence : d.fence ≡ base d
   pub given : d.permits ≡ opening_permits (base d) permits (length p.setup.servers) (place_of p).down
   pub carried : d.carried ≡ carried_down marks (length p.setup.servers) (place_of p).down
+  pub restored : d.restores ≡ replicate (length p.setup.servers) None

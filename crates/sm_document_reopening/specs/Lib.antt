@@ -7,3 +7,4 @@ pub mod Reopening
 pub mod Begun
 pub mod Members
 pub mod InForce
+pub mod Eased

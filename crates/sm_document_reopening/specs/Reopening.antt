@@ -14,6 +14,7 @@ use Rattle.sm_driver.specs.Orders.{epoch_base}
 use Rattle.sm_driver.specs.Permits.{AreEarlierPermits}
 use Rattle.sm_document_reopening.specs.declared.roles.Roles.{Roles}
 use Rattle.sm_document_reopening.specs.declared.stray.Stray.{Stray}
+use Rattle.sm_document_reopening.specs.Eased.{IsEased}
 use Rattle.sm_document_reopening.specs.Numbers.{AreNumbered}
 
 -- A reopening of numbered servers and shards, and what it is under.
@@ -37,6 +38,7 @@ pub record ReopeningModel : Type 0 where
 pub record IsRenumbered (document : Setup) (shards servers : List ℕ) (s : Settlement) (p : PlacementModel) : Type 0 where
   pub server_names : names_of_servers p.setup ≡ names_of_servers document
   pub shard_names : names_of_shards p.setup ≡ names_of_shards document
+  pub eased : IsEased document p.setup
   pub cells : (k v i j : ℕ) → slice_get shards k ≡ Some i → slice_get servers v ≡ Some j → (place_of p).cells k v ≡ s.place.cells i j
   pub down : (v j : ℕ) → slice_get servers v ≡ Some j → (place_of p).down v ≡ s.place.down j
 

@@ -6,6 +6,7 @@ ghost use Rattle.sm_placement.specs.Setup.{names_of_servers, names_of_shards, si
 ghost use Rattle.sm_network.specs.Reopening.{Confirm, Settlement, entered};
 ghost use Rattle.sm_reopening.specs.Faults.{MayConfirm};
 ghost use Rattle.sm_reopening.specs.Ongoing.{net_reopening};
+ghost use Rattle.sm_document_reopening.specs.Eased.{IsEased};
 ghost use Rattle.sm_document_reopening.specs.Reopening.{IsRenumbered, IsUnder};
 ghost use Rattle.sm_document_reopening.specs.RoleGrids.{role_at};
 ghost use Rattle.sm_document_reopening.specs.Roles.{cell_by_role, is_down_in};
@@ -119,6 +120,7 @@ impl DocumentReopening {
         ensures settled { IfOk result (λ p. IsSettled (sizes_of p.setup) (place_of p)) }
         ensures servers { IfOk result (λ p. names_of_servers p.setup ≡ names_of_servers self.now.document.config) }
         ensures shards { IfOk result (λ p. names_of_shards p.setup ≡ names_of_shards self.now.document.config) }
+        ensures eased { IfOk result (λ p. IsEased self.now.document.config p.setup) }
         ensures cells { IfOk result (λ p. (k v : ℕ) → k < length self.now.document.config.shards → v < length self.now.document.config.servers
             → (place_of p).cells k v ≡ cell_by_role (role_at roles.now (slice_index_or self.now.shards k u32.MAX) (slice_index_or self.now.servers v u32.MAX))) }
         ensures down { IfOk result (λ p. (v : ℕ) → v < length self.now.document.config.servers → (place_of p).down v ≡ is_down_in (map (is_down_in down.now) self.now.servers) v) }

@@ -6,6 +6,7 @@ ghost use Rattle.sm_placement.specs.Setup.{is_good_shard, names_of_servers, name
 ghost use Rattle.sm_placement.specs.Layout.{place_of};
 ghost use Rattle.sm_placement.specs.Lead.{IsSettled};
 ghost use Rattle.sm_placement.specs.Opening.{cell_named};
+ghost use Rattle.sm_document_reopening.specs.Eased.{AreEasedBelow, IsEased, IsEasedShard};
 ghost use Rattle.sm_document_reopening.specs.Roles.{NamesRoles, cell_by_role, is_down_in};
 ghost use Rattle.sm_document_reopening.specs.RoleGrids.{role_at};
 
@@ -116,12 +117,14 @@ fn servers_down(alloc: Global, down: &[bool], servers: u32) -> Result<Vec<Server
 }
 
 /// Returns a shard whose floor is not above its live replicas.
+#[tactic(auto, using(crate::proofs::Eased::eased_shard))]
 fn floored(shard: &Shard, live: u32) -> Result<Shard, AllocError>
     requires load { shard.now.load ≤ MOST_LOAD }
     requires want { shard.now.want ≤ MOST_REPLICAS }
     requires cap { shard.now.cap ≤ shard.now.want }
     requires spread { shard.now.spread ≤ MOST_REPLICAS }
     ensures name { IfOk result (λ row. (shard_row row).name ≡ (shard_row shard.now).name) }
+    ensures eased { IfOk result (λ row. IsEasedShard (shard_row shard.now) (shard_row row)) }
     ensures good { IfOk result (λ row. is_good_shard (shard_row row) ≡ true) }
 {
     let away = shard.want.saturating_sub(live);
@@ -135,7 +138,7 @@ fn floored(shard: &Shard, live: u32) -> Result<Shard, AllocError>
 }
 
 /// Returns the shards of a configuration with no floor above their live replicas.
-#[tactic(auto, using(crate::proofs::Numbers::shard_names_next, crate::proofs::Floors::good_more))]
+#[tactic(auto, using(crate::proofs::Numbers::shard_names_next, crate::proofs::Floors::good_more, crate::proofs::Eased::eased_next))]
 fn floored_shards(
     alloc: Global,
     config: &Config,
@@ -144,6 +147,7 @@ fn floored_shards(
 ) -> Result<Vec<Shard>, AllocError>
     ensures names { IfOk result (λ rows. shard_names rows.items ≡ names_of_shards config.now) }
     ensures good { IfOk result (λ rows. list_all is_good_shard (map shard_row rows.items) ≡ true) }
+    ensures eased { IfOk result (λ rows. AreEasedBelow (length config.now.shards) config.now.shards (map shard_row rows.items)) }
 {
     let mut rows = Vec::new(alloc);
     for number in 0..config.shard_count() {
@@ -154,7 +158,7 @@ fn floored_shards(
 }
 
 /// Returns a configuration whose shards have no floor above their live replicas.
-#[tactic(auto, using(crate::proofs::Floors::floored_fine))]
+#[tactic(auto, using(crate::proofs::Floors::floored_fine, crate::proofs::Eased::eased_config))]
 fn floored_config(
     alloc: Global,
     config: &Config,
@@ -163,6 +167,7 @@ fn floored_config(
 ) -> Result<Config, AllocError>
     ensures servers { IfOk result (λ floored. names_of_servers floored ≡ names_of_servers config.now) }
     ensures shards { IfOk result (λ floored. names_of_shards floored ≡ names_of_shards config.now) }
+    ensures eased { IfOk result (λ floored. IsEased config.now floored) }
 {
     let shards = floored_shards(alloc, config, roles, down)?;
     config.server_count();
@@ -184,6 +189,7 @@ pub(crate) fn settled_placement(
     ensures settled { IfOk result (λ p. IsSettled (sizes_of p.setup) (place_of p)) }
     ensures servers { IfOk result (λ p. names_of_servers p.setup ≡ names_of_servers config.now) }
     ensures shards { IfOk result (λ p. names_of_shards p.setup ≡ names_of_shards config.now) }
+    ensures eased { IfOk result (λ p. IsEased config.now p.setup) }
     ensures cells { IfOk result (λ p. (s v : ℕ) → (place_of p).cells s v ≡ cell_by_role (role_at roles.now s v)) }
     ensures down { IfOk result (λ p. (v : ℕ) → v < length config.now.servers → (place_of p).down v ≡ is_down_in down.now v) }
 {

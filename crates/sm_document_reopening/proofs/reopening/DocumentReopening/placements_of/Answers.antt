@@ -9,4 +9,4 @@ returns-clause-same c room =
     renumbered c.args.self.now c.args.roles.now c.in_ok-down.down.items c.deref.result.now c.deref-2.result.now c.in_ok-settlement.settlement c.in_ok-next.next room
     (subst IsReopening c.self.view_is c.self.invariant) c.deref.ensures.value c.deref-2.ensures.value c.in_ok-settlement.ensures.cells
     (λ v h. c.in_ok-settlement.ensures.down v (subst (λ (r : ReopeningModel). v < length r.numbering.servers) (sym c.self.view_is) h))
-    c.in_ok-next.ensures.servers c.in_ok-next.ensures.shards c.in_ok-next.ensures.cells c.in_ok-next.ensures.down
+    c.in_ok-next.ensures.servers c.in_ok-next.ensures.shards c.in_ok-next.ensures.eased c.in_ok-next.ensures.cells c.in_ok-next.ensures.down
