@@ -30,18 +30,18 @@ abbrev pub begun_member : BegunPlan → List Token
 begun_member p = object_member (codes "begun") (size_of_plan p)
 
 -- a plan that has begun, the messages of all its streams, and whether it has ended
-abbrev pub begun_members : List ℕ → DriverModel → BegunPlan → List Token
-begun_members journal d p = begun_member p ++ plan_members journal d p.number []
+abbrev pub begun_members : DriverModel → BegunPlan → List Token
+begun_members d p = begun_member p ++ plan_members d p.number []
 
 -- no orders have come up, and no plan has ended
 abbrev pub nothing_new : List Token
 nothing_new = list_member (codes "orders") [] ++ list_member (codes "ended") []
 
 -- the messages that a plan's streams stand before now, if it is one of the present epoch, and that goes on
-abbrev pub plan_members_again : List ℕ → DriverModel → BegunPlan → Bool → List Token
-plan_members_again journal d p goes_on = if goes_on && (p.epoch == d.epoch) then plan_members journal d p.number [] else nothing_new
+abbrev pub plan_members_again : DriverModel → BegunPlan → Bool → List Token
+plan_members_again d p goes_on = if goes_on && (p.epoch == d.epoch) then plan_members d p.number [] else nothing_new
 
 -- a plan that had begun before, with these
-abbrev pub begun_again_members : List ℕ → DriverModel → BegunPlan → Bool → List Token
-begun_again_members journal d p goes_on =
-    begun_member p ++ key (codes "again") ∷ boolean true ∷ plan_members_again journal d p goes_on
+abbrev pub begun_again_members : DriverModel → BegunPlan → Bool → List Token
+begun_again_members d p goes_on =
+    begun_member p ++ key (codes "again") ∷ boolean true ∷ plan_members_again d p goes_on

@@ -1,4 +1,5 @@
 pub mod Begun
+pub mod Bits
 pub mod Calls
 pub mod Cells
 pub mod Given

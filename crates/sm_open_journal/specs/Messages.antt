@@ -15,7 +15,8 @@ use Rattle.sm_network.specs.Net.{Order}
 use Rattle.sm_network.specs.World.{Publication}
 use Rattle.sm_driver.specs.Driver.{DriverModel, base, order_number, record_of}
 use Rattle.sm_driver.specs.Orders.{NetMessage, OfOrder, OfPublication, message_of}
-use Rattle.sm_commands.specs.Members.{list_member, name_member, number_member, object, server_text, text_member}
+use Rattle.sm_commands.specs.Members.{list_member, name_member, number_member, object, server_text}
+use Rattle.sm_open_journal.specs.Bits.{bits_member}
 use Rattle.sm_open_journal.specs.Calls.{asked_members, published_members, size_members}
 
 -- an order as it leaves a driver: the network's letter
@@ -33,9 +34,9 @@ abbrev pub notice_by : DriverModel → Publication → Notice
 notice_by d p = record { publication = p; journal = d.journal; fence = d.fence }
 
 -- of which stream a message is, under this journal, epoch and fence, and its number
-abbrev pub head_members : List ℕ → ℕ → ℕ → StreamId → ℕ → List Token
+abbrev pub head_members : ℕ → ℕ → ℕ → StreamId → ℕ → List Token
 head_members journal epoch fence id number =
-    text_member (codes "journal") journal
+    bits_member (codes "journal") journal
     ++ number_member (codes "epoch") epoch
     ++ number_member (codes "fence") fence
     ++ number_member (codes "plan") id.plan
@@ -65,31 +66,31 @@ holder_members setup row =
     name_member (codes "primary") (option_map (server_text setup) (owner_under (lead_of (length setup.servers) row)))
     ++ replicas_member setup row
 
--- an order of a driver, whose journal is this one in hexadecimal digits
-abbrev pub letter_text : List ℕ → DriverModel → Letter → List Token
-letter_text journal d l = object (
-    head_members journal d.epoch l.fence l.order.stream l.order.number
+-- an order of a driver
+abbrev pub letter_text : DriverModel → Letter → List Token
+letter_text d l = object (
+    head_members l.journal d.epoch l.fence l.order.stream l.order.number
     ++ asked_members d.machine.placement.setup l.order.call
     ++ size_members l.load l.room
     ++ holder_members d.machine.placement.setup ((record_of d).place.cells l.order.call.shard)
     )
 
 -- a publication under a number
-abbrev pub notice_text : List ℕ → DriverModel → Notice → ℕ → List Token
-notice_text journal d n number = object (
-    head_members journal d.epoch n.fence n.publication.stream number
+abbrev pub notice_text : DriverModel → Notice → ℕ → List Token
+notice_text d n number = object (
+    head_members n.journal d.epoch n.fence n.publication.stream number
     ++ published_members d.machine.placement.setup n.publication.shard n.publication.entry
     )
 
 -- an order or a publication of a stream
-abbrev pub message_text : List ℕ → DriverModel → StreamId → NetMessage → List Token
-message_text journal d id (OfOrder o) = letter_text journal d (letter_by d o)
-message_text journal d id (OfPublication p) = notice_text journal d (notice_by d p) (order_number d id)
+abbrev pub message_text : DriverModel → StreamId → NetMessage → List Token
+message_text d id (OfOrder o) = letter_text d (letter_by d o)
+message_text d id (OfPublication p) = notice_text d (notice_by d p) (order_number d id)
 
 -- the order or the publication that a stream stands before, if it stands before one
-abbrev pub stream_message : List ℕ → DriverModel → StreamId → List Token
-stream_message journal d id = option_map_or (message_text journal d id) (message_of (base d) (record_of d) id) []
+abbrev pub stream_message : DriverModel → StreamId → List Token
+stream_message d id = option_map_or (message_text d id) (message_of (base d) (record_of d) id) []
 
 -- those of streams, as a member
-abbrev pub orders_member : List ℕ → DriverModel → List StreamId → List Token
-orders_member journal d ids = list_member (codes "orders") (flat_map (stream_message journal d) ids)
+abbrev pub orders_member : DriverModel → List StreamId → List Token
+orders_member d ids = list_member (codes "orders") (flat_map (stream_message d) ids)

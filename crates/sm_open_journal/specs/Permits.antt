@@ -8,6 +8,7 @@ use Rattle.sm_network.specs.Controller.{is_permitted}
 use Rattle.sm_driver.specs.Driver.{DriverModel}
 use Rattle.sm_driver.specs.Permits.{permit_of}
 use Rattle.sm_commands.specs.Members.{list_member, number_member, object, object_member, server_text, text_member}
+use Rattle.sm_open_journal.specs.Bits.{bits_member}
 
 -- a permit of a server
 abbrev pub permit_members : List ℕ → ℕ → List Token
@@ -40,9 +41,9 @@ abbrev pub permits_member : DriverModel → List Token
 permits_member d = list_member (codes "permits") (flat_map (permit_text d) (range_with_len 0 (length d.machine.placement.setup.servers)))
 
 -- the journal is open in an epoch, with these permits
-abbrev pub opened_members : List ℕ → DriverModel → List Token
-opened_members journal d = text_member (codes "journal") journal ++ number_member (codes "epoch") d.epoch ++ permits_member d
+abbrev pub opened_members : DriverModel → List Token
+opened_members d = bits_member (codes "journal") d.journal ++ number_member (codes "epoch") d.epoch ++ permits_member d
 
 -- the same as a member
-abbrev pub opened_member : List ℕ → DriverModel → List Token
-opened_member journal d = object_member (codes "opened") (opened_members journal d)
+abbrev pub opened_member : DriverModel → List Token
+opened_member d = object_member (codes "opened") (opened_members d)

@@ -36,8 +36,8 @@ abbrev pub ended_member : State → ℕ → List Token
 ended_member w k = list_member (codes "ended") (ended_text w k)
 
 -- what is told of a plan by which those of its streams have gone on that do not stand as they stood
-abbrev pub plan_members : List ℕ → DriverModel → ℕ → List ℕ → List Token
-plan_members journal d k sinces = orders_member journal d (gone_on (record_of d) k sinces) ++ ended_member (record_of d) k
+abbrev pub plan_members : DriverModel → ℕ → List ℕ → List Token
+plan_members d k sinces = orders_member d (gone_on (record_of d) k sinces) ++ ended_member (record_of d) k
 
 -- how many of its instructions a stream has made, none if it has not begun
 abbrev pub position_of : State → StreamId → ℕ
@@ -53,13 +53,13 @@ abbrev pub moved_member : State → StreamId → List Token
 moved_member w id = object_member (codes "moved") (step_members w id)
 
 -- the stream that has made its step; the messages of those streams of its plan that do not stand as they stood; whether the plan has ended
-abbrev pub taken_members : List ℕ → DriverModel → StreamId → List ℕ → List Token
-taken_members journal d id sinces = moved_member (record_of d) id ++ plan_members journal d id.plan sinces
+abbrev pub taken_members : DriverModel → StreamId → List ℕ → List Token
+taken_members d id sinces = moved_member (record_of d) id ++ plan_members d id.plan sinces
 
 -- the message of a stream, if it does not stand where it stood since then
-abbrev pub message_if_new : List ℕ → DriverModel → StreamId → Option ℕ → List Token
-message_if_new journal d id since = if stands_else (record_of d) id since then stream_message journal d id else []
+abbrev pub message_if_new : DriverModel → StreamId → Option ℕ → List Token
+message_if_new d id since = if stands_else (record_of d) id since then stream_message d id else []
 
 -- the same of the stream of a plan at a number
-abbrev pub new_message : List ℕ → DriverModel → ℕ → List ℕ → ℕ → List Token
-new_message journal d k sinces i = message_if_new journal d (stream_id k i) (slice_get sinces i)
+abbrev pub new_message : DriverModel → ℕ → List ℕ → ℕ → List Token
+new_message d k sinces i = message_if_new d (stream_id k i) (slice_get sinces i)

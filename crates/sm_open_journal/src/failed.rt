@@ -1,7 +1,7 @@
 //! Advice about a present order that its server did not take.
 
+use crate::bits::write_bits;
 use crate::opened::Opened;
-use crate::restored::write_bits;
 use sm_commands::{FailedAnswer, Writer, write_text};
 use sm_driver::StreamMessage;
 use sm_reservation::StreamId;

@@ -8,6 +8,7 @@ ghost use Rattle.sm_driver.specs.Orders.{net_message, net_order, net_publication
 ghost use Rattle.sm_open_journal.specs.Calls.{asked_members, published_members, size_members};
 ghost use Rattle.sm_open_journal.specs.Messages.{head_members, letter_by, letter_text, stream_message, message_text, notice_by, notice_text};
 
+use crate::bits::write_bits;
 use crate::calls::{call_word, write_call};
 use crate::holders::{write_holders, write_listed};
 use crate::messages::Messages;
@@ -99,11 +100,11 @@ impl Messages<'_> {
         stream: StreamId,
         number: u64,
     ) -> Result<(), AllocError>
-        ensures { OnOk result (writer.new.tokens ≡ writer.old.tokens ++ head_members self.now.journal.now self.now.driver.now.epoch self.now.driver.now.fence stream number) }
+        ensures { OnOk result (writer.new.tokens ≡ writer.old.tokens ++ head_members self.now.driver.now.journal self.now.driver.now.epoch self.now.driver.now.fence stream number) }
     {
         let epoch = self.driver.epoch();
         let fence = self.driver.fence();
-        write_text(writer, "journal", self.journal)?;
+        write_bits(writer, self.alloc, "journal", self.driver.journal())?;
         write_number(writer, "epoch", u64::from(epoch))?;
         write_number(writer, "fence", fence)?;
         write_number(writer, "plan", u64::from(stream.plan))?;
@@ -114,7 +115,7 @@ impl Messages<'_> {
 
     /// Writes an order.
     fn write_order(&self, writer: &mut Writer, order: &StreamOrder) -> Result<(), AllocError>
-        ensures { OnOk result (writer.new.tokens ≡ writer.old.tokens ++ letter_text self.now.journal.now self.now.driver.now (letter_by self.now.driver.now (net_order order.now))) }
+        ensures { OnOk result (writer.new.tokens ≡ writer.old.tokens ++ letter_text self.now.driver.now (letter_by self.now.driver.now (net_order order.now))) }
     {
         let config = self.config();
         writer.begin_object()?;
@@ -133,7 +134,7 @@ impl Messages<'_> {
         publication: &StreamPublication,
         number: u64,
     ) -> Result<(), AllocError>
-        ensures { OnOk result (writer.new.tokens ≡ writer.old.tokens ++ notice_text self.now.journal.now self.now.driver.now (notice_by self.now.driver.now (net_publication publication.now)) number) }
+        ensures { OnOk result (writer.new.tokens ≡ writer.old.tokens ++ notice_text self.now.driver.now (notice_by self.now.driver.now (net_publication publication.now)) number) }
     {
         writer.begin_object()?;
         self.write_head(writer, publication.stream, number)?;
@@ -159,7 +160,7 @@ impl Messages<'_> {
         message: &StreamMessage,
     ) -> Result<(), AllocError>
         requires { is_begun (record_of self.now.driver.now) stream ≡ true }
-        ensures { OnOk result (writer.new.tokens ≡ writer.old.tokens ++ message_text self.now.journal.now self.now.driver.now stream (net_message message.now)) }
+        ensures { OnOk result (writer.new.tokens ≡ writer.old.tokens ++ message_text self.now.driver.now stream (net_message message.now)) }
     {
         match message {
             StreamMessage::Order(order) => self.write_order(writer, order),
@@ -171,7 +172,7 @@ impl Messages<'_> {
 
     /// Writes the order or the publication that a stream stands before, if it stands before one.
     pub fn write_of(&self, writer: &mut Writer, stream: StreamId) -> Result<(), AllocError>
-        ensures { OnOk result (writer.new.tokens ≡ writer.old.tokens ++ stream_message self.now.journal.now self.now.driver.now stream) }
+        ensures { OnOk result (writer.new.tokens ≡ writer.old.tokens ++ stream_message self.now.driver.now stream) }
     {
         if !self.driver.machine().is_begun(stream) {
             return Ok(());

@@ -3,6 +3,7 @@
 
 mod audit;
 mod begun_plan;
+mod bits;
 mod calls;
 mod cells;
 mod copying;
@@ -25,6 +26,7 @@ mod streams;
 
 pub use audit::{write_audit, write_audited};
 pub use begun_plan::BegunPlan;
+pub use bits::{hexadecimal, write_bits};
 pub use copying::copy_text;
 pub use failed::write_failed;
 pub use given_permits::{GivenAt, GivenPermit, GivenPermits};

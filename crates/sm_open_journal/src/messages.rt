@@ -18,8 +18,7 @@ use std::alloc::{AllocError, Global};
 #[derive(Clone, Copy)]
 pub struct Messages<'d> {
     pub driver: &'d Driver,
-    /// The journal, in hexadecimal digits.
-    pub journal: &'d str,
+    pub alloc: Global,
 }
 
 /// Returns how many streams a plan has that has begun: none if it has not.
@@ -53,11 +52,11 @@ pub fn stands_else(machine: &Machine, id: StreamId, since: Option<u32>) -> bool
 
 impl Messages<'_> {
     /// Returns since when the streams of a plan stand where they stand: none if the plan has not begun.
-    pub fn sinces(&self, alloc: Global, plan: u32) -> Result<Vec<u32>, AllocError>
+    pub fn sinces(&self, plan: u32) -> Result<Vec<u32>, AllocError>
         ensures { IfOk result (λ sinces. sinces.items ≡ sinces_of (record_of self.now.driver.now) plan) }
     {
         let machine = self.driver.machine();
-        let mut sinces = Vec::new(alloc);
+        let mut sinces = Vec::new(self.alloc);
         for stream in 0..stream_count(machine, plan) {
             sinces.push(machine.since(StreamId { plan, stream }))?;
         }
@@ -72,7 +71,7 @@ impl Messages<'_> {
         since: Option<u32>,
     ) -> Result<(), AllocError>
         requires { is_begun (record_of self.now.driver.now) id ≡ true }
-        ensures { OnOk result (writer.new.tokens ≡ writer.old.tokens ++ message_if_new self.now.journal.now self.now.driver.now id since) }
+        ensures { OnOk result (writer.new.tokens ≡ writer.old.tokens ++ message_if_new self.now.driver.now id since) }
     {
         if stands_else(self.driver.machine(), id, since) {
             self.write_of(writer, id)
@@ -88,7 +87,7 @@ impl Messages<'_> {
         plan: u32,
         sinces: &[u32],
     ) -> Result<(), AllocError>
-        ensures { OnOk result (writer.new.tokens ≡ writer.old.tokens ++ flat_map (new_message self.now.journal.now self.now.driver.now plan sinces.now) (range_with_len 0 (stream_count (record_of self.now.driver.now) plan))) }
+        ensures { OnOk result (writer.new.tokens ≡ writer.old.tokens ++ flat_map (new_message self.now.driver.now plan sinces.now) (range_with_len 0 (stream_count (record_of self.now.driver.now) plan))) }
     {
         for stream in 0..stream_count(self.driver.machine(), plan) {
             let since = since_at(sinces, stream);
@@ -99,7 +98,7 @@ impl Messages<'_> {
 
     /// Writes them, as a member.
     fn write_new(&self, writer: &mut Writer, plan: u32, sinces: &[u32]) -> Result<(), AllocError>
-        ensures { OnOk result (writer.new.tokens ≡ writer.old.tokens ++ orders_member self.now.journal.now self.now.driver.now (gone_on (record_of self.now.driver.now) plan sinces.now)) }
+        ensures { OnOk result (writer.new.tokens ≡ writer.old.tokens ++ orders_member self.now.driver.now (gone_on (record_of self.now.driver.now) plan sinces.now)) }
     {
         writer.key("orders")?;
         writer.begin_array()?;
@@ -110,7 +109,7 @@ impl Messages<'_> {
 
     /// Writes the messages of streams.
     fn write_each(&self, writer: &mut Writer, ids: &[StreamId]) -> Result<(), AllocError>
-        ensures { OnOk result (writer.new.tokens ≡ writer.old.tokens ++ flat_map (stream_message self.now.journal.now self.now.driver.now) ids.now) }
+        ensures { OnOk result (writer.new.tokens ≡ writer.old.tokens ++ flat_map (stream_message self.now.driver.now) ids.now) }
     {
         for id in ids {
             self.write_of(writer, *id)?;
@@ -119,10 +118,10 @@ impl Messages<'_> {
     }
 
     /// Writes, as a member, all messages, by plan, then by stream.
-    pub fn write_all(&self, alloc: Global, writer: &mut Writer) -> Result<(), AllocError>
-        ensures { OnOk result (writer.new.tokens ≡ writer.old.tokens ++ orders_member self.now.journal.now self.now.driver.now (awaiting_of (record_of self.now.driver.now))) }
+    pub fn write_all(&self, writer: &mut Writer) -> Result<(), AllocError>
+        ensures { OnOk result (writer.new.tokens ≡ writer.old.tokens ++ orders_member self.now.driver.now (awaiting_of (record_of self.now.driver.now))) }
     {
-        let mut waiting = Vec::new(alloc);
+        let mut waiting = Vec::new(self.alloc);
         self.driver.awaiting(&mut waiting)?;
         writer.key("orders")?;
         writer.begin_array()?;
@@ -159,7 +158,7 @@ impl Messages<'_> {
         plan: u32,
         sinces: &[u32],
     ) -> Result<(), AllocError>
-        ensures { OnOk result (writer.new.tokens ≡ writer.old.tokens ++ plan_members self.now.journal.now self.now.driver.now plan sinces.now) }
+        ensures { OnOk result (writer.new.tokens ≡ writer.old.tokens ++ plan_members self.now.driver.now plan sinces.now) }
     {
         self.write_new(writer, plan, sinces)?;
         self.write_ended(writer, plan)?;

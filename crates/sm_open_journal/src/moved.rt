@@ -51,7 +51,7 @@ impl Messages<'_> {
         id: StreamId,
         sinces: &[u32],
     ) -> Result<(), AllocError>
-        ensures { OnOk result (writer.new.tokens ≡ writer.old.tokens ++ taken_members self.now.journal.now self.now.driver.now id sinces.now) }
+        ensures { OnOk result (writer.new.tokens ≡ writer.old.tokens ++ taken_members self.now.driver.now id sinces.now) }
     {
         self.write_moved(writer, id)?;
         self.write_plan(writer, id.plan, sinces)?;

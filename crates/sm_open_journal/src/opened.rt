@@ -1,5 +1,5 @@
 //! A journal that is open.
-ghost use Rattle.std.specs.Prelude.{◌≡◌, ◌++◌, [], IfOk, OnOk, string_bytes};
+ghost use Rattle.std.specs.Prelude.{◌≡◌, ◌++◌, [], IfOk, OnOk};
 ghost use Rattle.sm_commands.specs.Members.{list_member};
 ghost use Rattle.sm_open_journal.specs.Replies.{plan_members, taken_members};
 ghost use Rattle.sm_open_journal.specs.Begun.{begun_again_members, begun_member, begun_members, begun_plan, nothing_new, plan_members_again, size_of_plan};
@@ -19,8 +19,6 @@ use std::alloc::{AllocError, Global};
 /// A journal that is open: its driver, and what was given names.
 pub struct Opened {
     pub driver: Driver,
-    /// The journal, in hexadecimal digits.
-    pub journal: String,
     /// The number of the log's places.
     pub log_room: u32,
     /// The plans that have begun, each under its name.
@@ -66,7 +64,6 @@ impl Opened {
     pub fn new(
         alloc: Global,
         driver: Driver,
-        journal: String,
         log_room: u32,
         place: u64,
     ) -> Result<Opened, AllocError>
@@ -78,7 +75,7 @@ impl Opened {
             permits: GivenPermits::new(alloc, driver.epoch()),
             told: Vec::new(alloc),
         };
-        Opened::with_kept(alloc, driver, journal, log_room, kept, place)
+        Opened::with_kept(alloc, driver, log_room, kept, place)
     }
 
     /// Returns a journal that is opened anew with a driver at a place. The names of the epoch before are still known.
@@ -86,14 +83,13 @@ impl Opened {
         alloc: Global,
         before: Option<Opened>,
         driver: Driver,
-        journal: String,
         log_room: u32,
         place: u64,
     ) -> Result<Opened, AllocError>
         ensures { IfOk result (λ opened. opened.driver ≡ driver) }
     {
         let Some(before) = before else {
-            return Opened::new(alloc, driver, journal, log_room, place);
+            return Opened::new(alloc, driver, log_room, place);
         };
         let Ok(mut kept) = before.into_kept(alloc) else {
             let _ = driver.give_up();
@@ -102,14 +98,13 @@ impl Opened {
         kept.plans.turn();
         kept.approvals.turn();
         kept.permits.turn(driver.epoch());
-        Opened::with_kept(alloc, driver, journal, log_room, kept, place)
+        Opened::with_kept(alloc, driver, log_room, kept, place)
     }
 
     /// Returns a journal that opens with a driver at a place, with what is kept of it.
     fn with_kept(
         alloc: Global,
         driver: Driver,
-        journal: String,
         log_room: u32,
         kept: Kept,
         place: u64,
@@ -129,7 +124,6 @@ impl Opened {
         } = kept;
         Ok(Opened {
             driver,
-            journal,
             log_room,
             plans,
             approvals,
@@ -144,7 +138,6 @@ impl Opened {
         let told_now = told_restores(&self, alloc);
         let Opened {
             driver,
-            journal: _journal,
             log_room: _,
             plans,
             approvals,
@@ -176,7 +169,6 @@ impl Opened {
     pub fn close(self) {
         let Opened {
             driver,
-            journal: _journal,
             log_room: _,
             plans: _plans,
             approvals: _approvals,
@@ -188,13 +180,12 @@ impl Opened {
     }
 
     /// Returns who writes the driver's messages.
-    pub fn messages(&self) -> Messages<'_>
-        ensures driver { result.driver.now ≡ self.now.driver }
-        ensures journal { result.journal.now ≡ string_bytes self.now.journal }
+    pub fn messages(&self, alloc: Global) -> Messages<'_>
+        ensures { result.driver.now ≡ self.now.driver }
     {
         Messages {
             driver: &self.driver,
-            journal: self.journal.as_str(),
+            alloc,
         }
     }
 
@@ -228,47 +219,59 @@ impl Opened {
     }
 
     /// Writes, as members of a reply, the orders that a plan has now, and whether it has ended.
-    fn write_plan_now(&self, writer: &mut Writer, number: u32) -> Result<(), AllocError>
-        ensures { OnOk result (writer.new.tokens ≡ writer.old.tokens ++ plan_members (string_bytes self.now.journal) self.now.driver number []) }
+    fn write_plan_now(
+        &self,
+        alloc: Global,
+        writer: &mut Writer,
+        number: u32,
+    ) -> Result<(), AllocError>
+        ensures { OnOk result (writer.new.tokens ≡ writer.old.tokens ++ plan_members self.now.driver number []) }
     {
-        self.messages().write_plan(writer, number, &[])?;
+        self.messages(alloc).write_plan(writer, number, &[])?;
         Ok(())
     }
 
     /// Writes, as members of a reply, that a stream has made its step, and what has come of that.
     pub fn write_taken(
         &self,
+        alloc: Global,
         writer: &mut Writer,
         id: StreamId,
         sinces: &[u32],
     ) -> Result<(), AllocError>
-        ensures { OnOk result (writer.new.tokens ≡ writer.old.tokens ++ taken_members (string_bytes self.now.journal) self.now.driver id sinces.now) }
+        ensures { OnOk result (writer.new.tokens ≡ writer.old.tokens ++ taken_members self.now.driver id sinces.now) }
     {
-        self.messages().write_taken(writer, id, sinces)?;
+        self.messages(alloc).write_taken(writer, id, sinces)?;
         Ok(())
     }
 
     /// Writes, as members of a reply, that a plan has begun, with its orders.
-    pub fn write_begun(&self, writer: &mut Writer, plan: BegunPlan) -> Result<(), AllocError>
-        ensures { OnOk result (writer.new.tokens ≡ writer.old.tokens ++ begun_members (string_bytes self.now.journal) self.now.driver plan) }
+    pub fn write_begun(
+        &self,
+        alloc: Global,
+        writer: &mut Writer,
+        plan: BegunPlan,
+    ) -> Result<(), AllocError>
+        ensures { OnOk result (writer.new.tokens ≡ writer.old.tokens ++ begun_members self.now.driver plan) }
     {
         write_begun_plan(writer, plan)?;
-        self.write_plan_now(writer, plan.number)?;
+        self.write_plan_now(alloc, writer, plan.number)?;
         Ok(())
     }
 
     /// Writes, as members of a reply, the orders that a plan has now, if it is one of the present epoch, and that goes on.
     fn write_plan_again(
         &self,
+        alloc: Global,
         writer: &mut Writer,
         plan: BegunPlan,
         goes_on: bool,
     ) -> Result<(), AllocError>
         ensures { OnOk result (writer.new.tokens ≡ writer.old.tokens
-            ++ plan_members_again (string_bytes self.now.journal) self.now.driver plan goes_on) }
+            ++ plan_members_again self.now.driver plan goes_on) }
     {
         if goes_on && plan.epoch == self.driver.epoch() {
-            self.write_plan_now(writer, plan.number)
+            self.write_plan_now(alloc, writer, plan.number)
         } else {
             write_nothing_new(writer)
         }
@@ -278,17 +281,18 @@ impl Opened {
     /// on, the reply has its orders as they are now.
     pub fn write_begun_again(
         &self,
+        alloc: Global,
         writer: &mut Writer,
         plan: BegunPlan,
         goes_on: bool,
     ) -> Result<(), AllocError>
         ensures { OnOk result (writer.new.tokens
-            ≡ writer.old.tokens ++ begun_again_members (string_bytes self.now.journal) self.now.driver plan goes_on) }
+            ≡ writer.old.tokens ++ begun_again_members self.now.driver plan goes_on) }
     {
         write_begun_plan(writer, plan)?;
         writer.key("again")?;
         writer.boolean(true)?;
-        self.write_plan_again(writer, plan, goes_on)?;
+        self.write_plan_again(alloc, writer, plan, goes_on)?;
         Ok(())
     }
 }

@@ -1,14 +1,15 @@
 //! Permits of restarts in replies.
-ghost use Rattle.std.specs.Prelude.{◌≡◌, ◌++◌, OnOk, length, string_bytes};
+ghost use Rattle.std.specs.Prelude.{◌≡◌, ◌++◌, OnOk, length};
 ghost use Rattle.std.specs.List.{flat_map, range_with_len};
 ghost use Rattle.sm_driver.specs.Permits.{permit_of};
 ghost use Rattle.sm_commands.specs.Members.{server_text};
 ghost use Rattle.sm_open_journal.specs.Permits.{given_member, is_down_under, opened_member, opened_members, permit_member, permit_members, permit_text, permits_member, word_of_permit};
 
+use crate::bits::write_bits;
 use crate::opened::Opened;
 use sm_commands::{Writer, server_name, write_number, write_text};
 use sm_server::ServerId;
-use std::alloc::AllocError;
+use std::alloc::{AllocError, Global};
 
 /// Writes the members of a server's permit.
 fn write_permit_members(writer: &mut Writer, server: &str, permit: u64) -> Result<(), AllocError>
@@ -122,22 +123,22 @@ impl Opened {
     }
 
     /// Writes the members of the reply that the journal is open.
-    fn write_opened_members(&self, writer: &mut Writer) -> Result<(), AllocError>
-        ensures { OnOk result (writer.new.tokens ≡ writer.old.tokens ++ opened_members (string_bytes self.now.journal) self.now.driver) }
+    fn write_opened_members(&self, alloc: Global, writer: &mut Writer) -> Result<(), AllocError>
+        ensures { OnOk result (writer.new.tokens ≡ writer.old.tokens ++ opened_members self.now.driver) }
     {
-        write_text(writer, "journal", self.journal.as_str())?;
+        write_bits(writer, alloc, "journal", self.driver.journal())?;
         write_number(writer, "epoch", u64::from(self.driver.epoch()))?;
         self.write_permits(writer)?;
         Ok(())
     }
 
     /// Writes, as a member of a reply, that the journal is open.
-    pub fn write_opened(&self, writer: &mut Writer) -> Result<(), AllocError>
-        ensures { OnOk result (writer.new.tokens ≡ writer.old.tokens ++ opened_member (string_bytes self.now.journal) self.now.driver) }
+    pub fn write_opened(&self, alloc: Global, writer: &mut Writer) -> Result<(), AllocError>
+        ensures { OnOk result (writer.new.tokens ≡ writer.old.tokens ++ opened_member self.now.driver) }
     {
         writer.key("opened")?;
         writer.begin_object()?;
-        self.write_opened_members(writer)?;
+        self.write_opened_members(alloc, writer)?;
         writer.end_object()?;
         Ok(())
     }

@@ -1,9 +1,10 @@
 //! Restores in replies.
-ghost use Rattle.std.specs.Prelude.{◌≡◌, ◌<◌, ◌++◌, OnOk, string_bytes, true};
+ghost use Rattle.std.specs.Prelude.{◌≡◌, ◌<◌, ◌++◌, OnOk, true};
 ghost use Rattle.sm_driver.specs.Driver.{record_of};
 ghost use Rattle.sm_driver.specs.Restores.{was_told};
-ghost use Rattle.sm_open_journal.specs.Restores.{TellsKept, bits_member, restore_members, restore_object};
+ghost use Rattle.sm_open_journal.specs.Restores.{TellsKept, restore_members, restore_object};
 
+use crate::bits::write_bits;
 use crate::cells::write_slots;
 use crate::copying::copy_text;
 use crate::opened::Opened;
@@ -11,19 +12,6 @@ use sm_commands::{Writer, server_name, write_number, write_text};
 use sm_driver::ServerRestore;
 use sm_server::ServerId;
 use std::alloc::{AllocError, Global};
-
-/// Writes, as a member, 64 bits in hexadecimal digits.
-pub fn write_bits(
-    writer: &mut Writer,
-    alloc: Global,
-    name: &str,
-    bits: u64,
-) -> Result<(), AllocError>
-    ensures { OnOk result (writer.new.tokens ≡ writer.old.tokens ++ bits_member name.now bits) }
-{
-    let text = format!(in alloc; "{bits:x}")?;
-    write_text(writer, name, text.as_str())
-}
 
 /// Writes the members of the restore of a server that has lost all it had.
 fn write_restore_members(
@@ -34,11 +22,11 @@ fn write_restore_members(
     restore: &ServerRestore,
 ) -> Result<(), AllocError>
     ensures { OnOk result (writer.new.tokens
-        ≡ writer.old.tokens ++ restore_members (string_bytes opened.now.journal) opened.now.driver server restore.now) }
+        ≡ writer.old.tokens ++ restore_members opened.now.driver server restore.now) }
 {
     write_text(writer, "server", opened.name_of(server))?;
     write_bits(writer, alloc, "nonce", restore.nonce())?;
-    write_text(writer, "journal", opened.journal.as_str())?;
+    write_bits(writer, alloc, "journal", opened.driver.journal())?;
     write_number(writer, "fence", opened.driver.fence())?;
     write_number(writer, "base", restore.number())?;
     write_slots(writer, opened.driver.machine().config(), restore.cells())?;
@@ -54,7 +42,7 @@ fn write_restore(
     restore: &ServerRestore,
 ) -> Result<(), AllocError>
     ensures { OnOk result (writer.new.tokens
-        ≡ writer.old.tokens ++ restore_object (string_bytes opened.now.journal) opened.now.driver server restore.now) }
+        ≡ writer.old.tokens ++ restore_object opened.now.driver server restore.now) }
 {
     writer.begin_object()?;
     write_restore_members(opened, alloc, writer, server, restore)?;
@@ -153,7 +141,7 @@ impl Opened {
         nonce: u64,
     ) -> Result<(), AllocError>
         requires { server < (record_of self.now.driver).sizes.servers }
-        ensures { OnOk result (TellsKept (string_bytes self.now.journal) self.now.driver server writer.old.tokens writer.new.tokens) }
+        ensures { OnOk result (TellsKept self.now.driver server writer.old.tokens writer.new.tokens) }
     {
         writer.key("restore")?;
         match self.driver.restored(server) {

@@ -6,11 +6,12 @@ use sm_commands::{Writer, write_number};
 use sm_plan_code::MOST_STREAMS;
 use sm_reservation::StreamId;
 use sm_server::ShardId;
-use std::alloc::AllocError;
+use std::alloc::{AllocError, Global};
 
 /// Writes the messages of a plan that came up after a place.
 fn write_orders_of(
     opened: &Opened,
+    alloc: Global,
     writer: &mut Writer,
     plan: u32,
     place: u64,
@@ -21,7 +22,7 @@ fn write_orders_of(
             stream: stream as u32,
         };
         if opened.history.ordered(id) > place {
-            opened.messages().write_of(writer, id)?;
+            opened.messages(alloc).write_of(writer, id)?;
         }
     }
     Ok(())
@@ -31,6 +32,7 @@ fn write_orders_of(
 fn write_orders_since(
     opened: &Opened,
     is_reopening: bool,
+    alloc: Global,
     writer: &mut Writer,
     place: u64,
 ) -> Result<(), AllocError> {
@@ -38,7 +40,7 @@ fn write_orders_since(
     writer.begin_array()?;
     if !is_reopening {
         for plan in opened.driver.machine().unfinished() {
-            write_orders_of(opened, writer, *plan, place)?;
+            write_orders_of(opened, alloc, writer, *plan, place)?;
         }
     }
     writer.end_array()
@@ -78,6 +80,7 @@ fn write_ended_since(opened: &Opened, writer: &mut Writer, place: u64) -> Result
 pub fn write_since(
     opened: &Opened,
     is_reopening: bool,
+    alloc: Global,
     writer: &mut Writer,
     now: u64,
     place: u64,
@@ -85,7 +88,7 @@ pub fn write_since(
     writer.key("since")?;
     writer.begin_object()?;
     write_number(writer, "place", now)?;
-    write_orders_since(opened, is_reopening, writer, place)?;
+    write_orders_since(opened, is_reopening, alloc, writer, place)?;
     write_published_since(opened, writer, place)?;
     write_ended_since(opened, writer, place)?;
     writer.end_object()

@@ -1,5 +1,5 @@
 -- Replies tell what lines have done.
-use Rattle.std.proofs.Common.{◌≡◌, ◌∙◌, ◌++◌, ◌∷◌, [], Bool, true, false, ℕ, List, Option, Some, None, Result, Ok, Err, IfOk, ap, refl, string_bytes, subst, sym}
+use Rattle.std.proofs.Common.{◌≡◌, ◌∙◌, ◌++◌, ◌∷◌, [], Bool, true, false, ℕ, List, Option, Some, None, Result, Ok, Err, IfOk, ap, refl, subst, sym}
 use Rattle.json.specs.Token.{Token}
 use Rattle.json.specs.Print.{print}
 use Rattle.sm_commands.specs.declared.command.Id.{Id}
@@ -41,7 +41,7 @@ told_behind (Err x) id old new before mid after e told = tt
 -- what a command tells of the driver, as long as no reopening is under way
 pub told_driven : {E : Type 0} (r : Result Bool E) (opened new : Option Opened) (under after_it : Option UnderWay) (o p : Opened) (is_reopening : Bool) (before after : List Token) →
     opened ≡ Some o → new ≡ Some p → after_it ≡ under → (is_reopening ≡ false → under ≡ None) →
-    IfOk r (λ changed. changed ≡ true → TellsChange o.driver p.driver (string_bytes p.journal) before after) → IfOk r (λ changed. changed ≡ true → is_reopening ≡ false) →
+    IfOk r (λ changed. changed ≡ true → TellsChange o.driver p.driver before after) → IfOk r (λ changed. changed ≡ true → is_reopening ≡ false) →
     IfOk r (λ changed. changed ≡ true → TellsChanges opened under new after_it before after)
 told_driven (Ok x) opened new under after_it o p is_reopening before after was is_now stays none told in_force =
     λ is. rw (was, is_now, stays) (Drives (none (in_force is)) (none (in_force is)) (told is))

@@ -1,6 +1,6 @@
 -- Replies to questions.
 -- `present_orders`, `present_notices` and `orders_reply` are internal: you need not read them for the public contracts.
-use Rattle.std.specs.Prelude.{List, [], ◌++◌, Option, Some, None, codes, string_bytes}
+use Rattle.std.specs.Prelude.{List, [], ◌++◌, Option, Some, None, codes}
 use Rattle.json.specs.Token.{Token}
 use Rattle.sm_driver.specs.Driver.{record_of}
 use Rattle.sm_driver.specs.Orders.{awaiting_of}
@@ -11,12 +11,12 @@ use Rattle.sm_open_journal.specs.Notices.{carried_member}
 
 -- the orders and publications of the journal that is open: those that its streams stand before
 abbrev pub present_orders : Option Opened → List Token
-present_orders (Some o) = orders_member (string_bytes o.journal) o.driver (awaiting_of (record_of o.driver))
+present_orders (Some o) = orders_member o.driver (awaiting_of (record_of o.driver))
 present_orders None = list_member (codes "orders") []
 
 -- the notices to the servers that were carried over at its opening
 abbrev pub present_notices : Option Opened → List Token
-present_notices (Some o) = carried_member (string_bytes o.journal) o.driver
+present_notices (Some o) = carried_member o.driver
 present_notices None = list_member (codes "notice") []
 
 -- the reply to `orders` as long as no reopening is under way: these, and that no party is to be fenced or settled

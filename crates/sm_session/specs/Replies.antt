@@ -14,6 +14,7 @@ use Rattle.sm_open_journal.specs.declared.given_permits.GivenAt.{GivenAt}
 use Rattle.sm_open_journal.specs.declared.given_permits.GivenPermit.{GivenPermit}
 use Rattle.sm_open_journal.specs.declared.opened.Opened.{Opened}
 use Rattle.sm_open_journal.specs.Begun.{begun_members, begun_plan}
+use Rattle.sm_open_journal.specs.Bits.{hexadecimal}
 use Rattle.sm_open_journal.specs.Given.{given_at}
 use Rattle.sm_open_journal.specs.Permits.{given_member, opened_member, permit_member}
 use Rattle.sm_open_journal.specs.Replies.{sinces_of, taken_members}
@@ -26,15 +27,15 @@ use Rattle.sm_session.specs.declared.session.LineEffect.TheVariants.{Changed}
 use Rattle.sm_session.specs.declared.session.Session.{Session}
 
 -- a plan has begun, and behind what was written is told that it has, with the messages of its streams
-abbrev pub TellsBegun : DriverModel → DriverModel → List ℕ → List Token → List Token → Type 0
-TellsBegun old new journal before after =
-    (plan : PlanModel) × (number : ℕ) × HasBegunPlan plan number old new × (after ≡ before ++ begun_members journal new (begun_plan new number))
+abbrev pub TellsBegun : DriverModel → DriverModel → List Token → List Token → Type 0
+TellsBegun old new before after =
+    (plan : PlanModel) × (number : ℕ) × HasBegunPlan plan number old new × (after ≡ before ++ begun_members new (begun_plan new number))
 
 -- a stream has made the step whose answer it waited for, and it is told where it stands, with the messages that came up in its plan
-abbrev pub TellsMoved : DriverModel → DriverModel → List ℕ → List Token → List Token → Type 0
-TellsMoved old new journal before after =
+abbrev pub TellsMoved : DriverModel → DriverModel → List Token → List Token → Type 0
+TellsMoved old new before after =
     (id : StreamId) × (number : ℕ) × (is_due old id number ≡ true) × HasTakenStep id old new
-    × (after ≡ before ++ taken_members journal new id (sinces_of (record_of old) id.plan))
+    × (after ≡ before ++ taken_members new id (sinces_of (record_of old) id.plan))
 
 -- why an answer that is not due tells nothing new: its stream has gone on, or a reopening is under way; otherwise it is not known
 abbrev pub ignored_answer : Bool → DriverModel → StreamId → ℕ → List ℕ
@@ -62,37 +63,37 @@ TellsUp old new before after =
     × (after ≡ before ++ text_member (codes "up") (server_text new.machine.placement.setup server))
 
 -- a server was restored, and is told what the driver keeps for it
-abbrev pub TellsRestored : DriverModel → DriverModel → List ℕ → List Token → List Token → Type 0
-TellsRestored old new journal before after =
-    (server : ℕ) × (nonce : ℕ) × HasRestored server nonce old new × TellsKept journal new server before after
+abbrev pub TellsRestored : DriverModel → DriverModel → List Token → List Token → Type 0
+TellsRestored old new before after =
+    (server : ℕ) × (nonce : ℕ) × HasRestored server nonce old new × TellsKept new server before after
 
 -- the next epoch has opened, and that is told
-abbrev pub TellsNext : DriverModel → DriverModel → List ℕ → List Token → List Token → Type 0
-TellsNext old new journal before after = OpensNext old new × (after ≡ before ++ opened_member journal new)
+abbrev pub TellsNext : DriverModel → DriverModel → List Token → List Token → Type 0
+TellsNext old new before after = OpensNext old new × (after ≡ before ++ opened_member new)
 
 -- A command changes the driver of an open journal, and its reply tells the change.
-pub data TellsChange (old new : DriverModel) (journal : List ℕ) (before after : List Token) : Type 0 where
-  Begun : TellsBegun old new journal before after → TellsChange old new journal before after
-  Moved : TellsMoved old new journal before after → TellsChange old new journal before after
-  Approved : TellsApproved old new before after → TellsChange old new journal before after
-  Up : TellsUp old new before after → TellsChange old new journal before after
-  Restored : TellsRestored old new journal before after → TellsChange old new journal before after
-  Next : TellsNext old new journal before after → TellsChange old new journal before after
+pub data TellsChange (old new : DriverModel) (before after : List Token) : Type 0 where
+  Begun : TellsBegun old new before after → TellsChange old new before after
+  Moved : TellsMoved old new before after → TellsChange old new before after
+  Approved : TellsApproved old new before after → TellsChange old new before after
+  Up : TellsUp old new before after → TellsChange old new before after
+  Restored : TellsRestored old new before after → TellsChange old new before after
+  Next : TellsNext old new before after → TellsChange old new before after
 
 -- the reply tells the journal that is open
 abbrev pub TellsOpened : Option Opened → List Token → List Token → Type 0
-TellsOpened (Some o) before after = after ≡ before ++ opened_member (string_bytes o.journal) o.driver
+TellsOpened (Some o) before after = after ≡ before ++ opened_member o.driver
 TellsOpened None before after = ⊥
 
 -- the reply tells a command on an open journal, or its first opening
 abbrev pub TellsDriven : Option Opened → Option Opened → List Token → List Token → Type 0
 TellsDriven None new before after = TellsOpened new before after
-TellsDriven (Some old) (Some new) before after = TellsChange old.driver new.driver (string_bytes new.journal) before after
+TellsDriven (Some old) (Some new) before after = TellsChange old.driver new.driver before after
 TellsDriven (Some old) None before after = ⊥
 
 -- the reply tells the fences to the parties that have not answered: those of the reopening that has begun
 abbrev pub TellsFences : Option UnderWay → List Token → List Token → Type 0
-TellsFences (Some u) before after = after ≡ before ++ fences_member (string_bytes u.journal) u.reopening
+TellsFences (Some u) before after = after ≡ before ++ fences_member (hexadecimal u.reopening.journal) u.reopening
 TellsFences None before after = ⊥
 
 -- The reply to a line that changed something. Of an answer to a fence, of a confirmation and of any but the last settle no text is said.

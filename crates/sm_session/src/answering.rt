@@ -1,5 +1,5 @@
 //! Answers to orders and publications.
-ghost use Rattle.std.specs.Prelude.{◌≡◌, ◌++◌, IfOk, OnOk, codes, false, string_bytes, true};
+ghost use Rattle.std.specs.Prelude.{◌≡◌, ◌++◌, IfOk, OnOk, codes, false, true};
 ghost use Rattle.sm_commands.specs.Members.{text_member};
 ghost use Rattle.sm_open_journal.specs.Replies.{taken_members};
 ghost use Rattle.sm_session.specs.Asked.{TakesAnswerOf};
@@ -41,16 +41,17 @@ fn note(
 fn take_answer(
     opened: &mut Opened,
     place: u64,
+    alloc: Global,
     writer: &mut Writer,
     message: Option<StreamMessage>,
     id: StreamId,
     sinces: &[u32],
 ) -> Result<(), AllocError>
     ensures driver { opened.new.driver ≡ opened.old.driver }
-    ensures told { OnOk result (writer.new.tokens ≡ writer.old.tokens ++ taken_members (string_bytes opened.new.journal) opened.new.driver id sinces.now) }
+    ensures told { OnOk result (writer.new.tokens ≡ writer.old.tokens ++ taken_members opened.new.driver id sinces.now) }
 {
     note(opened, place, message, sinces)?;
-    opened.write_taken(writer, id, sinces)
+    opened.write_taken(alloc, writer, id, sinces)
 }
 
 /// Takes the answer to an order or a publication at a place, writes the reply, and tells whether the stream has made its step.
@@ -67,7 +68,7 @@ pub fn answered(
     ensures asked { IfOk result (λ moved. moved ≡ true → TakesAnswerOf id number opened.old.driver opened.new.driver) }
     ensures in_force { IfOk result (λ moved. moved ≡ true → at.is_reopening ≡ false) }
     ensures told { IfOk result (λ moved. moved ≡ true
-        → TellsMoved opened.old.driver opened.new.driver (string_bytes opened.new.journal) writer.old.tokens writer.new.tokens) }
+        → TellsMoved opened.old.driver opened.new.driver writer.old.tokens writer.new.tokens) }
     ensures ignored { IfOk result (λ moved. moved ≡ false → writer.new.tokens
         ≡ writer.old.tokens ++ text_member (codes "ignored") (ignored_answer at.is_reopening opened.old.driver id number)) }
 {
@@ -75,11 +76,19 @@ pub fn answered(
         write_ignored(writer, "old")?;
         return Ok(false);
     }
-    let sinces = opened.messages().sinces(alloc, id.plan)?;
+    let sinces = opened.messages(alloc).sinces(id.plan)?;
     let message = opened.driver.message(id);
     match opened.driver.answered(id, number) {
         AnswerEffect::Moved => {
-            take_answer(opened, at.place, writer, message, id, sinces.as_slice())?;
+            take_answer(
+                opened,
+                at.place,
+                alloc,
+                writer,
+                message,
+                id,
+                sinces.as_slice(),
+            )?;
             Ok(true)
         }
         AnswerEffect::Old => {
@@ -108,7 +117,7 @@ pub fn answered_again(
     if at.is_reopening {
         return Ok(false);
     }
-    let sinces = opened.messages().sinces(alloc, id.plan)?;
+    let sinces = opened.messages(alloc).sinces(id.plan)?;
     let message = opened.driver.message(id);
     match opened.driver.answered(id, number) {
         AnswerEffect::Moved => {}

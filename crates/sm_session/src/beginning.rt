@@ -1,5 +1,5 @@
 //! The begin of a plan.
-ghost use Rattle.std.specs.Prelude.{◌≡◌, ◌++◌, ℕ, IfOk, IfSome, None, OnOk, length, false, string_bytes, true, not};
+ghost use Rattle.std.specs.Prelude.{◌≡◌, ◌++◌, ℕ, IfOk, IfSome, None, OnOk, length, false, true, not};
 ghost use Rattle.sm_placement.specs.Setup.{sizes_of};
 ghost use Rattle.sm_names.specs.Names.{value_of};
 ghost use Rattle.sm_plan_code.specs.Plan.{IsKnownPlan};
@@ -54,6 +54,7 @@ fn ready(
 fn name_plan(
     opened: &mut Opened,
     place: u64,
+    alloc: Global,
     writer: &mut Writer,
     number: u32,
     name: &str,
@@ -61,12 +62,12 @@ fn name_plan(
     requires { value_of opened.old.plans name.now ≡ None }
     ensures driver { opened.new.driver ≡ opened.old.driver }
     ensures told { OnOk result (writer.new.tokens ≡ writer.old.tokens
-        ++ begun_members (string_bytes opened.new.journal) opened.new.driver (begun_plan opened.new.driver number)) }
+        ++ begun_members opened.new.driver (begun_plan opened.new.driver number)) }
 {
     let plan = opened.begun_plan(number);
     opened.plans.insert(name, plan)?;
     note_begun(&mut opened.history, &opened.driver, place, plan)?;
-    opened.write_begun(writer, plan)
+    opened.write_begun(alloc, writer, plan)
 }
 
 /// Begins a plan that is ready at a place, writes the reply, and tells whether it has begun.
@@ -85,11 +86,11 @@ fn start(
     ensures asked { IfOk result (λ begun. begun ≡ true → (number : ℕ) × HasBegunPlan ready.plan number opened.old.driver opened.new.driver) }
     ensures unchanged { IfOk result (λ begun. begun ≡ false → opened.new ≡ opened.old) }
     ensures told { IfOk result (λ begun. begun ≡ true
-        → TellsBegun opened.old.driver opened.new.driver (string_bytes opened.new.journal) writer.old.tokens writer.new.tokens) }
+        → TellsBegun opened.old.driver opened.new.driver writer.old.tokens writer.new.tokens) }
 {
     match opened.driver.begin(ready) {
         Ok(number) => {
-            name_plan(opened, place, writer, number, name)?;
+            name_plan(opened, place, alloc, writer, number, name)?;
             Ok(true)
         }
         Err((ready, fault)) => {
@@ -115,13 +116,13 @@ pub fn begin(
     ensures unchanged { IfOk result (λ begun. begun ≡ false → opened.new ≡ opened.old) }
     ensures in_force { IfOk result (λ begun. begun ≡ true → at.is_reopening ≡ false) }
     ensures told { IfOk result (λ begun. begun ≡ true
-        → TellsBegun opened.old.driver opened.new.driver (string_bytes opened.new.journal) writer.old.tokens writer.new.tokens) }
+        → TellsBegun opened.old.driver opened.new.driver writer.old.tokens writer.new.tokens) }
     // Whoever begins again under the same name is told the same plan.
     ensures again { IfSome (value_of opened.old.plans name.now) (λ plan. OnOk result (writer.new.tokens ≡ writer.old.tokens
-        ++ begun_again_members (string_bytes opened.old.journal) opened.old.driver plan (not at.is_reopening))) }
+        ++ begun_again_members opened.old.driver plan (not at.is_reopening))) }
 {
     if let Some(plan) = opened.plans.get(name) {
-        opened.write_begun_again(writer, plan, !at.is_reopening)?;
+        opened.write_begun_again(alloc, writer, plan, !at.is_reopening)?;
         return Ok(false);
     }
     if at.is_reopening {

@@ -1,5 +1,5 @@
 //! Commands that change a journal that is open.
-ghost use Rattle.std.specs.Prelude.{◌≡◌, IfOk, false, string_bytes, true};
+ghost use Rattle.std.specs.Prelude.{◌≡◌, IfOk, false, true};
 ghost use Rattle.sm_session.specs.Asked.{DoesToDriver};
 ghost use Rattle.sm_session.specs.Changes.{Changes};
 ghost use Rattle.sm_session.specs.Replies.{TellsChange};
@@ -29,7 +29,7 @@ pub fn change(
     ensures unchanged { IfOk result (λ changed. changed ≡ false → opened.new ≡ opened.old) }
     ensures in_force { IfOk result (λ changed. changed ≡ true → at.is_reopening ≡ false) }
     ensures told { IfOk result (λ changed. changed ≡ true
-        → TellsChange opened.old.driver opened.new.driver (string_bytes opened.new.journal) writer.old.tokens writer.new.tokens) }
+        → TellsChange opened.old.driver opened.new.driver writer.old.tokens writer.new.tokens) }
 {
     match command {
         LineCommand::Begin { plan, name } => begin(opened, at, alloc, writer, plan, name),

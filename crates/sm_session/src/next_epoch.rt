@@ -1,5 +1,5 @@
 //! The opening of the next epoch.
-ghost use Rattle.std.specs.Prelude.{◌≡◌, IfOk, false, string_bytes, true};
+ghost use Rattle.std.specs.Prelude.{◌≡◌, IfOk, false, true};
 ghost use Rattle.sm_session.specs.Changes.{OpensNext};
 ghost use Rattle.sm_session.specs.Replies.{TellsNext};
 
@@ -42,7 +42,7 @@ pub fn open_next(
     ensures unchanged { IfOk result (λ is_open. is_open ≡ false → opened.new ≡ opened.old) }
     ensures in_force { IfOk result (λ is_open. is_open ≡ true → at.is_reopening ≡ false) }
     ensures told { IfOk result (λ is_open. is_open ≡ true
-        → TellsNext opened.old.driver opened.new.driver (string_bytes opened.new.journal) writer.old.tokens writer.new.tokens) }
+        → TellsNext opened.old.driver opened.new.driver writer.old.tokens writer.new.tokens) }
 {
     if at.is_reopening {
         refuse(writer, alloc, "Reopening", &[])?;
@@ -51,7 +51,7 @@ pub fn open_next(
     match opened.driver.new_epoch(alloc) {
         Ok(()) => {
             opened.turn();
-            opened.write_opened(writer)?;
+            opened.write_opened(alloc, writer)?;
             Ok(true)
         }
         Err(fault) => {

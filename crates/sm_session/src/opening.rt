@@ -76,16 +76,8 @@ fn take(
     ensures driver { OnOk result (driver_of opened.new ≡ Some driver) }
     ensures told { OnOk result (TellsOpened opened.new writer.old.tokens writer.new.tokens) }
 {
-    let journal = driver.journal();
-    let text = match format!(in alloc; "{journal:x}") {
-        Ok(text) => text,
-        Err(_) => {
-            let _ = driver.give_up();
-            return Err(AllocError);
-        }
-    };
-    let taken = Opened::new(alloc, driver, text, log_room, place)?;
-    let written = taken.write_opened(writer);
+    let taken = Opened::new(alloc, driver, log_room, place)?;
+    let written = taken.write_opened(alloc, writer);
     match opened.replace(taken) {
         Some(before) => before.close(),
         None => {}

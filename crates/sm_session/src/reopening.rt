@@ -1,7 +1,8 @@
 //! Reopenings.
-ghost use Rattle.std.specs.Prelude.{◌≡◌, ◌<◌, ◌⊎◌, IfOk, IfSome, OnOk, Some, None, false, is_some, option_map, true};
+ghost use Rattle.std.specs.Prelude.{◌≡◌, ◌<◌, ◌⊎◌, IfOk, IfSome, OnOk, Some, None, false, is_some, option_map, string_bytes, true};
 ghost use Rattle.std.specs.Option.{ForSome};
 ghost use Rattle.sm_reopening.specs.Ongoing.{net_reopening};
+ghost use Rattle.sm_open_journal.specs.Bits.{hexadecimal};
 ghost use Rattle.sm_session.specs.Changes.{BeginsReopening, ComesInForce, HasGoneOn, HasReopened, OpensOf, driver_of, reopening_under_way};
 ghost use Rattle.sm_session.specs.Replies.{TellsFences, TellsOpened};
 
@@ -11,7 +12,7 @@ use crate::standing::Standing;
 use json_tree::Tree;
 use sm_commands::{ToldText, Writer, refuse};
 use sm_document_reopening::{DocumentReopening, ReopenFault};
-use sm_open_journal::{Opened, write_no_list};
+use sm_open_journal::{Opened, hexadecimal, write_no_list};
 use sm_plan_text::Document;
 use sm_reopening::SettledEffect;
 use sm_reopening_lines::{
@@ -24,8 +25,6 @@ use std::alloc::{AllocError, Global};
 #[derive(Drop)]
 pub(crate) struct UnderWay {
     pub reopening: DocumentReopening,
-    /// The journal, in hexadecimal digits.
-    pub journal: String,
 }
 
 /// The epoch that a reopening opens, and its journal.
@@ -36,16 +35,23 @@ struct NextEpoch {
 }
 
 impl UnderWay {
+    /// Returns the journal in hexadecimal digits.
+    fn journal(&self, alloc: Global) -> Result<String, AllocError>
+        ensures { IfOk result (λ text. string_bytes text ≡ hexadecimal self.now.reopening.journal) }
+    {
+        hexadecimal(alloc, self.reopening.journal())
+    }
+
     /// Writes, as members, the fences and the settles that are not answered: there are no orders and no notices.
     pub fn write_orders(&self, alloc: Global, writer: &mut Writer) -> Result<(), AllocError> {
-        let journal = self.journal.as_str();
+        let journal = self.journal(alloc)?;
         write_no_list(writer, "orders")?;
         if self.reopening.is_confirmed() {
             write_no_list(writer, "fence")?;
         } else {
-            write_fences(writer, alloc, &self.reopening, journal)?;
+            write_fences(writer, alloc, &self.reopening, journal.as_str())?;
         }
-        write_settles(writer, alloc, &self.reopening, journal)?;
+        write_settles(writer, alloc, &self.reopening, journal.as_str())?;
         write_no_list(writer, "notice")
     }
 
@@ -171,9 +177,10 @@ fn begin_under(
 {
     match begun_under(opened, under_way, alloc, document, lost, next) {
         Ok(reopening) => {
-            let journal = format!(in alloc; "{:x}", next.journal)?;
-            write_fences(writer, alloc, &reopening, journal.as_str())?;
-            *under_way = Some(UnderWay { reopening, journal });
+            let begun = UnderWay { reopening };
+            let journal = begun.journal(alloc)?;
+            write_fences(writer, alloc, &begun.reopening, journal.as_str())?;
+            *under_way = Some(begun);
             Ok(true)
         }
         Err((document, fault)) => {
@@ -251,8 +258,15 @@ pub(crate) fn confirm(
 {
     match under_way {
         Some(current) => {
-            let journal = current.journal.as_str();
-            take_confirm(&mut current.reopening, alloc, writer, journal, base, cells)
+            let journal = current.journal(alloc)?;
+            take_confirm(
+                &mut current.reopening,
+                alloc,
+                writer,
+                journal.as_str(),
+                base,
+                cells,
+            )
         }
         None => {
             write_ignored(writer, "old")?;
@@ -273,11 +287,11 @@ fn put_in_force(
     ensures in_force { OnOk result (OpensOf under_way.reopening opened.new) }
     ensures told { OnOk result (TellsOpened opened.new writer.old.tokens writer.new.tokens) }
 {
-    let UnderWay { reopening, journal } = under_way;
+    let UnderWay { reopening } = under_way;
     let log_room = reopening.log_room();
     let driver = reopening.put_in_force(alloc)?;
-    let next = Opened::reopened(alloc, opened.take(), driver, journal, log_room, place)?;
-    let written = next.write_opened(writer);
+    let next = Opened::reopened(alloc, opened.take(), driver, log_room, place)?;
+    let written = next.write_opened(alloc, writer);
     match opened.replace(next) {
         Some(before) => before.close(),
         None => {}

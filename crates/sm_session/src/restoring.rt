@@ -1,5 +1,5 @@
 //! Servers that have lost all they had.
-ghost use Rattle.std.specs.Prelude.{◌≡◌, IfOk, false, true, ℕ, OnOk, Some, string_bytes};
+ghost use Rattle.std.specs.Prelude.{◌≡◌, IfOk, false, true, ℕ, OnOk, Some};
 ghost use Rattle.sm_session.specs.Asked.{RestoresServerOf};
 ghost use Rattle.sm_placement.specs.Setup.{server_named};
 ghost use Rattle.sm_driver.specs.Restores.{was_told};
@@ -42,11 +42,11 @@ pub fn restore(
     ensures unchanged { IfOk result (λ restored. restored ≡ false → opened.new ≡ opened.old) }
     ensures in_force { IfOk result (λ restored. restored ≡ true → at.is_reopening ≡ false) }
     ensures told { IfOk result (λ restored. restored ≡ true
-        → TellsRestored opened.old.driver opened.new.driver (string_bytes opened.new.journal) writer.old.tokens writer.new.tokens) }
+        → TellsRestored opened.old.driver opened.new.driver writer.old.tokens writer.new.tokens) }
     // A server that asks again under the same nonce is told what it was told.
     ensures again { (server : ℕ) → server_named opened.old.driver.machine.placement.setup name.now ≡ Some server
         → was_told opened.old.driver.restores server nonce ≡ true
-        → OnOk result (TellsKept (string_bytes opened.new.journal) opened.new.driver server writer.old.tokens writer.new.tokens) }
+        → OnOk result (TellsKept opened.new.driver server writer.old.tokens writer.new.tokens) }
 {
     let Some(server) = opened.driver.machine().config().server_named(name) else {
         write_bad(

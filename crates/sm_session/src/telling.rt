@@ -1,6 +1,6 @@
 //! Lines that ask, and change nothing.
 ghost use Rattle.std.specs.Prelude.{◌≡◌, ◌++◌, None, OnOk};
-ghost use Rattle.sm_commands.specs.declared.line.LineCommand.TheVariants as line;
+ghost use Rattle.sm_commands.specs.declared.command.LineCommand.TheVariants as line;
 ghost use Rattle.sm_session.specs.Questions.{orders_reply, present_notices, present_orders};
 
 use crate::answering::write_ignored;
@@ -11,8 +11,8 @@ use sm_commands::{
     write_number, write_text,
 };
 use sm_open_journal::{
-    Opened, write_audit, write_audited, write_failed, write_map, write_no_list, write_notices,
-    write_plan_of, write_recorded, write_shard_of, write_since,
+    Opened, write_audit, write_audited, write_bits, write_failed, write_map, write_no_list,
+    write_notices, write_plan_of, write_recorded, write_shard_of, write_since,
 };
 use sm_reservation::StreamId;
 use std::alloc::{AllocError, Global};
@@ -28,12 +28,12 @@ impl Session {
         command: LineCommand<'_, '_>,
         writer: &mut Writer,
     ) -> Result<(), AllocError>
-        ensures orders { command ≡ line.Orders → self.now.under_way ≡ None
+        ensures { command.entry ≡ line.Orders → self.now.under_way ≡ None
             → OnOk result (writer.new.tokens ≡ writer.old.tokens ++ orders_reply self.now.opened) }
     {
         match command {
             LineCommand::Orders => return self.write_orders(alloc, writer),
-            LineCommand::Hello => return self.write_hello(writer),
+            LineCommand::Hello => return self.write_hello(alloc, writer),
             LineCommand::State { of: StateOf::Whole } => return self.write_state(alloc, writer),
             LineCommand::Audit { server, place, .. } if place > self.place => {
                 return write_audited(writer, server, "later");
@@ -67,43 +67,42 @@ impl Session {
                 of: StateOf::Plan(number),
             } => write_plan_of(opened, is_reopening, alloc, writer, number),
             LineCommand::Since { place } => {
-                write_since(opened, is_reopening, writer, self.place, place)
+                write_since(opened, is_reopening, alloc, writer, self.place, place)
             }
             _ if is_reopening => refuse(writer, alloc, "Reopening", &[]),
             _ => tell_planned(opened, alloc, command, writer),
         }
     }
 
-    /// Returns the journal of the reopening under way, if there is one.
-    fn journal(&self) -> Option<&str> {
-        match &self.under_way {
-            Some(current) => Some(current.journal.as_str()),
-            None => None,
+    /// Returns the journal, if there is one.
+    fn journal(&self) -> Option<u64> {
+        match (&self.opened, &self.under_way) {
+            (Some(opened), _) => Some(opened.driver.journal()),
+            (None, Some(current)) => Some(current.reopening.journal()),
+            (None, None) => None,
         }
     }
 
     /// Writes, as members, where the journal stands.
-    fn write_place(&self, writer: &mut Writer) -> Result<(), AllocError> {
+    fn write_place(&self, alloc: Global, writer: &mut Writer) -> Result<(), AllocError> {
+        match self.journal() {
+            Some(journal) => write_bits(writer, alloc, "journal", journal)?,
+            None => write_name(writer, "journal", None)?,
+        }
         match &self.opened {
-            Some(opened) => {
-                write_text(writer, "journal", opened.journal.as_str())?;
-                write_number(writer, "epoch", u64::from(opened.driver.epoch()))?;
-            }
-            None => {
-                write_name(writer, "journal", self.journal())?;
-                write_name(writer, "epoch", None)?;
-            }
+            Some(opened) => write_number(writer, "epoch", u64::from(opened.driver.epoch()))?,
+            None => write_name(writer, "epoch", None)?,
         }
         write_number(writer, "place", self.place)
     }
 
     /// Writes what the program is, and where its journal stands.
-    fn write_hello(&self, writer: &mut Writer) -> Result<(), AllocError> {
+    fn write_hello(&self, alloc: Global, writer: &mut Writer) -> Result<(), AllocError> {
         writer.key("hello")?;
         writer.begin_object()?;
         write_text(writer, "program", "smpland")?;
         write_number(writer, "format", FORMAT)?;
-        self.write_place(writer)?;
+        self.write_place(alloc, writer)?;
         writer.end_object()
     }
 
@@ -124,7 +123,7 @@ impl Session {
         };
         writer.key("state")?;
         writer.begin_object()?;
-        self.write_place(writer)?;
+        self.write_place(alloc, writer)?;
         write_number(writer, "fence", fence)?;
         write_text(writer, "is", self.condition())?;
         if let Some(opened) = &self.opened {
@@ -143,7 +142,7 @@ impl Session {
         write_present_orders(&self.opened, alloc, writer)?;
         write_no_list(writer, "fence")?;
         write_no_list(writer, "settle")?;
-        write_present_notices(&self.opened, writer)?;
+        write_present_notices(&self.opened, alloc, writer)?;
         Ok(())
     }
 
@@ -167,17 +166,21 @@ fn write_present_orders(
     ensures { OnOk result (writer.new.tokens ≡ writer.old.tokens ++ present_orders opened.now) }
 {
     match opened {
-        Some(opened) => opened.messages().write_all(alloc, writer),
+        Some(opened) => opened.messages(alloc).write_all(writer),
         None => write_no_list(writer, "orders"),
     }
 }
 
 /// Writes, as a member, the servers that are to be told that they were carried over: none if no journal is open.
-fn write_present_notices(opened: &Option<Opened>, writer: &mut Writer) -> Result<(), AllocError>
+fn write_present_notices(
+    opened: &Option<Opened>,
+    alloc: Global,
+    writer: &mut Writer,
+) -> Result<(), AllocError>
     ensures { OnOk result (writer.new.tokens ≡ writer.old.tokens ++ present_notices opened.now) }
 {
     match opened {
-        Some(opened) => write_notices(opened, writer),
+        Some(opened) => write_notices(opened, alloc, writer),
         None => write_no_list(writer, "notice"),
     }
 }

@@ -1,4 +1,4 @@
-use Rattle.std.proofs.Common.{◌++◌, ◌∙◌, ℕ, List, ap, string_bytes}
+use Rattle.std.proofs.Common.{◌++◌, ◌∙◌, ℕ, List, ap}
 use Rattle.json.specs.Token.{Token}
 use Rattle.sm_open_journal.specs.Notices.{carried_text}
 use Rattle.sm_open_journal.proofs.Written.{number_written}
@@ -7,8 +7,7 @@ use Rattle.sm_open_journal.proofs.notices.write_each_notice.Goals as goal
 -- The servers so far, and the next.
 pub loop-number-preserved : goal.loop-number-preserved
 loop-number-preserved c =
-    let o = c.args.opened.now in
-    let f : ℕ → List Token = carried_text (string_bytes o.journal) o.driver in
+    let f : ℕ → List Token = carried_text c.args.opened.now.driver in
     (rw c.new.ensures at c.in_ok-write_notice.ensures)
     ∙ ap (λ xs. xs ++ f c.loop-number.number) c.loop-number.invariant
     ∙ number_written f c.args.writer.now.tokens c.loop-number.number

@@ -1,4 +1,4 @@
-use Rattle.std.proofs.Common.{◌≡◌, ◌++◌, string_bytes}
+use Rattle.std.proofs.Common.{◌≡◌, ◌++◌}
 use Rattle.std.specs.List.{flat_map, range_with_len}
 use Rattle.sm_open_journal.specs.Notices.{carried_text}
 use Rattle.sm_open_journal.proofs.notices.write_each_notice.Given as goal
@@ -6,4 +6,4 @@ use Rattle.sm_open_journal.proofs.notices.write_each_notice.Given as goal
 -- the servers so far
 abbrev pub invariant-loop-number : goal.invariant-loop-number
 invariant-loop-number l =
-    l.writer.tokens ≡ l.initial.writer.tokens ++ flat_map (carried_text (string_bytes l.opened.journal) l.opened.driver) (range_with_len 0 l.number)
+    l.writer.tokens ≡ l.initial.writer.tokens ++ flat_map (carried_text l.opened.driver) (range_with_len 0 l.number)

@@ -5,6 +5,6 @@ pub returns : goal.returns
 returns c =
     let o = c.args.writer.now.tokens in
     let server = rw c.name_of.ensures at c.in_ok-write_text.ensures in
-    let journal = rw c.as_str.ensures.value at c.in_ok-write_text-2.ensures in
+    let journal = rw c.journal.ensures at c.in_ok-write_bits.ensures in
     let fence = rw c.fence.ensures at c.in_ok-write_number.ensures in
     next o _ _ (next o _ _ server journal) fence

@@ -1,4 +1,4 @@
-use Rattle.std.proofs.Common.{◌≡◌, ◌∙◌, IfOk, List, string_bytes, subst, true}
+use Rattle.std.proofs.Common.{◌≡◌, ◌∙◌, IfOk, List, subst, true}
 use Rattle.json.specs.Token.{Token}
 use Rattle.json_tree.specs.View.{view}
 use Rattle.sm_session.specs.Replies.{TellsBegun}
@@ -11,7 +11,7 @@ returns-in-Some-3-clause-told c =
     let new = c.start.new.opened in
     let quiet = (rw c.in-Some-3.is at c.in_ok-ready.ensures.quiet) ∙ (rw c.in-Some-2.is at c.in_ok-plan.ensures.quiet) in
     subst (λ (before : List Token). IfOk c.start.result (λ begun. begun ≡ true
-    → TellsBegun c.args.opened.now.driver new.driver (string_bytes new.journal) before c.start.new.writer.tokens)) quiet c.start.ensures.told
+    → TellsBegun c.args.opened.now.driver new.driver before c.start.new.writer.tokens)) quiet c.start.ensures.told
 
 pub returns-in-Some-3-clause-asked : goal.returns-in-Some-3-clause-asked
 returns-in-Some-3-clause-asked c =

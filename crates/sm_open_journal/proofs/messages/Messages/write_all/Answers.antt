@@ -12,6 +12,6 @@ returns c =
     let begun = next o _ _ c.in_ok-key.ensures.ok c.in_ok-begin_array.ensures.ok in
     let told =
     c.in_ok-write_each.ensures
-    ∙ ap (λ (ids : List StreamId). c.begin_array.new.self.tokens ++ flat_map (stream_message c.args.self.now.journal.now c.args.self.now.driver.now) ids)
+    ∙ ap (λ (ids : List StreamId). c.begin_array.new.self.tokens ++ flat_map (stream_message c.args.self.now.driver.now) ids)
     (c.as_slice.ensures.value ∙ c.in_ok-awaiting.ensures) in
     next o _ _ begun (next c.begin_array.new.self.tokens _ _ told c.in_ok-end_array.ensures.ok)

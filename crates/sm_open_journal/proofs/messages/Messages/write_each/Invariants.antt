@@ -6,4 +6,4 @@ use Rattle.sm_open_journal.proofs.messages.Messages.write_each.Given as goal
 -- those of the streams so far
 abbrev pub invariant-loop-id : goal.invariant-loop-id
 invariant-loop-id l =
-    l.writer.tokens ≡ l.initial.writer.tokens ++ flat_map (stream_message l.self.journal.now l.self.driver.now) (take l.id-index l.ids)
+    l.writer.tokens ≡ l.initial.writer.tokens ++ flat_map (stream_message l.self.driver.now) (take l.id-index l.ids)

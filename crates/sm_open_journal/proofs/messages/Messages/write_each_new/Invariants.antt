@@ -7,4 +7,4 @@ use Rattle.sm_open_journal.proofs.messages.Messages.write_each_new.Given as goal
 abbrev pub invariant-loop-stream : goal.invariant-loop-stream
 invariant-loop-stream l =
     l.writer.tokens ≡ l.initial.writer.tokens
-    ++ flat_map (new_message l.self.journal.now l.self.driver.now l.plan l.sinces) (range_with_len 0 l.stream)
+    ++ flat_map (new_message l.self.driver.now l.plan l.sinces) (range_with_len 0 l.stream)

@@ -18,5 +18,5 @@ returns c =
     let told =
     c.in_ok-write_each_new.ensures
     ∙ ap (λ ts. c.begin_array.new.self.tokens ++ ts)
-    (sym (flat_kept (stream_id c.args.plan) (λ id. stands_else (record_of d) id (slice_get c.args.sinces.now id.stream)) (stream_message c.args.self.now.journal.now d) (range_with_len 0 (stream_count (record_of d) c.args.plan)))) in
+    (sym (flat_kept (stream_id c.args.plan) (λ id. stands_else (record_of d) id (slice_get c.args.sinces.now id.stream)) (stream_message d) (range_with_len 0 (stream_count (record_of d) c.args.plan)))) in
     next o _ _ begun (next c.begin_array.new.self.tokens _ _ told c.in_ok-end_array.ensures.ok)

@@ -4,5 +4,6 @@ use Rattle.sm_open_journal.proofs.opened.Opened.write_opened_members.Goals as go
 pub returns : goal.returns
 returns c =
     let o = c.args.writer.now.tokens in
+    let journal = rw c.journal.ensures at c.in_ok-write_bits.ensures in
     let epoch = rw c.epoch.ensures at (rw c.from.ensures at c.in_ok-write_number.ensures) in
-    next o _ _ (next o _ _ (rw c.as_str.ensures.value at c.in_ok-write_text.ensures) epoch) c.in_ok-write_permits.ensures
+    next o _ _ (next o _ _ journal epoch) c.in_ok-write_permits.ensures

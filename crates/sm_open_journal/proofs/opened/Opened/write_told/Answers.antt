@@ -1,9 +1,8 @@
-use Rattle.std.proofs.Common.{string_bytes}
 use Rattle.sm_open_journal.proofs.Told.{told_kept}
 use Rattle.sm_open_journal.proofs.opened.Opened.write_told.Goals as goal
 
 -- What the driver keeps for the server is told behind its name.
 pub returns-in-Some : goal.returns-in-Some
 returns-in-Some c =
-    told_kept c.write_restore.result (string_bytes c.args.self.now.journal) c.args.self.now.driver c.args.server
+    told_kept c.write_restore.result c.args.self.now.driver c.args.server
     _ _ _ _ _ c.in-Some.ensures c.in_ok-key.ensures.ok c.write_restore.ensures
