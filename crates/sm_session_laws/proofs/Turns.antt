@@ -40,8 +40,8 @@ one_more x t r fit = record {
   state = ap (λ y. after_turn y t) r.state ∙ sym (turns_append r.turns (t ∷ []) r.first);
 }
 
--- so it is a turn, if its entries tell the truth
+-- so it is a turn by any of its entries that tell the truth
 pub changes_are_turns : ChangesAreCommands → EachDriven ChangesAreTurns
 changes_are_turns commands x r new change =
     let c = commands x.driver new change in
-    (c.0, c.1, c.3, λ truth. one_more x (Takes c.0 new c.1) r (c.2, c.3, truth))
+    (c.0, c.2, (c.1, c.3), λ es writes truth. one_more x (Takes c.0 new es) r (c.2, writes, truth))
