@@ -1,6 +1,6 @@
 -- A session does the command that its line asks for.
 use Rattle.std.proofs.Common.{◌≡◌, ◌∙◌, Bool, true, false, ℕ, List, Option, Some, None, Result, Ok, Err, IfOk, ap, refl, subst, sym}
-use Rattle.std.specs.Prelude.{IfSome, is_some}
+use Rattle.std.specs.Prelude.{IfSome, is_some, length}
 use Rattle.json.specs.Token.{Token}
 use Rattle.serde_json.specs.Data.{Data}
 use Rattle.sm_placement.specs.Layout.{PlacementModel, place_of}
@@ -15,12 +15,12 @@ use Rattle.sm_plan_text.specs.declared.document.Document.{Document}
 use Rattle.sm_protocol.specs.State.{opened}
 use Rattle.sm_driver.specs.Driver.{DriverModel, HasBegunPlan, record_of}
 use Rattle.sm_open_journal.specs.declared.opened.Opened.{Opened}
-use Rattle.sm_session.specs.Asked.{BeginsPlanOf, IsOpenedBy, OpensOver, SaysPlan}
+use Rattle.sm_session.specs.Asked.{BeginsPlanOf, IsFirstOpened, IsOpenedBy, OpensOver, SaysPlan}
 use Rattle.sm_session.specs.Changes.{HasDriven, driver_of}
 use Rattle.sm_session.specs.Replies.{TellsDriven, TellsOpened}
 
 -- what holds of what was found holds of it by its name
-found_is : {A : Type 0} (P : A → Type 0) (found : Option A) (x : A) → found ≡ Some x → IfSome found P → P x
+pub found_is : {A : Type 0} (P : A → Type 0) (found : Option A) (x : A) → found ≡ Some x → IfSome found P → P x
 found_is P found x is holds = subst (λ o. IfSome o P) is holds
 
 -- the plan that a value says was made ready, and has begun
@@ -54,8 +54,9 @@ driver_opened : (driver : DriverModel) (document : Document) (placement : Placem
     read_data (Some value) ≡ Ok (rows_of document) → placement.setup ≡ document.config →
     place_of placement ≡ opened_place (opening_of (rows_of document)) →
     record_of driver ≡ opened (sizes_of placement.setup) (place_of placement) document.log →
-    driver.machine.placement.setup ≡ placement.setup → driver.journal ≡ journal → driver.epoch ≡ epoch → IsOpenedBy value journal epoch driver
-driver_opened driver document placement value journal epoch said setup place state same of_journal of_epoch = (
+    driver.machine.placement.setup ≡ placement.setup → driver.journal ≡ journal → driver.epoch ≡ epoch →
+    IsFirstOpened (length placement.setup.servers) (place_of placement).down driver → IsOpenedBy value journal epoch driver
+driver_opened driver document placement value journal epoch said setup place state same of_journal of_epoch first = (
   rows_of document,
   said,
   same ∙ setup,
@@ -63,6 +64,8 @@ driver_opened driver document placement value journal epoch said setup place sta
       ∙ ap (λ (p : Place). opened (sizes_of document.config) p document.log) place,
   of_journal,
   of_epoch,
+  subst (λ (p : Place). IsFirstOpened (length document.config.servers) p.down driver) place
+      (subst (λ (s : Setup). IsFirstOpened (length s.servers) (place_of placement).down driver) setup first),
 )
 
 -- it is the one that is open now
@@ -80,14 +83,15 @@ pub opens_over : (before after : Option Opened) (driver : DriverModel) (read : O
     read ≡ Some document → found ≡ Some placement → IfSome read (λ d. read_data (Some value) ≡ Ok (rows_of d)) →
     IfSome found (λ p. p.setup ≡ document.config) → IfSome found (λ p. place_of p ≡ opened_place (opening_of (rows_of document))) →
     record_of driver ≡ opened (sizes_of placement.setup) (place_of placement) document.log →
-    driver.machine.placement.setup ≡ placement.setup → driver.journal ≡ journal → driver.epoch ≡ epoch → OpensOver value journal epoch before after
-opens_over before after driver read document found placement value journal epoch none is_new is_read is_found said setup place state same of_journal of_epoch =
+    driver.machine.placement.setup ≡ placement.setup → driver.journal ≡ journal → driver.epoch ≡ epoch →
+    IsFirstOpened (length placement.setup.servers) (place_of placement).down driver → OpensOver value journal epoch before after
+opens_over before after driver read document found placement value journal epoch none is_new is_read is_found said setup place state same of_journal of_epoch first =
     opens_first before after driver value journal epoch none is_new
     (driver_opened driver document placement value journal epoch
     (found_is (λ d. read_data (Some value) ≡ Ok (rows_of d)) read document is_read said)
     (found_is (λ p. p.setup ≡ document.config) found placement is_found setup)
     (found_is (λ p. place_of p ≡ opened_place (opening_of (rows_of document))) found placement is_found place)
-    state same of_journal of_epoch)
+    state same of_journal of_epoch first)
 
 -- the first opening is told, and nothing before it
 pub tells_first : {D P : Type 0} (before after : Option Opened) (read : Option D) (document : D) (found : Option P) (placement : P) (start mid end told : List Token) →

@@ -1,5 +1,6 @@
 -- The effect of a line on a session, as its command asks for it.
-use Rattle.std.specs.Prelude.{◌≡◌, ◌⊎◌, ℕ, true, List, Option, Some, None, Ok}
+use Rattle.std.specs.Prelude.{◌≡◌, ◌⊎◌, ℕ, Bool, true, false, List, [], Option, Some, None, Ok, length, option_map, replicate}
+use Rattle.std.specs.Borrow.{Bor}
 use Rattle.serde_json.specs.Data.{Data}
 use Rattle.json_tree.specs.View.{view}
 use Rattle.sm_placement.specs.Opening.{opened_place}
@@ -10,12 +11,16 @@ use Rattle.sm_plan_text.specs.Documents.{DocumentModel}
 use Rattle.sm_plan_text.specs.Opened.{opening_of}
 use Rattle.sm_plan_text.specs.Reading.{data_of, read_data, read_plan_data}
 use Rattle.sm_protocol.specs.State.{opened}
-use Rattle.sm_driver.specs.Driver.{DriverModel, HasApproved, HasBegunPlan, HasRestored, HasTakenStep, is_due, record_of}
+use Rattle.sm_driver.specs.Driver.{DriverModel, HasApproved, HasBegunPlan, HasRestored, HasTakenStep, base, is_due, record_of}
+use Rattle.sm_driver.specs.Permits.{opening_permits}
+use Rattle.sm_commands.specs.Commands.{IsKnownCommand}
 use Rattle.sm_commands.specs.Lines.{Says}
 use Rattle.sm_commands.specs.declared.command.LineCommand.{LineCommand}
 use Rattle.sm_commands.specs.declared.command.LineCommand.TheVariants as line
 use Rattle.sm_open_journal.specs.declared.opened.Opened.{Opened}
-use Rattle.sm_session.specs.Changes.{ComesInForce, EndsRestart, HasGoneOn, HasReopened, OpensNext}
+use Rattle.sm_document_reopening.specs.Reopening.{ReopeningModel}
+use Rattle.sm_reopening_lines.specs.Taken.{TakesConfirm, TakesSettled, TakesTold}
+use Rattle.sm_session.specs.Changes.{ComesInForce, EndsRestart, HasReopened, OpensNext}
 use Rattle.sm_session.specs.declared.reopening.UnderWay.{UnderWay}
 use Rattle.sm_session.specs.declared.session.Session.{Session}
 
@@ -52,13 +57,21 @@ DoesToDriver (line.Restore server nonce) old new = RestoresServerOf server.now n
 DoesToDriver line.NewEpoch old new = OpensNext old new
 DoesToDriver _ old new = ⊥
 
--- a driver is open over the document that a value says, in an epoch of a journal
+-- A driver has just opened the first epoch of a journal: nothing fences it, each server that is down has a new permit, and none was carried
+-- over or restored.
+pub record IsFirstOpened (servers : ℕ) (down : ℕ → Bool) (d : DriverModel) : Type 0 where
+  pub fence : d.fence ≡ 0
+  pub permits : d.permits ≡ opening_permits (base d) [] servers down
+  pub carried : d.carried ≡ replicate servers false
+  pub restores : d.restores ≡ replicate servers None
+
+-- a driver is open over the document that a value says, in the first epoch of a journal
 abbrev pub IsOpenedBy : Data → ℕ → ℕ → DriverModel → Type 0
 IsOpenedBy value journal epoch d =
     (document : DocumentModel) × (read_data (Some value) ≡ Ok document)
     × (d.machine.placement.setup ≡ document.setup)
     × (record_of d ≡ opened (sizes_of document.setup) (opened_place (opening_of document)) document.log)
-    × (d.journal ≡ journal) × (d.epoch ≡ epoch)
+    × (d.journal ≡ journal) × (d.epoch ≡ epoch) × IsFirstOpened (length document.setup.servers) (opened_place (opening_of document)).down d
 
 -- none was open, and now this one is
 abbrev pub OpensOver : Data → ℕ → ℕ → Option Opened → Option Opened → Type 0
@@ -70,23 +83,37 @@ abbrev pub StaysOpen : (DriverModel → DriverModel → Type 0) → Option Opene
 StaysOpen P (Some old) (Some new) = P old.driver new.driver
 StaysOpen P old new = ⊥
 
--- The effect of a command that changed something. A command of a reopening begins one, tells or confirms something of the one under way, or
--- with the last settle puts it in force.
+-- the reopening that is under way stays so, and this became of it
+abbrev pub StaysUnderWay : (ReopeningModel → ReopeningModel → Type 0) → Option UnderWay → Option UnderWay → Type 0
+StaysUnderWay P (Some old) (Some new) = P old.reopening new.reopening
+StaysUnderWay P old new = ⊥
+
+-- The effect of a command that changed something. A command of a reopening begins one; or the one under way takes by it an answer to a fence, a
+-- confirmation, or an answer to a settle, by the last of which it comes in force.
 abbrev pub Does : LineCommand → Option Opened → Option UnderWay → Option Opened → Option UnderWay → Type 0
 Does (line.Open document journal epoch) opened under new after = OpensOver (view document.now) journal epoch opened new
 Does (line.Reopen _ _ _ _) opened under new after = HasReopened opened under after
-Does (line.Fenced _ _ _) opened under new after = HasGoneOn under after
-Does (line.Confirm _ _) opened under new after = HasGoneOn under after
-Does (line.Settled _ _) opened under new after = HasGoneOn under after ⊎ ComesInForce under after new
+Does (line.Fenced _ _ _) opened under new after = StaysUnderWay TakesTold under after
+Does (line.Confirm _ _) opened under new after = StaysUnderWay TakesConfirm under after
+Does (line.Settled _ _) opened under new after = StaysUnderWay TakesSettled under after ⊎ ComesInForce under after new
 Does command opened under new after = StaysOpen (DoesToDriver command) opened new
 
 -- the effect of a command on a session
 abbrev pub DoesToSession : LineCommand → Session → Session → Type 0
 DoesToSession command old new = Does command old.opened old.under_way new.opened new.under_way
 
--- a value says a command, and the session has done it
+-- the servers and shards of the document in force, if there is one
+abbrev pub setup_in_force : Session → Option Setup
+setup_in_force s = option_map (λ (o : Opened). o.driver.machine.placement.setup) s.opened
+
+-- a command is known over these servers and shards, or over any if there are none
+abbrev pub IsKnownOver : Option Setup → LineCommand → Type 0
+IsKnownOver setup command = (config : Option (Bor Setup)) × (option_map (λ (c : Bor Setup). c.now) config ≡ setup) × IsKnownCommand config command
+
+-- a value says a command that is known, and the session has done it
 abbrev pub DoesAsTold : Data → Session → Session → Type 0
-DoesAsTold value old new = (command : LineCommand) × Says value command × DoesToSession command old new
+DoesAsTold value old new =
+    (command : LineCommand) × Says value command × IsKnownOver (setup_in_force old) command × DoesToSession command old new
 
 -- so does the JSON value of a line
 abbrev pub DoesAsSaid : List ℕ → Session → Session → Type 0

@@ -12,7 +12,7 @@ use Rattle.sm_driver.specs.Driver.{DriverModel, HasApproved, HasBegunPlan, HasEn
 use Rattle.sm_driver.specs.Epochs.{HasOpenedEpoch, epoch_fault}
 use Rattle.sm_open_journal.specs.declared.opened.Opened.{Opened}
 use Rattle.sm_network.specs.Reopening.{Reopening, Settlement}
-use Rattle.sm_network.specs.ReopeningLaws.{no_reopening}
+use Rattle.sm_network.specs.ReopeningLaws.{AllTook, no_reopening}
 use Rattle.sm_reopening.specs.Ongoing.{net_reopening, recorded_place}
 use Rattle.sm_document_reopening.specs.Begun.{BeginsUnder}
 use Rattle.sm_document_reopening.specs.InForce.{IsInForce}
@@ -130,9 +130,10 @@ abbrev pub SettlesTo : Option ReopeningModel → ReopeningModel → Type 0
 SettlesTo (Some r) last = TakesSettled r last
 SettlesTo None last = ⊥
 
--- the last party has taken its settle, and the settlement is in force
+-- the last party has taken its settle, so all have, and the settlement is in force
 abbrev pub ComesInForce : Option UnderWay → Option UnderWay → Option Opened → Type 0
-ComesInForce under after new = (last : ReopeningModel) × SettlesTo (reopening_under_way under) last × (after ≡ None) × OpensOf last new
+ComesInForce under after new =
+    (last : ReopeningModel) × SettlesTo (reopening_under_way under) last × AllTook (net_reopening last.ongoing) × (after ≡ None) × OpensOf last new
 
 -- The effect of a command that changed something on the open journal, and on the reopening under way. While one is under way the driver stays as
 -- it is.
@@ -141,6 +142,10 @@ pub data HasChanged (opened : Option Opened) (under : Option UnderWay) (new : Op
   Reopens : new ≡ opened → HasReopened opened under after → HasChanged opened under new after
   Follows : new ≡ opened → HasGoneOn under after → HasChanged opened under new after
   Opens : ComesInForce under after new → HasChanged opened under new after
+
+-- nothing is open or under way in a session, and no line has changed anything
+abbrev pub IsNew : Session → Type 0
+IsNew s = (s.opened ≡ None) × (s.under_way ≡ None) × (s.place ≡ 0)
 
 -- what a line that changed something made of a session
 abbrev pub SessionChanges : Session → Session → Type 0

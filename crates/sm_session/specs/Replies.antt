@@ -3,10 +3,13 @@
 use Rattle.std.specs.Prelude.{◌≡◌, ℕ, ◌||◌, Bool, List, [], ◌++◌, IfSome, Option, Some, None, bytes_eq, codes, false, if◌then◌else◌, string_bytes, true}
 use Rattle.json.specs.Token.{Token}
 use Rattle.json.specs.Print.{print}
+use Rattle.serde_json.specs.Data.{Data}
 use Rattle.sm_reservation.specs.declared.stream_id.StreamId.{StreamId}
 use Rattle.sm_plan_code.specs.Plan.{PlanModel}
+use Rattle.sm_plan_text.specs.Reading.{data_of}
 use Rattle.sm_driver.specs.Driver.{DriverModel, HasApproved, HasBegunPlan, HasEndedRestart, HasRestored, HasTakenStep, is_due, is_past, record_of}
 use Rattle.sm_commands.specs.declared.command.Id.{Id}
+use Rattle.sm_commands.specs.Lines.{HasId}
 use Rattle.sm_commands.specs.Members.{id_members, object, server_text, text_member}
 use Rattle.sm_commands.specs.Refusals.{TellsRefused}
 use Rattle.sm_commands.specs.Writer.{HasNoLineFeed}
@@ -107,13 +110,20 @@ pub data TellsChanges (opened : Option Opened) (under : Option UnderWay) (new : 
 abbrev pub SessionTells : Session → Session → List Token → List Token → Type 0
 SessionTells old new before after = TellsChanges old.opened old.under_way new.opened new.under_way before after
 
--- the same behind the line's id, if it has one
-abbrev pub TellsBehindId : Session → Session → List Token → List Token → Type 0
-TellsBehindId old new before after = (id : Option Id) × SessionTells old new (before ++ id_members id) after
+-- the same behind an id, which is none but the line's
+abbrev pub TellsBehindId : Data → Session → Session → List Token → List Token → Type 0
+TellsBehindId value old new before after = (id : Option Id) × IfSome id (HasId value) × SessionTells old new (before ++ id_members id) after
 
--- The reply to a line is one line: the text of some tokens in braces, which need not make an object. If the line has changed something, they tell it.
-pub record IsLineReply (old new : Session) (effect : LineEffect) (text : List ℕ) : Type 0 where
+-- the same of a line's text
+abbrev pub TellsLine : List ℕ → Session → Session → List Token → List Token → Type 0
+TellsLine line old new before after = (value : Data) × (data_of line ≡ Some value) × TellsBehindId value old new before after
+
+-- A text replies to a line: that of some tokens in braces, which need not make an object. If the line has changed something, they tell it.
+pub record RepliesTo (line : List ℕ) (old new : Session) (effect : LineEffect) (text : List ℕ) : Type 0 where
   pub members : List Token
   pub is : text ≡ print (object members)
-  pub one_line : HasNoLineFeed text
-  pub changed : effect ≡ Changed → TellsBehindId old new [] members
+  pub changed : effect ≡ Changed → TellsLine line old new [] members
+
+-- the reply to a line is one line
+abbrev pub IsLineReply : List ℕ → Session → Session → LineEffect → List ℕ → Type 0
+IsLineReply line old new effect text = RepliesTo line old new effect text × HasNoLineFeed text

@@ -112,6 +112,7 @@ pub fn answered_again(
 ) -> Result<bool, AllocError>
     ensures moved { IfOk result (λ moved. moved ≡ true → TakesAnswer opened.old.driver opened.new.driver) }
     ensures unchanged { IfOk result (λ moved. moved ≡ false → opened.new ≡ opened.old) }
+    ensures asked { IfOk result (λ moved. moved ≡ true → TakesAnswerOf id number opened.old.driver opened.new.driver) }
     ensures in_force { IfOk result (λ moved. moved ≡ true → at.is_reopening ≡ false) }
 {
     if at.is_reopening {

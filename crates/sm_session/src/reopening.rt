@@ -3,6 +3,8 @@ ghost use Rattle.std.specs.Prelude.{◌≡◌, ◌<◌, ◌⊎◌, IfOk, IfSome,
 ghost use Rattle.std.specs.Option.{ForSome};
 ghost use Rattle.sm_reopening.specs.Ongoing.{net_reopening};
 ghost use Rattle.sm_open_journal.specs.Bits.{hexadecimal};
+ghost use Rattle.sm_reopening_lines.specs.Taken.{TakesConfirm, TakesSettled, TakesTold};
+ghost use Rattle.sm_session.specs.Asked.{StaysUnderWay};
 ghost use Rattle.sm_session.specs.Changes.{BeginsReopening, ComesInForce, HasGoneOn, HasReopened, OpensOf, driver_of, reopening_under_way};
 ghost use Rattle.sm_session.specs.Replies.{TellsFences, TellsOpened};
 
@@ -234,6 +236,7 @@ pub(crate) fn fenced(
     told: ToldText<'_, '_>,
 ) -> Result<bool, AllocError>
     ensures taken { IfOk result (λ taken. taken ≡ true → HasGoneOn under_way.old under_way.new) }
+    ensures asked { IfOk result (λ taken. taken ≡ true → StaysUnderWay TakesTold under_way.old under_way.new) }
     ensures unchanged { IfOk result (λ taken. taken ≡ false → under_way.new ≡ under_way.old) }
 {
     match under_way {
@@ -254,6 +257,7 @@ pub(crate) fn confirm(
     cells: &[Tree<'_>],
 ) -> Result<bool, AllocError>
     ensures taken { IfOk result (λ taken. taken ≡ true → HasGoneOn under_way.old under_way.new) }
+    ensures asked { IfOk result (λ taken. taken ≡ true → StaysUnderWay TakesConfirm under_way.old under_way.new) }
     ensures unchanged { IfOk result (λ taken. taken ≡ false → under_way.new ≡ under_way.old) }
 {
     match under_way {
@@ -314,6 +318,7 @@ pub(crate) fn settled(
     ensures unchanged { IfOk result (λ effect. effect ≡ SettledEffect.Old → under_way.new ≡ under_way.old) }
     ensures stays { IfOk result (λ effect. effect ≡ SettledEffect.Waiting → opened.new ≡ opened.old) }
     ensures waiting { IfOk result (λ effect. effect ≡ SettledEffect.Waiting → HasGoneOn under_way.old under_way.new) }
+    ensures asked { IfOk result (λ effect. effect ≡ SettledEffect.Waiting → StaysUnderWay TakesSettled under_way.old under_way.new) }
     ensures complete { IfOk result (λ effect. effect ≡ SettledEffect.Complete → ComesInForce under_way.old under_way.new opened.new) }
     ensures told { IfOk result (λ effect. effect ≡ SettledEffect.Complete → TellsOpened opened.new writer.old.tokens writer.new.tokens) }
 {

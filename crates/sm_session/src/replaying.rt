@@ -1,8 +1,11 @@
 //! The entries of a journal, applied again.
-ghost use Rattle.std.specs.Prelude.{◌≡◌, IfOk, false, true};
+ghost use Rattle.std.specs.Prelude.{◌≡◌, ℕ, List, [], IfOk, false, true};
+ghost use Rattle.json.specs.Token.{Token};
 ghost use Rattle.journal_lines.specs.Objects.{IsObject};
 ghost use Rattle.sm_session.specs.declared.session.LineEffect.TheVariants as did;
+ghost use Rattle.sm_session.specs.Asked.{DoesAsSaid, DoesToSession, StaysOpen, TakesAnswerOf};
 ghost use Rattle.sm_session.specs.Changes.{SessionChanges};
+ghost use Rattle.sm_session.specs.Replies.{RepliesTo, SessionTells, TellsLine};
 
 use crate::answering::answered_again;
 use crate::session::{LineEffect, Session};
@@ -17,7 +20,10 @@ impl Session {
     pub fn replay(&mut self, alloc: Global, entry: &[u8]) -> Result<LineEffect, AllocError>
         requires { IsObject entry.now }
         ensures changed { IfOk result (λ applied. applied ≡ did.Changed → SessionChanges self.old self.new) }
+        ensures asked { IfOk result (λ applied. applied ≡ did.Changed → DoesAsSaid entry.now self.old self.new) }
         ensures unchanged { IfOk result (λ applied. applied ≡ did.Unchanged → self.new ≡ self.old) }
+        // There is a reply that would tell it.
+        ensures told { IfOk result (λ applied. (reply : List ℕ) × RepliesTo entry.now self.old self.new applied reply) }
     {
         if !self.take_entry(alloc, entry)? {
             return Ok(LineEffect::Unchanged);
@@ -29,7 +35,9 @@ impl Session {
     /// Applies an entry, and tells whether something has changed.
     fn take_entry(&mut self, alloc: Global, entry: &[u8]) -> Result<bool, AllocError>
         ensures changed { IfOk result (λ changed. changed ≡ true → SessionChanges self.old self.new) }
+        ensures asked { IfOk result (λ changed. changed ≡ true → DoesAsSaid entry.now self.old self.new) }
         ensures unchanged { IfOk result (λ changed. changed ≡ false → self.new ≡ self.old) }
+        ensures told { IfOk result (λ changed. changed ≡ true → (members : List Token) × TellsLine entry.now self.old self.new [] members) }
     {
         let mut scratch = Scratch::new(alloc);
         let Some(tree) = parse_line(alloc, entry, &mut scratch)? else {
@@ -48,7 +56,9 @@ impl Session {
         command: LineCommand<'_, '_>,
     ) -> Result<bool, AllocError>
         ensures changed { IfOk result (λ changed. changed ≡ true → SessionChanges self.old self.new) }
+        ensures asked { IfOk result (λ changed. changed ≡ true → DoesToSession command.entry self.old self.new) }
         ensures unchanged { IfOk result (λ changed. changed ≡ false → self.new ≡ self.old) }
+        ensures told { IfOk result (λ changed. changed ≡ true → (members : List Token) × SessionTells self.old self.new [] members) }
     {
         if let LineCommand::Answered {
             plan,
@@ -65,7 +75,10 @@ impl Session {
     /// Takes an answer, if a journal is open.
     fn take_answer(&mut self, alloc: Global, id: StreamId, number: u64) -> Result<bool, AllocError>
         ensures changed { IfOk result (λ changed. changed ≡ true → SessionChanges self.old self.new) }
+        ensures asked { IfOk result (λ changed. changed ≡ true
+            → StaysOpen (TakesAnswerOf id number) self.old.opened self.new.opened) }
         ensures unchanged { IfOk result (λ changed. changed ≡ false → self.new ≡ self.old) }
+        ensures told { IfOk result (λ changed. changed ≡ true → (members : List Token) × SessionTells self.old self.new [] members) }
     {
         let at = self.standing();
         match &mut self.opened {

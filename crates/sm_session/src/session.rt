@@ -48,14 +48,16 @@ pub struct Session {
 }
 
 impl Session {
-    ghost use Rattle.std.specs.Prelude.{true};
+    ghost use Rattle.std.specs.Prelude.{option_map, true};
     ghost use Rattle.json_tree.specs.View.{view};
-    ghost use Rattle.sm_session.specs.Asked.{DoesAsSaid, DoesAsTold, DoesToSession};
-    ghost use Rattle.sm_session.specs.Changes.{SessionChanges};
-    ghost use Rattle.sm_session.specs.Replies.{IsLineReply, SessionTells, TellsBehindId};
+    ghost use Rattle.sm_session.specs.Asked.{DoesAsSaid, DoesAsTold, DoesToSession, setup_in_force};
+    ghost use Rattle.sm_session.specs.Changes.{IsNew, SessionChanges};
+    ghost use Rattle.sm_session.specs.Replies.{IsLineReply, SessionTells, TellsBehindId, TellsLine};
 
     /// Returns a session before its first line.
-    pub fn new() -> Self {
+    pub fn new() -> Self
+        ensures { IsNew result }
+    {
         Session {
             opened: None,
             under_way: None,
@@ -90,7 +92,7 @@ impl Session {
         // A journal can take a line that changed something as an entry.
         ensures object { IfOk result (λ applied. applied ≡ did.Changed → IsObject line.now) }
         ensures behind { OnOk result ((text : List ℕ) × (reply.new.items ≡ reply.old.items ++ text)) }
-        ensures told { IfOk result (λ applied. (text : List ℕ) × (reply.new.items ≡ reply.old.items ++ text) × IsLineReply self.old self.new applied text) }
+        ensures told { IfOk result (λ applied. (text : List ℕ) × (reply.new.items ≡ reply.old.items ++ text) × IsLineReply line.now self.old self.new applied text) }
     {
         let mut writer = Writer::new(alloc);
         let changed = self.answer(alloc, line, &mut writer)?;
@@ -113,7 +115,7 @@ impl Session {
         ensures changed { IfOk result (λ changed. changed ≡ true → SessionChanges self.old self.new) }
         ensures asked { IfOk result (λ changed. changed ≡ true → DoesAsSaid line.now self.old self.new) }
         ensures unchanged { IfOk result (λ changed. changed ≡ false → self.new ≡ self.old) }
-        ensures told { IfOk result (λ changed. changed ≡ true → TellsBehindId self.old self.new writer.old.tokens writer.new.tokens) }
+        ensures told { IfOk result (λ changed. changed ≡ true → TellsLine line.now self.old self.new writer.old.tokens writer.new.tokens) }
         ensures object { IfOk result (λ changed. changed ≡ true → IsObject line.now) }
     {
         if line.len() > MOST_BYTES {
@@ -146,7 +148,7 @@ impl Session {
         ensures changed { IfOk result (λ changed. changed ≡ true → SessionChanges self.old self.new) }
         ensures asked { IfOk result (λ changed. changed ≡ true → DoesAsTold (view line.now) self.old self.new) }
         ensures unchanged { IfOk result (λ changed. changed ≡ false → self.new ≡ self.old) }
-        ensures told { IfOk result (λ changed. changed ≡ true → TellsBehindId self.old self.new writer.old.tokens writer.new.tokens) }
+        ensures told { IfOk result (λ changed. changed ≡ true → TellsBehindId (view line.now) self.old self.new writer.old.tokens writer.new.tokens) }
     {
         write_id(writer, id_of(line))?;
         match read_command(alloc, line, self.config())? {
@@ -159,7 +161,9 @@ impl Session {
     }
 
     /// Returns the servers and shards of the document in force, if there is one.
-    pub(crate) fn config(&self) -> Option<&Config> {
+    pub(crate) fn config(&self) -> Option<&Config>
+        ensures { option_map (λ config. config.now) result ≡ setup_in_force self.now }
+    {
         match &self.opened {
             Some(opened) => Some(opened.driver.machine().config()),
             None => None,

@@ -15,6 +15,7 @@ returns-in-Ok-clause-asked c = λ _.
     (view c.args.document.now) c.args.journal c.args.epoch
     none c.in_ok-take-in-Ok.ensures.driver c.in-Some.is c.in-Some-2.is c.in_ok-document.ensures.said c.in_ok-placement.ensures.setup
     c.in_ok-placement.ensures.place c.in-Ok.ensures.state c.in-Ok.ensures.setup c.in-Ok.ensures.journal c.in-Ok.ensures.epoch
+    (record { fence = c.in-Ok.ensures.fence; permits = c.in-Ok.ensures.permits; carried = c.in-Ok.ensures.carried; restores = c.in-Ok.ensures.restores })
 
 -- Nothing was written before the journal was opened.
 pub returns-in-Ok-clause-told : goal.returns-in-Ok-clause-told

@@ -16,6 +16,7 @@ returns-in_ok-put_in_force-in-Complete-clause-complete c e =
         | inl old ↦ absurd (let z = sym old ∙ e in cc)
         | inr taken ↦ taken
       ]),
+      c.in_ok-effect.ensures.complete e,
       c.take.ensures.after,
       c.in_ok-put_in_force-in-Complete.ensures.in_force,
     )

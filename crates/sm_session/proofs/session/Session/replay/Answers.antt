@@ -1,0 +1,10 @@
+use Rattle.std.proofs.Common.{◌≡◌}
+use Rattle.sm_session.specs.declared.session.LineEffect.TheVariants.{Changed, Unchanged}
+use Rattle.sm_session.proofs.Replayed.{some_reply}
+use Rattle.sm_session.proofs.session.Session.replay.Goals as goal
+
+pub returns-then-not-branch-clause-told : goal.returns-then-not-branch-clause-told
+returns-then-not-branch-clause-told c = some_reply c.args.entry.now _ _ Unchanged (λ (e : Unchanged ≡ Changed). absurd (let z = e in cc))
+
+pub returns-clause-told : goal.returns-clause-told
+returns-clause-told c = some_reply c.args.entry.now _ _ Changed (λ _. c.in_ok-take_entry.ensures.told c.if-not-branch.false)
