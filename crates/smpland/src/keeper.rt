@@ -1,4 +1,5 @@
 //! A session under a journal.
+ghost use Rattle.sm_session.specs.Changes.{IsNew};
 
 use journal_session::{Applied, Applies};
 use sm_session::{LineEffect, Session};
@@ -11,7 +12,9 @@ pub struct Keeper {
 
 impl Keeper {
     /// Returns a session before its first line.
-    pub fn new() -> Self {
+    pub fn new() -> Self
+        ensures { IsNew result.session }
+    {
         Keeper {
             session: Session::new(),
         }
@@ -27,10 +30,16 @@ impl Keeper {
 impl Applies for Keeper {
     ghost use Rattle.std.specs.Prelude.{◌≡◌};
     ghost use Rattle.journal_session.specs.declared.applies.Applied.TheVariants as effect;
+    ghost use Rattle.sm_session.specs.declared.session.LineEffect.TheVariants as did;
+    ghost use Rattle.sm_session.specs.Asked.{DoesAsSaid};
     ghost use Rattle.sm_session.specs.Changes.{SessionChanges};
+    ghost use Rattle.sm_session.specs.Replies.{RepliesTo};
 
     ghost takes = { λ old x new. (x.effect ≡ effect.Changed → SessionChanges old.session new.session)
-        × (x.effect ≡ effect.Unchanged → new.session ≡ old.session) };
+        × (x.effect ≡ effect.Changed → DoesAsSaid x.line old.session new.session)
+        × (x.effect ≡ effect.Changed → RepliesTo x.line old.session new.session did.Changed x.reply)
+        × (x.effect ≡ effect.Unchanged → new.session ≡ old.session)
+        × (x.effect ≡ effect.Unchanged → RepliesTo x.line old.session new.session did.Unchanged x.reply) };
 
     fn apply(
         &mut self,

@@ -1,0 +1,38 @@
+use Rattle.std.proofs.Common.{◌≡◌, subst}
+use Rattle.journal_session.specs.declared.applies.Applied.TheVariants as effect
+use Rattle.sm_session.specs.declared.session.LineEffect.{LineEffect}
+use Rattle.sm_session.specs.declared.session.LineEffect.TheVariants as did
+use Rattle.sm_session.specs.Replies.{RepliesTo}
+use Rattle.smpland.proofs.keeper.KeeperApplies.apply.Goals as goal
+
+pub returns-in-Changed-clause-takes : goal.returns-in-Changed-clause-takes
+returns-in-Changed-clause-takes c =
+    let done = c.in_ok-apply.ensures in
+    let told = done.told in
+    let reply = subst (λ (e : LineEffect). RepliesTo c.args.line.now c.args.self.now.session c.apply.new.self e told.0) c.in-Changed.is told.2.0 in (
+      told.0,
+      told.1,
+      (
+        (λ _. done.changed c.in-Changed.is),
+        (λ _. done.asked c.in-Changed.is),
+        (λ _. reply),
+        (λ (is : effect.Changed ≡ effect.Unchanged). absurd (let z = is in cc)),
+        (λ (is : effect.Changed ≡ effect.Unchanged). absurd (let z = is in cc)),
+      ),
+    )
+
+pub returns-in-Unchanged-clause-takes : goal.returns-in-Unchanged-clause-takes
+returns-in-Unchanged-clause-takes c =
+    let done = c.in_ok-apply.ensures in
+    let told = done.told in
+    let reply = subst (λ (e : LineEffect). RepliesTo c.args.line.now c.args.self.now.session c.apply.new.self e told.0) c.in-Unchanged.is told.2.0 in (
+      told.0,
+      told.1,
+      (
+        (λ (is : effect.Unchanged ≡ effect.Changed). absurd (let z = is in cc)),
+        (λ (is : effect.Unchanged ≡ effect.Changed). absurd (let z = is in cc)),
+        (λ (is : effect.Unchanged ≡ effect.Changed). absurd (let z = is in cc)),
+        (λ _. done.unchanged c.in-Unchanged.is),
+        (λ _. reply),
+      ),
+    )
