@@ -11,7 +11,7 @@ import time
 from pathlib import Path
 
 from cluster.controllers.bugs import BUGS as CONTROLLER_BUGS
-from cluster.faults.story import NotOpened
+from cluster.faults.reopenings import NotOpened
 from cluster.launch.cluster import ROUGH, program_of
 from cluster.launch.operator import NoLeader
 from cluster.launch.processes import NotReady

@@ -19,7 +19,7 @@ from pathlib import Path
 
 from cluster.controllers.etcd import EtcdFault
 from cluster.faults.handovers import HandoverStory
-from cluster.faults.story import NotOpened
+from cluster.faults.reopenings import NotOpened
 from cluster.launch.cluster import CALM, ROOT, ROUGH, LocalCluster, program_of
 from cluster.launch.figures import at, handover_waits, in_words, lines_of, order_waits, rate_of, request_waits, unacknowledged
 from cluster.launch.moving import Mover

@@ -15,7 +15,7 @@ from collections import Counter
 from dataclasses import dataclass, field
 from pathlib import Path
 
-from cluster.faults.story import NotOpened
+from cluster.faults.reopenings import NotOpened
 from cluster.launch.cluster import CALM, ROUGH, program_of
 from cluster.launch.operator import NoLeader
 from cluster.launch.processes import NotReady

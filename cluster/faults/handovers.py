@@ -12,7 +12,9 @@ from smplan.control import Line
 
 from cluster.launch.plans import move_stream, plan_of
 
-from .story import Story, without
+from .leaders import LeaderStory
+from .reopenings import without
+from .servers import ServerStory
 
 
 @dataclass(frozen=True)
@@ -39,7 +41,7 @@ def has_all(replicas: list[Replica], written: list[Replica]) -> bool:
     return all(position >= positions[shard] for shard, state, position in replicas if state in roles)
 
 
-class HandoverStory(Story):
+class HandoverStory(LeaderStory, ServerStory):
     """The whole story."""
 
     # A server that is lost.

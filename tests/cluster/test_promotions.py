@@ -10,7 +10,7 @@ from types import SimpleNamespace
 
 ROOT = Path(__file__).resolve().parents[2]
 sys.path[:0] = [str(ROOT), str(ROOT / "python"), str(ROOT / "tools")]
-from cluster.faults.story import Story  # noqa: E402  (the paths come first)
+from cluster.faults.reopenings import ReopeningStory  # noqa: E402  (the paths come first)
 from cluster.launch.plans import move_stream, plan_of, swap_stream  # noqa: E402
 from cluster.launch.shape import Shape  # noqa: E402
 from smpland_model.session import Session  # noqa: E402
@@ -68,7 +68,7 @@ class PromotionTest(unittest.IsolatedAsyncioTestCase):
             operator.answer(2)
         cells = {it["shard"]: [cell["state"] for cell in it["cells"]] for it in operator.state()["shards"]}
         self.assertEqual(cells, {"bare": ["secondary"] * 2, "moved": ["forwarding", "secondary", "prepared"], "swapped": ["secondary"] * 2})
-        story = Story(SimpleNamespace(shape=Shape()), operator, None, 1, lambda text: None)
+        story = ReopeningStory(SimpleNamespace(shape=Shape()), operator, None, 1, lambda text: None)
         story.lost = set("abc")
         await story.promote(operator.state())
         operator.answer()

@@ -1,0 +1,135 @@
+"""Openings and reopenings, and what an operator does when one has left a shard without a primary."""
+from __future__ import annotations
+
+import asyncio
+import time
+from typing import Any
+
+from cluster.controllers.etcd import Etcd, end_of
+from cluster.controllers.journal import PREFIX
+from cluster.launch.plans import plan_of, promote_stream
+
+from smplan.control import Line
+
+from .story import Story
+
+
+class NotOpened(Exception):
+    """The service was not opened, so that there is nothing to move."""
+
+
+class ReopeningStory(Story):
+    """The openings and reopenings of a story."""
+
+    async def begin_reopening(self, line: Line) -> int | None:
+        """Begins a reopening, and returns its base; none if it is refused."""
+        reply = await self.operator.reopen(line)
+        if "fence" in reply:
+            return reply["fence"][0]["base"]
+        self.refusal = reply
+        self.tell(f"reopening refused: {reply}")
+        return None
+
+    async def open(self, journal: str) -> None:
+        """Begins a journal over the servers, which have nothing yet; raises NotOpened if that is refused, or does not come to its end."""
+        if not await self.reopen(self.document, [], "the first opening", journal=journal, epoch=1):
+            raise NotOpened(f"the first opening was refused: {self.refusal}" if self.refusal else "the first opening did not come to its end")
+
+    async def reopen(self, document: Line, lost: list[str], why: str, replaces: bool = False, **more: Any) -> bool:
+        """Reopens, until the opening is in force; tells whether it is. If it `replaces`, it begins again in place of the first one while that is under way."""
+        line = {"do": "reopen", "document": document, "lost": lost, "why": why}
+        base = await self.begin_reopening({**line, **more})
+        if base is not None and replaces:
+            await asyncio.sleep(self.dice.uniform(0.0, 0.4))
+            base = await self.begin_reopening(line) or base
+        if base is None:
+            return False
+        begun = time.monotonic()
+        while time.monotonic() - begun < self.operator.patience:
+            state = (await self.operator.ask({"do": "state"})).get("state", {})
+            if state.get("is") == "open" and state.get("fence") == base:
+                self.counts["reopenings"] += 1
+                self.tell(f"reopened within {time.monotonic() - begun:.1f} s")
+                await self.promote(state)
+                return True
+            await asyncio.sleep(0.1)
+        self.tell("the reopening does not come to its end")
+        return False
+
+    async def wait_until_fenced(self, server: str | None, seconds: float = 8.0) -> bool:
+        """Waits until a server, or the map's owner, has told what it has in a reopening."""
+        until = time.monotonic() + seconds
+        while time.monotonic() < until:
+            told = (await self.operator.ask({"do": "state"})).get("state", {}).get("reopening")
+            if told is not None and server not in told["waiting"]:
+                return True
+            await asyncio.sleep(0.05)
+        return False
+
+    async def open_anew(self) -> None:
+        """A planted bug: the journal is deleted, and a new one of the same name is opened over what is there."""
+        state = await self.state()
+        if not state or "new-journal-without-reopening" not in self.cluster.bugs:
+            return
+        for name in self.cluster.shape.controller_names:
+            await self.cluster.processes[name].kill()
+        etcd = Etcd([("127.0.0.1", port) for _, port in self.cluster.members])
+        await etcd.delete(PREFIX, end_of(PREFIX))
+        await etcd.close()
+        await self.cluster.processes.start(*self.cluster.shape.controller_names)
+        document = without(state, self.document, self.lost)
+        told = await self.operator.do({"do": "open", "document": document, "journal": state["journal"], "epoch": state["epoch"]})
+        self.tell(f"a new journal is opened without a reopening: {'opened' if 'opened' in told else told}")
+
+    # Shards without a primary.
+
+    async def promote(self, state: Line) -> None:
+        """Makes the secondary that has most writes the primary of each shard that a reopening left without one, each by a plan of its own. A shard whose replicas
+        change roles has none for a moment either: then the plan is refused, as a cell is another one by then, or taken, and the shard is looked at again."""
+        promoted: set[str] = set()
+        until = time.monotonic() + self.operator.patience / 6
+        while (bare := without_primary(state, promoted)) and time.monotonic() < until:
+            positions = await self.positions()
+            for shard in bare:
+                plan = plan_of([promote_stream(shard, most_written(shard, positions))])
+                reply = await self.operator.do({"do": "begin", "plan": plan, "name": self.name("promote")})
+                self.tell(f"{shard['shard']} has no primary: {'promoted' if 'begun' in reply else reply}")
+                if "begun" in reply:
+                    promoted.add(shard["shard"])
+            await asyncio.sleep(0.3)
+            state = await self.state()
+        self.counts["secondaries promoted"] += len(promoted)
+
+    async def positions(self) -> dict[tuple[str, str], int]:
+        """Returns the last write of each replica, by shard and server, as the servers tell it."""
+        found = {}
+        for name in sorted(self.alive):
+            for slot in (await self.tell_server(name, audit={})).get("audit", {}).get("slots", []):
+                found[slot["shard"], name] = slot["position"]
+        return found
+
+
+def without_primary(state: Line, promoted: set[str]) -> list[Line]:
+    """Returns the shards that have replicas, and all of them secondaries, but for those that were promoted. (The old owner of a handover is no primary either,
+    and serves its shard.)"""
+    return [it for it in state.get("shards", [])
+            if it["cells"] and it["shard"] not in promoted and all(cell["state"] == "secondary" for cell in it["cells"])]
+
+
+def most_written(shard: Line, positions: dict[tuple[str, str], int]) -> str:
+    """Returns the server whose replica has most writes: another one would lack some that were executed."""
+    return max(sorted(it["server"] for it in shard["cells"]), key=lambda name: positions.get((shard["shard"], name), -1))
+
+
+def without(state: Line, document: Line, lost: set[str]) -> Line:
+    """The document of a reopening without servers that are lost. Its cells count for servers alone that have forgotten theirs: those that are recorded."""
+    recorded = {it["shard"]: it["cells"] for it in state.get("shards", [])}
+    shards = []
+    for shard in document["shards"]:
+        cells = [
+            {"server": it["server"], "state": it["state"]} for it in recorded.get(shard["name"], shard["cells"])
+            if it["server"] not in lost and it["state"] in ("primary", "secondary")
+        ]
+        listed = next((it["server"] for it in cells if it["state"] == "primary"), None)
+        shards.append({**shard, "cells": cells, "listed": listed})
+    return {**document, "servers": [it for it in document["servers"] if it["name"] not in lost], "shards": shards}
