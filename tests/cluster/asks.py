@@ -29,6 +29,7 @@ async def asks_behind_a_fence() -> bool:
         await it.start()
         await it.open(CELLS)
         it.kill("c")
+        it.asked.clear()
         await it.start("c", loses_slots=True)
         first = await nonce_of(it, "c", None)
         told = (await it.channels["c"].ask(5, fence={"server": "c", "base": it.base, "journal": JOURNAL}))["fenced"]
