@@ -142,6 +142,7 @@ class Following:
                 if "write" in message:
                     writes.append(Entry.of(message["write"]))
                 elif "tail" in message:
+                    self.shard.away = {}
                     writes += map(Entry.of, message["tail"])
                 else:
                     await self.apply(writes)
@@ -166,8 +167,10 @@ class Following:
                 shard.members = set(members)
             if "joined" in message:
                 self.joined.set()
+        elif "away" in message:
+            shard.away = message["away"]
         elif "seal" in message:
-            await self.server.seal(shard, message["seal"]["handover"], message["seal"]["cut"])
+            await self.server.seal(shard, **message["seal"])
         elif "moved" in message:
             raise Elsewhere(message["moved"]["to"])
         else:
@@ -178,7 +181,7 @@ class Following:
         shard = self.shard
         commands = await self.store.copy_commands(shard.name, copy)
         await self.store.save(commands, "copy", shard=shard.name, source=source, position=copy["position"])
-        shard.position, shard.chain, shard.members = copy["position"], copy["chain"], set(copy["members"])
+        shard.position, shard.chain, shard.members, shard.away = copy["position"], copy["chain"], set(copy["members"]), {}
         self.is_fresh = False
 
     async def apply(self, entries: list[Entry]) -> None:

@@ -163,7 +163,7 @@ class Reopenings:
         if slot.cell != Cell.PRIMARY:
             self.server.sources.close(shard)
         else:
-            shard.seen = {it: time.monotonic() for it in shard.members}
+            shard.expect(shard.members)
         if slot.cell == Cell.ABSENT:
             shard.position, shard.chain, shard.members = 0, "", set()
 

@@ -144,7 +144,7 @@ class Requests:
         executes behind it must not follow the old owner any more."""
         slot = shard.slot
         if slot.cell == Cell.PREPARED and (slot.party, slot.handover) == (how.party, how.handover) and not slot.has_cut:
-            await self.server.seal(shard, how.handover, how.cut)
+            await self.server.seal(shard, how.handover, how.cut, {})
 
     def route(self, shard: Shard, how: Request) -> tuple[Answer, Request]:
         """Where a request is executed."""

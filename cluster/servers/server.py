@@ -119,10 +119,10 @@ class Server:
         if shard.following is not None:
             shard.following.stop(leaves)
 
-    async def seal(self, shard: Shard, handover: int, cut: int) -> None:
-        """Takes the old owner's cut, from its stream of writes or with a request that it passes on. From then on the
-        old owner is to have all that is executed here, and so are the other members, who have yet to come. The shard's
-        lock is held."""
+    async def seal(self, shard: Shard, handover: int, cut: int, away: dict[str, float]) -> None:
+        """Takes the old owner's cut, from its stream of writes, which also tells who is away, or with a request that it
+        passes on. From then on the old owner is to have all that is executed here, and so are the other members, who
+        have yet to come. The shard's lock is held."""
         after = agent.seal(shard.slot, handover, cut)
         if after == shard.slot:
             return
@@ -131,8 +131,8 @@ class Server:
         commands = self.store.slot_commands(shard.name, after) + self.store.member_commands(shard.name, members)
         commands.append(("HSET", "old_owner", shard.name, old_owner))
         await self.store.save(commands, "seal", shard=shard.name, handover=handover, cut=cut, position=shard.position)
-        shard.slot, shard.members, shard.old_owner = after, members, old_owner
-        shard.seen = {it: time.monotonic() for it in members}
+        shard.slot, shard.members, shard.old_owner, shard.away = after, members, old_owner, away
+        shard.expect(members)
 
     async def serve_peer(self, reader: asyncio.StreamReader, writer: asyncio.StreamWriter) -> None:
         """Serves another server: a connection for one stream of writes, or for requests."""
@@ -218,6 +218,7 @@ class Server:
         """Work and running requests of the shard come to nothing."""
         self.orders.drop_work(shard, why)
         shard.term += 1
+        shard.away = {}
         shard.wake()
 
     async def audit(self, _: Message) -> Message:

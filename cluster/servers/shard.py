@@ -66,10 +66,19 @@ class Shard:
     is_held: bool = False
     streams: dict[str, "Stream"] = field(default_factory=dict)
     seen: dict[str, float] = field(default_factory=dict)
+    # (for how many seconds each member that was not connected had been away when the last primary ceased to be it; the
+    # next one does not wait for it anew. Empty once another source was followed, or the slots were set)
+    away: dict[str, float] = field(default_factory=dict)
     following: "Following | None" = None
     work: "Work | None" = None
     source: str | None = None
     term: int = 0
+
+    def expect(self, members: set[str]) -> None:
+        """Begins as a source: who was connected to the one before has yet to come; who was away is away."""
+        now = time.monotonic()
+        self.seen = {it: now - self.away.get(it, 0.0) for it in members}
+        self.away = {}
 
     def wake(self) -> None:
         """Lets all who wait look again."""

@@ -129,16 +129,23 @@ class Sources:
 
     def seal(self, shard: Shard) -> Message:
         """The end of the stream to the new owner."""
-        return {"seal": {"handover": shard.slot.handover, "cut": shard.slot.cut}}
+        return {"seal": {"handover": shard.slot.handover, "cut": shard.slot.cut, "away": shard.away}}
 
     def end(self, shard: Shard) -> None:
         """The shard is handed over: the new owner gets the cut, and the others are told where to go."""
-        party = self.server.party(shard)
+        party, shard.away = self.server.party(shard), self.away(shard)
         for stream in list(shard.streams.values()):
             if stream.name == party:
                 stream.send(self.seal(shard))
             else:
                 stream.send({"moved": {"to": party}})
+
+    def retire(self, shard: Shard) -> None:
+        """The primary becomes a secondary: who follows, and may be the next one, is told who is away."""
+        away = {"away": self.away(shard)}
+        for stream in shard.streams.values():
+            stream.send(away)
+        self.close(shard)
 
     def close(self, shard: Shard) -> None:
         """It is the source of the shard no longer."""
@@ -157,6 +164,11 @@ class Sources:
             if is_firm or now - shard.seen.get(name, self.start) < limits.DEAD_AFTER:
                 lacking.append(name)
         return lacking
+
+    def away(self, shard: Shard) -> dict[str, float]:
+        """For how many seconds each member that is not connected has not been."""
+        now = time.monotonic()
+        return {it: now - shard.seen.get(it, self.start) for it in shard.members - {self.server.name} if it not in shard.streams}
 
     def without(self, shard: Shard, position: int) -> list[str]:
         """Who ought to have the writes up to a position, and has not acknowledged them, alive or not."""

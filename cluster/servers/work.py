@@ -257,7 +257,7 @@ class Orders:
         if cell == Cell.PRIMARY:
             server.stop_following(shard)
             if before == Cell.SECONDARY:
-                shard.seen = {it: time.monotonic() for it in shard.members}
+                shard.expect(shard.members)
         elif cell == Cell.FORWARDING:
             server.sources.end(shard)
             server.start_following(shard)
@@ -265,7 +265,7 @@ class Orders:
             server.stop_following(shard, leaves=True)
             server.sources.close(shard)
         elif before == Cell.PRIMARY:
-            server.sources.close(shard)
+            server.sources.retire(shard)
             server.start_following(shard)
         elif shard.following is None:
             server.start_following(shard)

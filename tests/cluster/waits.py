@@ -1,0 +1,83 @@
+"""A secondary that is killed is waited for once, for three seconds: not anew by each new owner of its shard, be it by a
+handover or a change of roles. Who was connected until a handover is waited for behind it.
+
+`python3 tests/cluster/waits.py`
+"""
+from __future__ import annotations
+
+import asyncio
+import sys
+import time
+
+from scripted import Scripted
+
+from cluster.resp import Redis
+from cluster.servers.limits import DEAD_AFTER
+
+CELLS = {"s": {"a": "primary", "c": "secondary", "d": "secondary", "e": "secondary"}}
+# What a write takes at most beside the wait for who is away.
+QUICK = 1.5
+
+
+async def push(it: Scripted, server: str, value: str) -> float:
+    """Pushes a value at the shard's owner, and returns for how many seconds that waited."""
+    redis, begun = await Redis.open_port("127.0.0.1", it.cluster.servers[server].clients.port), time.monotonic()
+    try:
+        async with asyncio.timeout(10):
+            await redis.call("DO", value, "RPUSH", "s:k", value)
+        return time.monotonic() - begun
+    finally:
+        redis.close()
+
+
+async def exchange(it: Scripted, old: str, new: str, replicas: list[str]) -> None:
+    """A primary and a secondary exchange their roles."""
+    more = {"primary": old, "replicas": replicas}
+    await it.send(it.order(old, "change", "s", **{"from": "primary"}, to="secondary", **more))
+    await it.send(it.order(new, "change", "s", **{"from": "secondary"}, to="primary", **more))
+
+
+async def waits() -> dict[str, bool]:
+    """What is found of the waits."""
+    it = Scripted("abcde")
+    try:
+        return await found_of(it)
+    finally:
+        it.close()
+
+
+async def found_of(it: Scripted) -> dict[str, bool]:
+    """What is found of the waits at servers that this starts."""
+    found = {}
+    await it.start()
+    await it.open(CELLS)
+    await asyncio.sleep(1)
+    found["a write waits for nobody who is there"] = await push(it, "a", "1") < QUICK
+    it.kill("c")
+    killed = time.monotonic()
+    await push(it, "a", "2")
+    found["a write waits for a secondary that was killed"] = time.monotonic() - killed > DEAD_AFTER - 0.2
+    await it.move("s", "a", "b", ["a", "d", "e"])
+    found["the new owner of a handover does not wait for it anew"] = await push(it, "b", "3") < QUICK
+    await asyncio.sleep(1)
+    await exchange(it, "b", "d", ["b", "d", "e"])
+    found["nor does a secondary that becomes the primary"] = await push(it, "d", "4") < QUICK
+    await asyncio.sleep(1)
+    it.kill("e")
+    killed = time.monotonic()
+    await it.move("s", "d", "a", ["b", "d"])
+    await push(it, "a", "5")
+    found["who was connected until a handover is waited for behind it"] = time.monotonic() - killed > DEAD_AFTER - 0.2
+    return found
+
+
+def main() -> int:
+    """Runs it, and returns 0 if all is so."""
+    found = asyncio.run(waits())
+    for what, is_so in found.items():
+        print(f"{what}: {'so' if is_so else 'NOT SO'}")
+    return 0 if all(found.values()) else 1
+
+
+if __name__ == "__main__":
+    sys.exit(main())
