@@ -10,8 +10,8 @@ from ..wire import Cluster
 from .load import Generator, Load
 
 
-def arguments() -> argparse.Namespace:
-    """Reads the command line."""
+def load_of(words: list[str] | None = None) -> tuple[argparse.Namespace, Load]:
+    """Reads the command line, and returns how much it asks for, too."""
     parser = argparse.ArgumentParser(prog="cluster.clients", description="Pushes and reads lists all the time.")
     parser.add_argument("--cluster", required=True)
     parser.add_argument("--shards", required=True, help="names, with commas between")
@@ -23,13 +23,14 @@ def arguments() -> argparse.Namespace:
     parser.add_argument("--stray", type=float, default=0.02, help="how many attempts go to any server")
     parser.add_argument("--pause", type=float, default=0, help="seconds between a client's requests")
     parser.add_argument("--seed", type=int, default=1)
-    return parser.parse_args()
+    told = parser.parse_args(words)
+    names = ("clients", "keys", "reads", "stray", "pause", "seed")
+    return told, Load(tuple(told.shards.split(",")), **{it: getattr(told, it) for it in names})
 
 
 async def main() -> None:
     """Runs the clients, and prints the figures."""
-    told = arguments()
-    load = Load(tuple(told.shards.split(",")), told.clients, told.keys, told.reads, told.stray, told.pause, told.seed)
+    told, load = load_of()
     with open(told.history, "w", encoding="utf-8") as history:
         generator = Generator(Cluster.read(told.cluster), load, history)
         stopping, loop = asyncio.Event(), asyncio.get_running_loop()
