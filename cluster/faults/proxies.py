@@ -246,8 +246,9 @@ class Side(asyncio.Protocol):
                 side.transport.close()
 
 
-# The connections that are being made.
+# The connections that are being made, and those that are carried (the loop alone would not keep one whose near end is gone).
 CALLING: set[asyncio.Task[None]] = set()
+CARRYING: set[asyncio.Task[None] | None] = set()
 RELAYS: dict[str, Relay] = {"lines": relay_line_pairs, "http": relay_http}
 
 
@@ -257,7 +258,8 @@ async def open_proxy(port: int, relay: str, link: Link) -> asyncio.Server:
         return await asyncio.get_running_loop().create_server(lambda: Side(link), "127.0.0.1", port)
 
     async def carry(reader: Reader, writer: Writer) -> None:
-        far_writer = None
+        far_writer, task = None, asyncio.current_task()
+        CARRYING.add(task)
         try:
             if link.is_cut:
                 return
@@ -269,4 +271,5 @@ async def open_proxy(port: int, relay: str, link: Link) -> asyncio.Server:
             writer.close()
             if far_writer is not None:
                 far_writer.close()
+            CARRYING.discard(task)
     return await asyncio.start_server(carry, "127.0.0.1", port, limit=LONGEST_LINE)

@@ -1,5 +1,6 @@
 """The proxies, and the figures of a run."""
 import asyncio
+import gc
 import json
 import logging
 import unittest
@@ -7,6 +8,8 @@ from collections import Counter
 from types import SimpleNamespace
 
 from cluster.catch import PARTS, PARTS_OF
+from cluster.clients.__main__ import load_of
+from cluster.clients.load import Load
 from cluster.faults.__main__ import release, sending
 from cluster.faults.dice import Dice, Rates
 from cluster.faults.handovers import HandoverStory
@@ -104,6 +107,36 @@ class ProxyTest(unittest.IsolatedAsyncioTestCase):
         proxy.close()
         ports.end()
 
+    async def test_held_request_arrives_though_nobody_waits_for_its_answer(self):
+        ports, asked, counts = Ports(), [], Counter()
+        far, near = ports.take(2)
+        answers = asyncio.Event()
+
+        async def answer(reader, writer):
+            """Answers one request once it may."""
+            asked.append(await reader.readuntil(b"\r\n\r\n"))
+            await answers.wait()
+            text = b'{"succeeded":true}'
+            writer.write(b"HTTP/1.1 200 OK\r\nContent-Length: %d\r\n\r\n%b" % (len(text), text))
+            writer.close()
+
+        server = await asyncio.start_server(answer, "127.0.0.1", far)
+        link = Link("etcd k a", Dice(1, "etcd k a", Rates(), counts), "127.0.0.1", far, held=(b"/v3",))
+        proxy = await open_proxy(near, "http", link)
+        _, writer = await asyncio.open_connection("127.0.0.1", near)
+        writer.write(b"POST /v3/kv/txn HTTP/1.1\r\n\r\n")
+        await self.until(lambda: counts["etcd held"])
+        writer.close()
+        await asyncio.sleep(0.1)
+        link.held = ()
+        await self.until(lambda: asked)
+        gc.collect()
+        answers.set()
+        await self.until(lambda: counts["etcd held and then done"])
+        server.close()
+        proxy.close()
+        ports.end()
+
     async def lines_through(self, rates, count=200, seed=1):
         """What comes back of some lines."""
         counts = Counter()
@@ -189,6 +222,15 @@ class PortsTest(unittest.TestCase):
         self.assertEqual(len(guards), 2)
         self.assertFalse(set(guards) & set(others))
         other.end()
+
+
+class LoadTest(unittest.TestCase):
+    """How much is asked for."""
+
+    def test_each_word_says_what_it_names(self):
+        words = "--cluster f --history h --shards s,t --clients 3 --keys 4 --reads 0.5 --stray 0.25 --pause 0.75 --seed 1001"
+        _, load = load_of(words.split())
+        self.assertEqual(load, Load(shards=("s", "t"), clients=3, keys=4, reads=0.5, stray=0.25, pause=0.75, seed=1001))
 
 
 class PartsTest(unittest.TestCase):
