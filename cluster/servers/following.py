@@ -61,10 +61,12 @@ class Following:
         cell = self.shard.slot.cell
         if cell in (Cell.PREPARED, Cell.FORWARDING):
             return self.server.party(self.shard)
-        if self.hint is not None and self.hint != self.server.name and self.tries % 2 == 0:
-            return self.hint
-        names = sorted(it for it in self.server.cluster.servers if it != self.server.name)
-        return names[self.tries // 2 % len(names)]
+        names, turn = sorted(it for it in self.server.cluster.servers if it != self.server.name), self.tries
+        if self.hint in names:
+            turn, is_others = divmod(self.tries, 2)
+            if not is_others:
+                return self.hint
+        return names[turn % len(names)]
 
     async def run(self) -> None:
         """Follows one source after the other."""

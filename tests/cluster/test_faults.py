@@ -19,7 +19,9 @@ from cluster.launch.moving import Mover
 from cluster.launch.processes import Ports
 from cluster.launch.shape import Shape, document_of
 from cluster.launch.situations import SITUATIONS, situations_of
+from cluster.servers.following import Following
 from cluster.storm import parts_of
+from smplan.agent import Cell, Slot
 
 
 async def echo(reader, writer):
@@ -243,6 +245,23 @@ class PartsTest(unittest.TestCase):
     def test_servers_restarted_without_leave_lose_their_slots(self):
         names = [name for _, name in PARTS_OF["restart-without-approval"]]
         self.assertEqual((names.count("forget"), names.count("restart_server")), (3, 0))
+
+
+class SourceTest(unittest.TestCase):
+    """Whom a secondary asks for its shard's writes."""
+
+    def asked(self, hint, tries):
+        following = object.__new__(Following)
+        following.server, following.hint = SimpleNamespace(name="b", cluster=SimpleNamespace(servers=dict.fromkeys("abcd"))), hint
+        following.shard = SimpleNamespace(slot=Slot(cell=Cell.SECONDARY))
+        found = []
+        for following.tries in range(tries):
+            found.append(following.source())
+        return "".join(found)
+
+    def test_each_of_the_others_is_asked_in_turn(self):
+        self.assertEqual((self.asked(None, 6), self.asked("b", 6)), ("acdacd", "acdacd"))
+        self.assertEqual(self.asked("c", 6), "cacccd")
 
 
 class LossTest(unittest.IsolatedAsyncioTestCase):
