@@ -51,6 +51,11 @@ WORKERS_OF = {"fence-while-passed": 1, "cut-unheeded": 1, "commit-after-fence": 
 NO_END = "the run did not come to its end"
 
 
+def most_telling(faults: list[str]) -> str | None:
+    """Returns what a checker found, if one did: that something has not ended or is not shown yet is what a busy machine may do, too."""
+    return min(faults, key=lambda it: (not it.startswith(("servers: ", "clients: ")), it.startswith("plans that have not")), default=None)
+
+
 async def first_violation(bug: str, seed: int, told: argparse.Namespace) -> str | None:
     """Runs once with a bug, or as it would be with the bug, and returns the first violation."""
     directory = Path(tempfile.mkdtemp(prefix=f"catch-{bug}-", dir="/dev/shm" if os.access("/dev/shm", os.W_OK) else None))
@@ -61,8 +66,7 @@ async def first_violation(bug: str, seed: int, told: argparse.Namespace) -> str 
                         pause=told.pause, is_quiet=True, swaps=swaps, is_busy=told.busy, ending=25.0, patience=40.0)
     try:
         result = await Run(settings).run()
-        # (that plans do not end is what a busy machine may do, too)
-        return min(result.verdict.faults, key=lambda it: it.startswith("plans that have not"), default=None)
+        return most_telling(result.verdict.faults)
     except (NotReady, NotOpened, NoLeader, Failed, OSError, TimeoutError) as why:
         return f"{NO_END}: {type(why).__name__} {why}"
     finally:

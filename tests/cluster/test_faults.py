@@ -7,7 +7,7 @@ import unittest
 from collections import Counter
 from types import SimpleNamespace
 
-from cluster.catch import PARTS, PARTS_OF
+from cluster.catch import PARTS, PARTS_OF, most_telling
 from cluster.clients.__main__ import load_of
 from cluster.clients.load import Load
 from cluster.faults.__main__ import release, sending
@@ -241,6 +241,10 @@ class PartsTest(unittest.TestCase):
     def test_there_is_something_to_do_each(self):
         for parts in (PARTS, *PARTS_OF.values(), *(parts_of(seed) for seed in range(6))):
             self.assertEqual([name for _, name in parts if name != "drain" and not hasattr(HandoverStory, name)], [])
+
+    def test_what_a_checker_found_is_told_first(self):
+        slow = ["plans that have not come to their end: p", "the map names a for s, and is to name b"]
+        self.assertEqual([most_telling(it) for it in ([*slow, "servers: a"], slow, [])], ["servers: a", slow[1], None])
 
     def test_servers_restarted_without_leave_lose_their_slots(self):
         names = [name for _, name in PARTS_OF["restart-without-approval"]]
