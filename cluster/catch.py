@@ -42,7 +42,9 @@ PARTS_OF = {
 SWAPS_OF = {"change-while-writing": 0.9, "no-numbers": 0.5}
 # What befalls messages, if not the same as otherwise: an order that is not told by its number does harm if a copy of it comes when its cell is there again.
 MANY_COPIES = {**ROUGH, "order": {**ROUGH["order"], "repeat": 0.5}}
-RATES_OF = {"no-numbers": MANY_COPIES, "slot-deleted": MANY_COPIES}
+# Nobody is asked twice unless a reply is lost.
+MANY_LOSSES = {**ROUGH, "client": {**ROUGH["client"], "drop": 0.02}}
+RATES_OF = {"no-numbers": MANY_COPIES, "slot-deleted": MANY_COPIES, "no-identities": MANY_LOSSES}
 # How many plans there are at once, if not as many as otherwise. (then there are shards that the parts can hand over)
 WORKERS_OF = {"fence-while-passed": 1, "cut-unheeded": 1, "commit-after-fence": 2, "settle-twice": 2}
 

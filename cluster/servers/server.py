@@ -168,13 +168,13 @@ class Server:
 
     def think(self, shard: Shard, how: Request) -> float:
         """How long a request runs before it changes anything. With some bugs it takes long enough to see them."""
-        slow = {"drop-while-writing": 0.1, "change-while-writing": 0.1, "fence-while-passed": how.is_passed and 0.6}
+        slow = {"drop-while-writing": 0.3, "change-while-writing": 0.1, "fence-while-passed": how.is_passed and 0.6}
         longest = self.longest_think or slow.get(self.bug, 0)
         return random.random() * longest if longest else 0
 
     def lag(self, shard: Shard) -> float:
         """How late it is, at most, with the writes that it follows."""
-        slow = {"add-without-cut": 0.3 if shard.slot.cell == Cell.PREPARED else 0}
+        slow = {"add-without-cut": 0.6 if shard.slot.cell == Cell.PREPARED else 0}
         return self.longest_lag or slow.get(self.bug, 0)
 
     # -- messages of the controller
