@@ -46,7 +46,9 @@ MANY_COPIES = {**ROUGH, "order": {**ROUGH["order"], "repeat": 0.5}}
 MANY_LOSSES = {**ROUGH, "client": {**ROUGH["client"], "drop": 0.02}}
 RATES_OF = {"no-numbers": MANY_COPIES, "slot-deleted": MANY_COPIES, "no-identities": MANY_LOSSES}
 # How many plans there are at once, if not as many as otherwise. (then there are shards that the parts can hand over)
-WORKERS_OF = {"fence-while-passed": 1, "cut-unheeded": 1, "commit-after-fence": 2, "settle-twice": 2}
+WORKERS_OF = {"fence-while-passed": 1, "cut-unheeded": 1, "commit-after-fence": 4, "settle-twice": 2}
+# How many moves a plan has at most, if not as many as otherwise. (a plan of many stands still where one of its servers hears no order, and then no order is at work)
+MOVES_OF = {"commit-after-fence": 1}
 
 
 # The words for a run that gave no verdict.
@@ -65,7 +67,7 @@ async def first_violation(bug: str, seed: int, told: argparse.Namespace) -> str 
     parts, swaps = PARTS_OF.get(bug, PARTS), SWAPS_OF.get(bug, 0.2)
     rates = RATES_OF.get(bug, ROUGH)
     settings = Settings(directory, shape, program_of(told.program), told.seconds, rates, parts, () if told.sound else (bug,), WORKERS_OF.get(bug, 3),
-                        pause=told.pause, is_quiet=True, swaps=swaps, is_busy=told.busy, ending=25.0, patience=40.0)
+                        MOVES_OF.get(bug, 4), pause=told.pause, is_quiet=True, swaps=swaps, is_busy=told.busy, ending=25.0, patience=40.0)
     try:
         result = await Run(settings).run()
         return most_telling(result.verdict.faults)
