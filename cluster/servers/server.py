@@ -216,7 +216,8 @@ class Server:
 
     def end_term(self, shard: Shard, why: str) -> None:
         """Work and running requests of the shard come to nothing."""
-        self.orders.drop_work(shard, why)
+        if self.bug != "commit-after-fence":
+            self.orders.drop_work(shard, why)
         shard.term += 1
         shard.away = {}
         shard.wake()

@@ -131,8 +131,8 @@ class Orders:
     def slowness(self, shard: Shard, order: Order) -> float:
         """With some bugs work takes long enough to see them."""
         takes_over = order.call == Call.ADD and shard.slot.cell == Cell.PREPARED
-        slow = {"commit-after-fence": 3.0, "fence-while-passed": takes_over and 1.5}
-        return random.random() * slow.get(self.server.bug, 0)
+        is_slow = self.server.bug == "commit-after-fence" or (self.server.bug == "fence-while-passed" and takes_over)
+        return random.random() * 1.5 if is_slow else 0
 
     async def give_up(self, shard: Shard, work: Work, why: str) -> None:
         """Abandons work that is still at work."""
