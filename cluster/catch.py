@@ -36,7 +36,7 @@ PARTS_OF = {
     "fence-while-passed": REOPENINGS,
     "commit-after-fence": REOPENINGS,
     "settle-twice": REOPENINGS,
-    "cut-unheeded": ((0.05, "break_following"), (0.3, "break_following"), (0.6, "break_following")),
+    "cut-unheeded": tuple((share, "break_following") for share in (0.05, 0.2, 0.35, 0.5, 0.65, 0.8)),
 }
 # How many of the moves are changes of roles, if not as many as otherwise.
 SWAPS_OF = {"change-while-writing": 0.9, "no-numbers": 0.5}
