@@ -3,7 +3,7 @@ from __future__ import annotations
 
 import asyncio
 import json
-from collections.abc import Mapping
+from collections.abc import Awaitable, Callable, Mapping
 from typing import Any
 
 from smplan.control import Line
@@ -50,16 +50,23 @@ class Operator:
 
     async def do(self, line: Line, timeout: float = 2.5, path: str = "/do") -> Line:
         """Has the leader store and feed a line, and returns the reply. It goes to the next controller if none comes within the timeout."""
+        async def post() -> Line | None:
+            asked = self.leader
+            reply = await self.post(asked, path, line, timeout)
+            if reply is None:
+                self.turn(asked)
+            return reply
+        return await self.until_answered(post, line.get("do", path))
+
+    async def until_answered(self, post: Callable[[], Awaitable[Line | None]], what: str) -> Line:
+        """Posts a line again and again until there is a reply."""
         try:
             async with asyncio.timeout(self.patience):
-                while True:
-                    reply = await self.post(self.leader, path, line, timeout)
-                    if reply is not None:
-                        return reply
-                    self.turn()
+                while (reply := await post()) is None:
                     await asyncio.sleep(0.05)
+                return reply
         except TimeoutError:
-            raise NoLeader(f"no controller took the line {line.get('do', path)} within {self.patience:g} s") from None
+            raise NoLeader(f"no controller took the line {what} within {self.patience:g} s") from None
 
     async def restarted(self, permit: int) -> Line:
         """Has the leader ask the server that has this permit for its base, for which it waits 5 s, and end the restart."""
@@ -67,22 +74,26 @@ class Operator:
 
     async def reopen(self, line: Line) -> Line:
         """Has a reopening begun. Each further `reopen` begins it anew, so this one goes to who leads, and waits long for the reply."""
-        await self.find_leader()
-        return await self.do(line, self.patience / 4)
+        async def post() -> Line | None:
+            leader = await self.find_leader()
+            return None if leader is None else await self.post(leader, "/do", line, self.patience / 4)
+        return await self.until_answered(post, "reopen")
 
     async def ask(self, line: Line) -> Line:
         """Asks the controller that led last, or any that answers."""
         for _ in range(2 * len(self.pages)):
-            reply = await self.post(self.leader, "/ask", line)
+            asked = self.leader
+            reply = await self.post(asked, "/ask", line)
             if reply is not None:
                 return reply
-            self.turn()
+            self.turn(asked)
         return {}
 
-    def turn(self) -> None:
-        """Speaks with the next controller from now on."""
+    def turn(self, asked: str) -> None:
+        """Speaks with the controller behind the one that was asked from now on, unless another one was found meanwhile."""
         names = list(self.pages)
-        self.leader = names[(names.index(self.leader) + 1) % len(names)]
+        if self.leader == asked:
+            self.leader = names[(names.index(asked) + 1) % len(names)]
 
     async def find_leader(self) -> str | None:
         """Asks controllers whether they lead, and speaks with the one that does from now on; none if nobody does."""

@@ -16,6 +16,7 @@ from cluster.faults.handovers import HandoverStory
 from cluster.faults.proxies import Link, open_proxy
 from cluster.launch.figures import handover_waits, order_waits, unacknowledged
 from cluster.launch.moving import Mover
+from cluster.launch.operator import Operator
 from cluster.launch.processes import Ports
 from cluster.launch.shape import Shape, document_of
 from cluster.launch.situations import SITUATIONS, situations_of
@@ -233,6 +234,34 @@ class LoadTest(unittest.TestCase):
         words = "--cluster f --history h --shards s,t --clients 3 --keys 4 --reads 0.5 --stray 0.25 --pause 0.75 --seed 1001"
         _, load = load_of(words.split())
         self.assertEqual(load, Load(shards=("s", "t"), clients=3, keys=4, reads=0.5, stray=0.25, pause=0.75, seed=1001))
+
+
+class OperatorTest(unittest.IsolatedAsyncioTestCase):
+    """Three controllers: k0 follows, k1 is stopped, and k2 leads."""
+
+    def operator(self, leader):
+        """An operator that speaks with this one, and for whom others find k2 while k1 does not answer. The lines that it sends are noted."""
+        operator, posted = Operator({"k0": 1, "k1": 2, "k2": 3}, 5.0), []
+
+        async def post(name, path, line, timeout=2.5):
+            posted.append((name, path))
+            if name == "k1":
+                operator.leader = "k2"
+                return None
+            return {"leads": name == "k2"} if path == "/leads" else {"done": name} if name == "k2" else None
+
+        operator.post, operator.leader = post, leader
+        return operator, posted
+
+    async def test_a_leader_that_others_found_is_not_passed_over(self):
+        operator, posted = self.operator("k1")
+        self.assertEqual(await operator.do({"do": "approve"}), {"done": "k2"})
+        self.assertEqual(posted, [("k1", "/do"), ("k2", "/do")])
+
+    async def test_a_reopening_goes_to_who_leads(self):
+        operator, posted = self.operator("k0")
+        self.assertEqual(await operator.reopen({"do": "reopen"}), {"done": "k2"})
+        self.assertEqual([it for it in posted if it[1] == "/do"], [("k2", "/do")])
 
 
 class PartsTest(unittest.TestCase):
