@@ -1,4 +1,4 @@
--- What is told of a line that is no command: the kind of its fault, where that lies, and the same in words.
+-- A reply to a line that is no command tells the kind of its fault, where the fault lies, and both in words.
 -- `told_first` is internal: you need not read it for the public contracts.
 use Rattle.std.specs.Prelude.{ℕ, List, [], ◌++◌, Option, Some, None, codes, decimal, nat_lt, if◌then◌else◌}
 use Rattle.json.specs.Token.{Token}

@@ -36,7 +36,7 @@ pub eased_config : (old new : Setup) (servers : List Server) (shards : List Shar
     AreEasedBelow (length old.shards) old.shards (map shard_row shards) → IsEased old new
 eased_config old new servers shards is same eased = subst (IsEased old) (sym is) (record { servers = same; shards = eased })
 
--- a shard of the same name and numbers, of which more may be away
+-- the shard has the same name and numbers, but more of it may be away
 pub eased_shard : (old : ShardRow) (name : List ℕ) (cap : ℕ) → name ≡ old.name → old.cap ≤ cap →
     IsEasedShard old (record { name = name; load = old.load; want = old.want; cap = cap; spread = old.spread })
 eased_shard old name cap same more = record { same = ap (λ (n : List ℕ). record old { name = n; cap = cap }) same; more = more }

@@ -6,7 +6,7 @@ use Rattle.sm_protocol.specs.Hand.{without_first}
 use Rattle.sm_machine.specs.Hand.{IsFirstPlace}
 
 module _ {T : Type 0} (test : T → Bool) where
-  -- the first place of a list, told of one that is equal to it
+  -- a list has the same first place as one that is equal to it
   pub first_in : (xs ys : List T) (o p : Option ℕ) → xs ≡ ys → o ≡ p → IsFirstPlace test xs o → IsFirstPlace test ys p
   first_in xs ys o p e f h = subst (λ zs. IsFirstPlace test zs p) e (subst (IsFirstPlace test xs) f h)
 

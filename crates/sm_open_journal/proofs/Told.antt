@@ -1,4 +1,4 @@
--- What a server is told that has lost all it had.
+-- Replies to a server that has lost all it had.
 use Rattle.std.proofs.Common.{◌≡◌, ◌++◌, ◌∷◌, [], ℕ, List, Option, Some, Result, Ok, Err, IfSome, OnOk, codes, subst}
 use Rattle.json.specs.Token.{Token, key}
 use Rattle.sm_driver.specs.Driver.{DriverModel}

@@ -24,7 +24,7 @@ const WHEN: Rule = Rule::One(Member::When, Form::When);
 
 const MORE: Rule = Rule::One(Member::More, Form::Whole(MOST_CALLS));
 
-/// What an object says by its word: the rules for its members, if the word is one of an event, and the event.
+/// An event that an object says by its word, with the rules for its members. A word of no event has no rules.
 #[derive(Drop)]
 struct Worded {
     rules: Option<&'static [Rule]>,

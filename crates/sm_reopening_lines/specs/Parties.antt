@@ -15,7 +15,7 @@ abbrev pub party_name : Setup → Party → Option (List ℕ)
 party_name numbering (Server v) = Some (server_text numbering v)
 party_name numbering MapOwner = None
 
--- to whom a message goes, and in which reopening of which journal
+-- the party that a message goes to, with the journal and the base of its reopening
 abbrev pub addressed_members : List ℕ → ReopeningModel → Party → List Token
 addressed_members journal r p =
     name_member (codes "server") (party_name r.numbering p)

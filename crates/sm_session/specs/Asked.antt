@@ -88,8 +88,8 @@ abbrev pub StaysUnderWay : (ReopeningModel → ReopeningModel → Type 0) → Op
 StaysUnderWay P (Some old) (Some new) = P old.reopening new.reopening
 StaysUnderWay P old new = ⊥
 
--- The effect of a command that changed something. A command of a reopening begins one; or the one under way takes by it an answer to a fence, a
--- confirmation, or an answer to a settle, by the last of which it comes in force.
+-- The effect of a command that changed something. A command of a reopening begins one. Otherwise the one under way takes an answer to a fence, a
+-- confirmation or an answer to a settle. With the last such answer it comes in force.
 abbrev pub Does : LineCommand → Option Opened → Option UnderWay → Option Opened → Option UnderWay → Type 0
 Does (line.Open document journal epoch) opened under new after = OpensOver (view document.now) journal epoch opened new
 Does (line.Reopen _ _ _ _) opened under new after = HasReopened opened under after

@@ -50,7 +50,7 @@ TellsApproved old new before after =
     (server : ℕ) × (permit : ℕ) × HasApproved server permit old new
     × (after ≡ before ++ permit_member (codes "approved") (server_text new.machine.placement.setup server) permit)
 
--- Of a permit that was given under a name is told what came of it; if it was given to another server, that the line is refused.
+-- The reply tells what came of a permit that was given under a name. If another server has it, the line is refused.
 pub record TellsGiven (d : DriverModel) (server : List ℕ) (given : GivenPermit) (before after : List Token) : Type 0 where
   pub same : bytes_eq (string_bytes given.server) server ≡ true → after ≡ before ++ given_member d server given.permit
   pub other : bytes_eq (string_bytes given.server) server ≡ false → TellsRefused before after

@@ -1,4 +1,4 @@
-//! What a machine tells of its state.
+//! Readers of a machine's state.
 ghost use Rattle.std.specs.Prelude.{◌≡◌, ◌<◌, length, true, reverse, None};
 ghost use Rattle.sm_placement.specs.Place.{entry_at};
 ghost use Rattle.sm_protocol.specs.State.{is_begun, progress_of, allowance, free_places, stream_count, plan_at, pool};

@@ -1,4 +1,4 @@
--- What an event has spent is out of the hand, and what it gave is in it.
+-- The hand lacks what an event has spent, and has what the event gave.
 use Rattle.std.proofs.Common.{◌∙◌, ◌++◌, ◌∷◌, [], ap, sym, refl, arith}
 use Rattle.sm_machine.proofs.Hands.{stream_settled, arrival_settled, approval_settled, restart_settled, pass_settled, ticket_left}
 use Rattle.sm_machine.proofs.hand.Hand.settle.Goals as goal

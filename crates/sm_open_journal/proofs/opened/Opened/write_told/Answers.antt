@@ -1,7 +1,7 @@
 use Rattle.sm_open_journal.proofs.Told.{told_kept}
 use Rattle.sm_open_journal.proofs.opened.Opened.write_told.Goals as goal
 
--- What the driver keeps for the server is told behind its name.
+-- The reply tells, behind the server's name, what the driver keeps for it.
 pub returns-in-Some : goal.returns-in-Some
 returns-in-Some c =
     told_kept c.write_restore.result c.args.self.now.driver c.args.server
