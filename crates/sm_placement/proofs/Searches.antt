@@ -96,6 +96,11 @@ first_from_none f a (suc n) e k l h = elim (cases_Option (f a)) [
   | inr q ↦ absurd (let z = rw q.1 at e in cc)
 ]
 
+-- where no number has an answer, none is found
+pub first_from_none_from : {A : Type 0} (f : ℕ → Option A) (a n : ℕ) → ((k : ℕ) → a ≤ k → k < a + n → f k ≡ None) → first_from a n f ≡ None
+first_from_none_from f a zero h = refl
+first_from_none_from f a (suc n) h = rw (h a (omega arith) (omega arith)) (first_from_none_from f (a + 1) n (λ k l m. h k (omega arith) (omega arith)))
+
 -- some number below n passes, or none does
 pub any_none : (n : ℕ) (t : ℕ → Bool) → any_below n t ≡ false → (k : ℕ) → k < n → t k ≡ false
 any_none zero t e k l = absurd (omega arith)

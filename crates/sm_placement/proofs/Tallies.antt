@@ -1,22 +1,22 @@
 -- Counts over named cells, as far as a loop has come.
-use Rattle.std.proofs.Common.{◌≡◌, ◌≢◌, ℕ, ◌+◌, ◌*◌, ◌<◌, ◌≤◌, Bool, true, false, eqb, ltb, ◌&&◌, ◌||◌, refl, sym, ap, ◌∙◌, arith, inl, inr, subst, List, length, get_or, set, take, replicate}
+use Rattle.std.proofs.Common.{◌≡◌, ◌≢◌, ℕ, ◌+◌, ◌*◌, ◌<◌, ◌≤◌, Bool, true, false, eqb, ltb, ◌&&◌, ◌||◌, cond, None, refl, sym, ap, ◌∙◌, arith, inl, inr, subst, List, length, get_or, set, take, replicate}
 use Rattle.std.specs.Prelude.{Option, option_map}
 use Rattle.std.specs.List.{count_by}
 use Rattle.std.proofs.Math.Path.{fun_ext}
-use Rattle.std.proofs.lemmas.Bool.{cases_eq, cases_Bool, eq-eqb, ne_eqb}
+use Rattle.std.proofs.lemmas.Bool.{cases_eq, cases_Bool, eq-eqb, ne_eqb, lt-ltb, le-ltb, ltb-true, ltb-false}
 use Rattle.std.proofs.lemmas.List.{length-take-le, get_or_default}
-use Rattle.std.proofs.lemmas.List.Sums.{count_by_more_yes, count_by_more_no, count_by-le-length}
+use Rattle.std.proofs.lemmas.List.Sums.{count_by_more_yes, count_by_more_no, count_by-le-length, sum_by-take-le}
 use Rattle.sm_server.specs.declared.call.Cell.{Cell}
 use Rattle.sm_server.specs.Cell.{is_primary}
 use Rattle.sm_placement.specs.declared.opening.LeadCells.{LeadCells}
-use Rattle.sm_placement.specs.Sums.{put, put2, bit, count_below}
+use Rattle.sm_placement.specs.Sums.{put, put2, bit, count_below, first_from}
 use Rattle.sm_placement.specs.Layout.{grid_of, entries_of}
-use Rattle.sm_placement.specs.Opening.{NamedCell, is_of, AreKnown, IsNamedOnce, cell_named, has_bad_lead, first_below, double_of, is_handing, tally, lead_cells}
+use Rattle.sm_placement.specs.Opening.{NamedCell, is_of, is_double, AreKnown, IsNamedOnce, cell_named, has_bad_lead, first_below, double_of, is_handing, tally, lead_cells}
 use Rattle.sm_placement.specs.declared.opening.OpenFault.TheVariants.{DoubleCell}
 use Rattle.sm_placement.proofs.Sums.{put-here, put-apart, put2-here, put2-row, put2-apart}
 use Rattle.sm_placement.proofs.GridLemmas.{grid_of-within, grid_of-set, grid_of-read, grid_of-empty, place_within, entries_of-set, entries_of-read, entries_of-empty}
 use Rattle.sm_placement.proofs.Openings.{known_shard, known_server, is_of-true, is_of-here, tally-is}
-use Rattle.sm_placement.proofs.Searches.{any_by_count}
+use Rattle.sm_placement.proofs.Searches.{any_by_count, first_none_from, first_from_none_from}
 
 -- the list of counts by pair has each pair counted as far as i
 abbrev pub ArePairsCounted : ℕ → List NamedCell → ℕ → List ℕ → Type 0
@@ -27,10 +27,10 @@ pub pairs_none : (n k : ℕ) (cells : List NamedCell) (counts : List ℕ) → co
 pairs_none n k cells counts e = rw e (grid_of-empty n 0 k)
 
 -- the slot of the i-th cell's pair
-pub pair_place : (m n : ℕ) (cells : List NamedCell) (i : ℕ) (x : NamedCell) (counts : List ℕ) → AreKnown m n cells → i < length cells → x ≡ get_or cells i x → length counts ≡ m * n →
-    x.0 * n + x.1 < length counts
-pair_place m n cells i x counts k l e len =
-    place_within counts n m x.0 x.1 len (subst (λ y. y.0 < m) (sym e) (known_shard m n cells i x k l)) (subst (λ y. y.1 < n) (sym e) (known_server m n cells i x k l))
+pub pair_slot : {A : Type 0} (m n : ℕ) (cells : List NamedCell) (i : ℕ) (x : NamedCell) (entries : List A) → AreKnown m n cells → i < length cells → x ≡ get_or cells i x → length entries ≡ m * n →
+    x.0 * n + x.1 < length entries
+pair_slot m n cells i x entries k l e len =
+    place_within entries n m x.0 x.1 len (subst (λ y. y.0 < m) (sym e) (known_shard m n cells i x k l)) (subst (λ y. y.1 < n) (sym e) (known_server m n cells i x k l))
 
 -- what has been counted of the i-th cell's pair
 pub pair_count : (m n : ℕ) (cells : List NamedCell) (i : ℕ) (x : NamedCell) (counts : List ℕ) (b : ℕ) → AreKnown m n cells → i < length cells → x ≡ get_or cells i x → length counts ≡ m * n →
@@ -51,7 +51,7 @@ pair_count_small m n cells i x counts b k l e len at r =
 pub pairs_more : (m n : ℕ) (cells : List NamedCell) (i : ℕ) (x : NamedCell) (counts : List ℕ) (b : ℕ) → AreKnown m n cells → i < length cells → x ≡ get_or cells i x → length counts ≡ m * n →
     ArePairsCounted n cells i counts → b ≡ get_or counts (x.0 * n + x.1) b → ArePairsCounted n cells (i + 1) (set counts (x.0 * n + x.1) (b + 1))
 pairs_more m n cells i x counts b k l e len at r =
-    grid_of-set n 0 counts x.0 x.1 (b + 1) (subst (λ y. y.1 < n) (sym e) (known_server m n cells i x k l)) (pair_place m n cells i x counts k l e len)
+    grid_of-set n 0 counts x.0 x.1 (b + 1) (subst (λ y. y.1 < n) (sym e) (known_server m n cells i x k l)) (pair_slot m n cells i x counts k l e len)
     ∙ ap (λ f. put2 f x.0 x.1 (b + 1)) at ∙ fun_ext (λ s. fun_ext (λ v. each s v))
   where
     before : ℕ → ℕ → ℕ
@@ -77,6 +77,77 @@ pairs_more m n cells i x counts b k l e len at r =
       | inl q ↦ let p = is_of-true s v x q in rw (← p.0, ← p.1) (put2-here before x.0 x.1 (b + 1) ∙ ap (λ a. a + 1) read ∙ sym (yes x.0 x.1 (is_of-here x)))
       | inr q ↦ apart s v q ∙ sym (no s v q)
     ]
+
+-- the entries of pairs tell which were named as far as i
+abbrev pub ArePairsNamed : ℕ → List NamedCell → ℕ → List Bool → Type 0
+ArePairsNamed n cells i named = grid_of n false named ≡ (λ s v. ltb 0 (count_by (is_of s v) (take i cells)))
+
+-- before the first cell no pair was named
+pub no_pairs_named : (n k : ℕ) (cells : List NamedCell) (named : List Bool) → named ≡ replicate k false → ArePairsNamed n cells 0 named
+no_pairs_named n k cells named e = rw e (grid_of-empty n false k)
+
+-- whether the pair of the i-th cell was named before
+pub pair_named : (m n : ℕ) (cells : List NamedCell) (i : ℕ) (x : NamedCell) (named : List Bool) (b : Bool) → AreKnown m n cells → i < length cells → x ≡ get_or cells i x → length named ≡ m * n →
+    ArePairsNamed n cells i named → b ≡ get_or named (x.0 * n + x.1) b → b ≡ ltb 0 (count_by (is_of x.0 x.1) (take i cells))
+pair_named m n cells i x named b k l e len at r =
+    grid_of-read n m false named x.0 x.1 b len (subst (λ y. y.0 < m) (sym e) (known_shard m n cells i x k l)) (subst (λ y. y.1 < n) (sym e) (known_server m n cells i x k l)) r ∙ ap (λ f. f x.0 x.1) at
+
+-- with the entry of the i-th cell's pair set, the pairs are named one cell further
+pub pairs_named_more : (m n : ℕ) (cells : List NamedCell) (i : ℕ) (x : NamedCell) (named : List Bool) → AreKnown m n cells → i < length cells → x ≡ get_or cells i x → length named ≡ m * n →
+    ArePairsNamed n cells i named → ArePairsNamed n cells (i + 1) (set named (x.0 * n + x.1) true)
+pairs_named_more m n cells i x named k l e len at =
+    grid_of-set n false named x.0 x.1 true server (place_within named n m x.0 x.1 len (subst (λ y. y.0 < m) (sym e) (known_shard m n cells i x k l)) server)
+    ∙ ap (λ f. put2 f x.0 x.1 true) at ∙ fun_ext (λ s. fun_ext (λ v. each s v))
+  where
+    server : x.1 < n
+    server = subst (λ y. y.1 < n) (sym e) (known_server m n cells i x k l)
+
+    before : ℕ → ℕ → Bool
+    before s v = ltb 0 (count_by (is_of s v) (take i cells))
+
+    apart : (s v : ℕ) → is_of s v x ≡ false → put2 before x.0 x.1 true s v ≡ before s v
+    apart s v q = elim (cases_eq s x.0) [
+      | inl d ↦ rw d (put2-row before x.0 x.1 true v (λ g. absurd (let z : is_of s v x ≡ true = rw (d, g) (is_of-here x) in cc)))
+      | inr d ↦ put2-apart before x.0 x.1 true s v d
+    ]
+
+    each : (s v : ℕ) → put2 before x.0 x.1 true s v ≡ ltb 0 (count_by (is_of s v) (take (i + 1) cells))
+    each s v = elim (cases_Bool (is_of s v x)) [
+      | inl q ↦
+          let p = is_of-true s v x q in
+          let more : count_by (is_of s v) (take (i + 1) cells) ≡ count_by (is_of s v) (take i cells) + 1 = count_by_more_yes (is_of s v) cells i x l (subst (λ y. is_of s v y ≡ true) e q) in
+          rw (← p.0, ← p.1) (put2-here before x.0 x.1 true) ∙ sym (lt-ltb 0 (count_by (is_of s v) (take (i + 1) cells)) (omega arith))
+      | inr q ↦ apart s v q ∙ ap (ltb 0) (sym (count_by_more_no (is_of s v) cells i x l (subst (λ y. is_of s v y ≡ false) e q)))
+    ]
+
+-- if the pair of the i-th cell was not named before, each pair is still named once
+pub once_more : (cells : List NamedCell) (i : ℕ) (x : NamedCell) → i < length cells → x ≡ get_or cells i x → IsNamedOnce (take i cells) → ltb 0 (count_by (is_of x.0 x.1) (take i cells)) ≡ false →
+    IsNamedOnce (take (i + 1) cells)
+once_more cells i x l e once new s v = elim (cases_Bool (is_of s v x)) [
+  | inl q ↦
+      let p = is_of-true s v x q in
+      let none : count_by (is_of x.0 x.1) (take i cells) ≤ 0 = ltb-false 0 (count_by (is_of x.0 x.1) (take i cells)) new in
+      let here : count_by (is_of s v) (take i cells) ≤ 0 = rw (← p.0, ← p.1) none in
+      let more : count_by (is_of s v) (take (i + 1) cells) ≡ count_by (is_of s v) (take i cells) + 1 = count_by_more_yes (is_of s v) cells i x l (subst (λ y. is_of s v y ≡ true) e q) in
+      omega arith
+  | inr q ↦
+      let same : count_by (is_of s v) (take (i + 1) cells) ≡ count_by (is_of s v) (take i cells) = count_by_more_no (is_of s v) cells i x l (subst (λ y. is_of s v y ≡ false) e q) in
+      let most : count_by (is_of s v) (take i cells) ≤ 1 = once s v in
+      omega arith
+]
+
+-- if the pair of the i-th cell was named before, not each pair is named once
+pub not_once : (cells : List NamedCell) (i : ℕ) (x : NamedCell) → i < length cells → x ≡ get_or cells i x → ltb 0 (count_by (is_of x.0 x.1) (take i cells)) ≡ true → IsNamedOnce cells → ⊥
+not_once cells i x l e old once =
+    let some : 0 < count_by (is_of x.0 x.1) (take i cells) = ltb-true 0 (count_by (is_of x.0 x.1) (take i cells)) old in
+    let more : count_by (is_of x.0 x.1) (take (i + 1) cells) ≡ count_by (is_of x.0 x.1) (take i cells) + 1 = count_by_more_yes (is_of x.0 x.1) cells i x l (subst (λ y. is_of x.0 x.1 y ≡ true) e (is_of-here x)) in
+    let all : count_by (is_of x.0 x.1) (take (i + 1) cells) ≤ count_by (is_of x.0 x.1) cells = sum_by-take-le (λ y. cond (is_of x.0 x.1 y) 1 0) cells (i + 1) in
+    let most : count_by (is_of x.0 x.1) cells ≤ 1 = once x.0 x.1 in
+    absurd (omega arith)
+
+-- if each pair is named once, there is no double
+pub no_double : (m n : ℕ) (cells : List NamedCell) → IsNamedOnce cells → first_from 0 m (double_of n cells) ≡ None
+no_double m n cells once = first_from_none_from (double_of n cells) 0 m (λ s l h. ap (option_map (λ v. DoubleCell s v)) (first_none_from n (is_double cells s) (λ v b. le-ltb 1 (count_by (is_of s v) cells) (once s v))))
 
 -- what is read at a pair's slot
 pub count_read : (m n : ℕ) (counts : List ℕ) (s v d : ℕ) → length counts ≡ m * n → s < m → v < n → grid_of n 0 counts s v ≡ get_or counts (s * n + v) d

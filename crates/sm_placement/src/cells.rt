@@ -1,6 +1,7 @@
 //! Cells, a byte for each, with the parties of those that have one beside them.
 ghost use Rattle.std.specs.Prelude.{◌≡◌, ◌<◌, ◌≤◌, ◌+◌, ◌*◌, ◌^◌, length, replicate, slice_set, IfOk};
 ghost use Rattle.sm_placement.specs.Layout.{entries_of};
+ghost use Rattle.sm_placement.specs.Lead.{has_part};
 
 use crate::parties::{Parties, Party, no_party};
 use sm_server::Cell;
@@ -115,6 +116,16 @@ fn cell_of(state: State, party: Party) -> Cell
     }
 }
 
+/// Tells whether a server with a cell of the state has a part in the shard's lead.
+fn is_part(state: State) -> bool
+    ensures { (party : Party) → result ≡ has_part (cell_of state party) }
+{
+    match state {
+        State::Absent | State::Secondary => false,
+        State::Prepared | State::Primary | State::Forwarding => true,
+    }
+}
+
 impl Cells {
     /// Makes this many cells, with nothing in each. There is room for the parties of all, but none is written.
     pub fn new(alloc: Global, count: usize) -> Result<Cells, AllocError>
@@ -138,6 +149,7 @@ impl Cells {
     }
 
     /// Returns the cell at a slot.
+    #[inline]
     pub fn get(&self, slot: usize) -> Cell
         requires { slot < length self.now }
         ensures { result ≡ entries_of Cell.Absent self.now slot }
@@ -147,6 +159,15 @@ impl Cells {
             return cell_of(state, no_party());
         }
         cell_of(state, self.parties.get(slot))
+    }
+
+    /// Tells whether the server of a slot's cell has a part in the shard's lead.
+    #[inline]
+    pub fn has_part(&self, slot: usize) -> bool
+        requires { slot < length self.now }
+        ensures { result ≡ has_part (entries_of Cell.Absent self.now slot) }
+    {
+        is_part(self.states[slot])
     }
 
     /// Sets the cell at a slot. Takes no memory.
@@ -162,6 +183,7 @@ impl Cells {
     }
 
     /// Returns the cells of one shard.
+    #[inline]
     pub fn row(&self, shard: usize, servers: usize) -> Row<'_>
         requires { shard * servers + servers ≤ length self.now }
         ensures cells { result.cells.now ≡ self.now }

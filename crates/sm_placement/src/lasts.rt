@@ -7,7 +7,7 @@ use std::alloc::{AllocError, Global};
 use std::marker::Model;
 
 /// A number for each slot, 0 at first. There is room for all of them from the beginning, and none is written before
-/// the first is set or all are forgotten.
+/// the first is set.
 #[derive(Drop)]
 pub struct Lasts {
     numbers: Vec<u64>,
@@ -93,6 +93,5 @@ impl Lasts {
         ensures { self.new ≡ replicate (length self.old) 0 }
     {
         self.numbers.clear();
-        write_all(&mut self.numbers, self.count);
     }
 }

@@ -25,13 +25,6 @@ pub enum Lead {
     Handed(ServerId, ServerId),
 }
 
-/// Tells whether the server has a part in the shard's lead.
-fn has_part(cell: &Cell) -> bool
-    ensures { result ≡ has_part cell.now }
-{
-    !matches!(cell, Cell::Absent | Cell::Secondary)
-}
-
 /// Returns the first server from a number on that has a part in the lead of a shard.
 #[tactic(auto, using(crate::proofs::Searches::find_range_more))]
 fn next_part(table: &Table, shard: ShardId, from: u32) -> Option<ServerId>
@@ -42,7 +35,7 @@ fn next_part(table: &Table, shard: ShardId, from: u32) -> Option<ServerId>
 {
     for number in from..table.config().server_count() {
         let server = ServerId::new(number);
-        if has_part(&table.cell(shard, server)) {
+        if table.has_part(shard, server) {
             return Some(server);
         }
     }

@@ -1,5 +1,5 @@
 //! Opening a placement.
-ghost use Rattle.std.specs.Prelude.{◌≡◌, ◌≢◌, false, All, Some, None, OnOk, IfErr, ◌≤◌, ◌<◌, ◌+◌, ◌*◌, ◌||◌, ◌==◌, not, nat_lt, length, IfOk, count_by};
+ghost use Rattle.std.specs.Prelude.{◌≡◌, ◌≢◌, ◌↔◌, false, All, IsTrue, Some, None, OnOk, IfErr, ◌≤◌, ◌<◌, ◌+◌, ◌*◌, ◌||◌, ◌==◌, not, nat_lt, length, IfOk, count_by};
 ghost use Rattle.std.specs.List.{list_any};
 ghost use Rattle.sm_server.specs.Cell.{is_primary};
 ghost use Rattle.sm_placement.specs.Setup.{sizes_of};
@@ -87,6 +87,28 @@ fn has_unknown_server(config: &Config, down: &[ServerId]) -> bool
     down.iter().any(|server| server.number() >= servers)
 }
 
+/// Tells whether the cells name each pair once at most.
+fn is_named_once(
+    alloc: Global,
+    config: &Config,
+    cells: &[(ShardId, ServerId, Cell)],
+) -> Result<bool, AllocError>
+    requires { AreKnown (length config.now.shards) (length config.now.servers) cells.now }
+    ensures { IfOk result (λ once. IsTrue once ↔ IsNamedOnce cells.now) }
+{
+    let shards = config.shard_count() as usize;
+    let servers = config.server_count() as usize;
+    let mut named = vec![in alloc; false; shards * servers]?;
+    for (shard, server, _) in cells {
+        let slot = shard.number() as usize * servers + server.number() as usize;
+        if named[slot] {
+            return Ok(false);
+        }
+        named[slot] = true;
+    }
+    Ok(true)
+}
+
 /// Counts how often the cells name each pair, shard after shard.
 fn count_pairs(
     alloc: Global,
@@ -139,7 +161,8 @@ fn first_double_of(counts: &[u32], shard: ShardId, shards: u32, servers: u32) ->
     None
 }
 
-/// Returns the lowest shard, and its lowest server, whose pair the cells name more than once.
+/// Returns the lowest shard, and its lowest server, whose pair the cells name more than once. Counts the pairs only if
+/// there is one.
 fn first_double(
     alloc: Global,
     config: &Config,
@@ -149,6 +172,9 @@ fn first_double(
     requires known { AreKnown (length config.now.shards) (length config.now.servers) cells.now }
     ensures { IfOk result (λ fault. fault ≡ first_from 0 (length config.now.shards) (double_of (length config.now.servers) cells.now)) }
 {
+    if is_named_once(alloc, config, cells)? {
+        return Ok(None);
+    }
     let counts = count_pairs(alloc, config, cells)?;
     let shards = config.shard_count();
     let servers = config.server_count();

@@ -84,6 +84,7 @@ impl Parties {
     }
 
     /// Returns the party of a slot.
+    #[inline(never)]
     pub fn get(&self, slot: usize) -> Party
         requires { slot < length self.now.starts * BLOCK }
         ensures { result ≡ party_at self.now.starts self.now.parties slot }

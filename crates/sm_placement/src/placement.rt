@@ -113,6 +113,7 @@ impl Placement {
     }
 
     /// Returns what a server has of a shard.
+    #[inline]
     pub fn cell(&self, shard: ShardId, server: ServerId) -> Cell
         requires shard { shard < length self.now.setup.shards }
         requires server { server < length self.now.setup.servers }

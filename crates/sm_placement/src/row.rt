@@ -31,6 +31,7 @@ fn forwards(cell: &Cell, server: ServerId, number: u64) -> bool
 }
 
 /// Returns the cell of a server. Beyond the row it is absent.
+#[inline]
 fn cell_at(row: Row<'_>, server: ServerId) -> Cell
     ensures { result ≡ grid_of row.entry.servers Cell.Absent row.entry.cells.now row.entry.shard server }
 {
@@ -43,6 +44,7 @@ fn cell_at(row: Row<'_>, server: ServerId) -> Cell
 
 /// Tells whether the server serves the shard of the row: a primary does, and a prepared server to which the owner
 /// forwards.
+#[inline]
 pub fn serves(row: Row<'_>, server: ServerId) -> bool
     ensures { result ≡ serves (grid_of row.entry.servers Cell.Absent row.entry.cells.now row.entry.shard) server }
 {

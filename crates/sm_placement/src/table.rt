@@ -139,6 +139,7 @@ impl Table {
     ghost use Rattle.sm_server.specs.Cell.{is_forwarding};
     ghost use Rattle.sm_placement.specs.Sums.{put, put2, count_below};
     ghost use Rattle.sm_placement.specs.Place.{load_of};
+    ghost use Rattle.sm_placement.specs.Lead.{has_part};
     ghost use Rattle.sm_placement.specs.Counts.{has_replica};
     ghost use Rattle.sm_placement.specs.Grid.{cells_of, lasts_of, down_of, IsGrid};
 
@@ -202,6 +203,7 @@ impl Table {
     }
 
     /// Returns the slot of a pair in the lists of cells and of last numbers.
+    #[inline]
     fn slot(&self, shard: ShardId, server: ServerId) -> usize
         requires shard { shard < length self.now.setup.shards }
         requires server { server < length self.now.setup.servers }
@@ -211,12 +213,23 @@ impl Table {
     }
 
     /// Returns what a server has of a shard.
+    #[inline]
     pub fn cell(&self, shard: ShardId, server: ServerId) -> Cell
         requires shard { shard < length self.now.setup.shards }
         requires server { server < length self.now.setup.servers }
         ensures { result ≡ cells_of self.now shard server }
     {
         self.cells.get(self.slot(shard, server))
+    }
+
+    /// Tells whether a server has a part in the lead of a shard.
+    #[inline]
+    pub fn has_part(&self, shard: ShardId, server: ServerId) -> bool
+        requires shard { shard < length self.now.setup.shards }
+        requires server { server < length self.now.setup.servers }
+        ensures { result ≡ has_part (cells_of self.now shard server) }
+    {
+        self.cells.has_part(self.slot(shard, server))
     }
 
     /// Returns the number of the last call that had an effect on the cell, and 0 for none.
@@ -270,6 +283,7 @@ impl Table {
     }
 
     /// Returns the cells of a shard, by server.
+    #[inline]
     fn row_of(&self, shard: ShardId) -> Row<'_>
         requires { shard < length self.now.setup.shards }
         ensures { grid_of result.servers Cell.Absent result.cells.now result.shard ≡ cells_of self.now shard }
@@ -278,6 +292,7 @@ impl Table {
     }
 
     /// Tells whether a server serves a shard.
+    #[inline]
     pub fn serves(&self, shard: ShardId, server: ServerId) -> bool
         requires { shard < length self.now.setup.shards }
         ensures { result ≡ serves (cells_of self.now shard) server }

@@ -2,7 +2,7 @@
 use Rattle.std.proofs.Common.{◌≡◌, ◌+◌, ◌*◌, ◌≤◌, ◌<◌, count_by, length, length-set, set, arith, sym, ap, ◌∙◌, refl, subst}
 use Rattle.std.proofs.lemmas.List.{length-replicate, take_all}
 use Rattle.sm_placement.specs.Opening.{is_of}
-use Rattle.sm_placement.proofs.Tallies.{ArePairsCounted, pairs_none, pair_place, pair_count_small, pairs_more}
+use Rattle.sm_placement.proofs.Tallies.{ArePairsCounted, pairs_none, pair_slot, pair_count_small, pairs_more}
 use Rattle.sm_placement.proofs.opening.count_pairs.Goals as goal
 
 pub loop-shard-init : goal.loop-shard-init
@@ -15,7 +15,7 @@ loop-shard-init c =
 pub index_mut-requires : goal.index_mut-requires
 index_mut-requires c =
     let place : c.loop-shard-item.result.0 * length c.args.config.now.servers + c.loop-shard-item.result.1 < length c.loop-shard.counts.items =
-    pair_place (length c.args.config.now.shards) (length c.args.config.now.servers) c.args.cells.now c.loop-shard.shard-index c.loop-shard-item.result c.loop-shard.counts.items c.requires.known c.loop-shard-test.true c.loop-shard-item.is c.loop-shard.invariant.len in
+    pair_slot (length c.args.config.now.shards) (length c.args.config.now.servers) c.args.cells.now c.loop-shard.shard-index c.loop-shard-item.result c.loop-shard.counts.items c.requires.known c.loop-shard-test.true c.loop-shard-item.is c.loop-shard.invariant.len in
     let same : c.number.result * c.server_count-servers.result + c.number-in-loop-shard.result ≡ c.loop-shard-item.result.0 * length c.args.config.now.servers + c.loop-shard-item.result.1 =
     rw (c.number.ensures, c.number-in-loop-shard.ensures, c.server_count-servers.ensures.count) refl in
     omega (arith, c.loop-shard.counts.ok.0)

@@ -3,7 +3,7 @@ use Rattle.std.proofs.Common.{◌≡◌, ◌<◌, ◌∙◌, length, Some, None,
 use Rattle.sm_placement.specs.declared.opening.OpenFault.TheVariants.{DoubleCell}
 use Rattle.sm_placement.specs.Opening.{double_of}
 use Rattle.sm_placement.proofs.Searches.{first_from_more, first_from_pass}
-use Rattle.sm_placement.proofs.Tallies.{double_found}
+use Rattle.sm_placement.proofs.Tallies.{double_found, no_double}
 use Rattle.sm_placement.proofs.opening.first_double.Goals as goal
 
 pub returns-in-Some : goal.returns-in-Some
@@ -21,3 +21,8 @@ loop-number-preserved c =
     c.in_ok-counts.ensures.counts c.server_count-servers.ensures.count c.deref.ensures.value c.new-shard.ensures (sym c.in_default.is ∙ c.first_double_of.ensures) in
     let l : c.loop-number.number < length c.args.config.now.shards = omega (arith, c.shard_count-shards.ensures.count) in
     sym (first_from_pass (double_of (length c.args.config.now.servers) c.args.cells.now) c.loop-number.number (length c.args.config.now.shards) l at) ∙ c.loop-number.invariant
+
+pub returns-then-branch : goal.returns-then-branch
+returns-then-branch c =
+    let once = c.in_ok-is_named_once.ensures.0 c.if-branch.true in
+    sym (no_double (length c.args.config.now.shards) (length c.args.config.now.servers) c.args.cells.now once)
