@@ -131,6 +131,16 @@ count_two n t j k hj hk apart ej ek =
     let part : without k ≤ sum_below n without = part_of_sum n without k hk in
     omega arith
 
+-- a number that passes is found, where one is counted
+pub found_alone : (n : ℕ) (t : ℕ → Bool) (u : ℕ) → count_below n t ≡ 1 → u < n → t u ≡ true → first_below n t ≡ Some u
+found_alone n t u one l e = elim (cases_Option (first_below n t)) [
+  | inl none ↦ absurd (let z : t u ≡ false = first_none n t none u l in cc)
+  | inr some ↦ let at = first_some n t some.0 some.1 in elim (cases_eq some.0 u) [
+    | inl d ↦ some.1 ∙ ap Some d
+    | inr d ↦ absurd (let two : 2 ≤ count_below n t = count_two n t some.0 u at.0 l d at.1 e in omega arith)
+  ]
+]
+
 -- where only one number may pass, at most one is counted
 pub count_one : (n : ℕ) (t : ℕ → Bool) (u : ℕ) → ((k : ℕ) → k < n → k ≢ u → t k ≡ false) → count_below n t ≤ 1
 count_one zero t u h = omega arith

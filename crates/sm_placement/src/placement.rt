@@ -229,6 +229,20 @@ impl Placement {
         None
     }
 
+    /// Returns the one server that serves a shard. The listed server is asked first, and mostly it is the one.
+    fn only_serving(&self, shard: ShardId) -> Option<ServerId>
+        requires shard { shard < length self.now.setup.shards }
+        requires one { serving_in (length self.now.setup.servers) ((place_of self.now).cells shard) ≡ 1 }
+        ensures { result ≡ first_below (length self.now.setup.servers) (serves ((place_of self.now).cells shard)) }
+    {
+        if let Some(server) = self.listed(shard) {
+            if self.table.serves(shard, server) {
+                return Some(server);
+            }
+        }
+        self.first_serving(shard)
+    }
+
     /// Returns the number of servers that serve a shard, up or down.
     fn serving_count(&self, shard: ShardId) -> u32
         requires { shard < length self.now.setup.shards }
@@ -249,7 +263,7 @@ impl Placement {
         if count > 1 {
             return Serving::Several(count);
         }
-        match self.first_serving(shard) {
+        match self.only_serving(shard) {
             Some(server) => Serving::One(server),
             None => Serving::Nobody,
         }

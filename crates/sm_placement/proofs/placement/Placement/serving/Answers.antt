@@ -19,10 +19,13 @@ pub returns-in-Some : goal.returns-in-Some
 returns-in-Some c =
     let one : serving_in (length c.args.self.now.setup.servers) ((place_of c.args.self.now).cells c.args.shard) ≡ 1 = omega (arith, c.serving_count-count.ensures) in
     sym (serving_one (length c.args.self.now.setup.servers) ((place_of c.args.self.now).cells c.args.shard) one
-    ∙ ap (λ (o : Option ℕ). option_map_or One o Nobody) (sym c.first_serving.ensures ∙ c.in-Some.is))
+    ∙ ap (λ (o : Option ℕ). option_map_or One o Nobody) (sym c.only_serving.ensures ∙ c.in-Some.is))
 
 pub returns-in-None : goal.returns-in-None
 returns-in-None c =
     let one : serving_in (length c.args.self.now.setup.servers) ((place_of c.args.self.now).cells c.args.shard) ≡ 1 = omega (arith, c.serving_count-count.ensures) in
     sym (serving_one (length c.args.self.now.setup.servers) ((place_of c.args.self.now).cells c.args.shard) one
-    ∙ ap (λ (o : Option ℕ). option_map_or One o Nobody) (sym c.first_serving.ensures ∙ c.in-None.is))
+    ∙ ap (λ (o : Option ℕ). option_map_or One o Nobody) (sym c.only_serving.ensures ∙ c.in-None.is))
+
+pub only_serving-requires-clause-one : goal.only_serving-requires-clause-one
+only_serving-requires-clause-one c = omega (arith, c.serving_count-count.ensures)
