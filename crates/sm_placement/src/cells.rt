@@ -149,7 +149,7 @@ impl Cells {
     }
 
     /// Returns the cell at a slot.
-    #[inline]
+    #[inline(always)]
     pub fn get(&self, slot: usize) -> Cell
         requires { slot < length self.now }
         ensures { result ≡ entries_of Cell.Absent self.now slot }
