@@ -1,18 +1,20 @@
 -- The conditions under which a plan may start at a placement with its pool, and what holds it up otherwise.
 use Rattle.std.specs.Prelude.{◌≡◌, ◌≤◌, ◌<◌, ℕ, true, false, IsSome, Contains, List, sum_by, slice_index_or}
-use Rattle.sm_placement.specs.Setup.{Sizes}
+use Rattle.sm_placement.specs.Setup.{Sizes, sizes_of}
 use Rattle.sm_placement.specs.Place.{Place}
+use Rattle.sm_placement.specs.Layout.{PlacementModel, place_of}
 use Rattle.sm_reservation.specs.declared.right.Key.{Key}
 use Rattle.sm_reservation.specs.declared.right.Key.TheVariants.{CellRight, Crown, Room, Spare}
 use Rattle.sm_reservation.specs.Key.{key_before}
 use Rattle.sm_reservation.specs.Hold.{Hold}
 use Rattle.sm_reservation.specs.HoldOf.{hold_of}
-use Rattle.sm_reservation.specs.Pool.{true_rights}
+use Rattle.sm_reservation.specs.Pool.{PoolModel, pool_hold, true_rights}
 use Rattle.sm_plan_code.specs.declared.instruction.Instr.{Instr}
 use Rattle.sm_plan_code.specs.Instr.{names_of, Mentions}
 use Rattle.sm_plan_code.specs.Plan.{StreamModel, PlanModel}
 use Rattle.sm_verifier.specs.declared.admission.Holding.{Holding}
 use Rattle.sm_verifier.specs.declared.admission.Holding.TheVariants.{Untrue, Taken, ShortRoom, ShortSpare, ServerDown}
+use Rattle.sm_verifier.specs.Checked.{CheckedModel}
 use Rattle.sm_verifier.specs.Stream.{no_stream}
 
 -- ---- cell rights and crowns
@@ -138,3 +140,11 @@ IsHolding c p pool plan (ShortSpare s free sum) =
 IsHolding c p pool plan (ServerDown v) =
     AreTrue c p plan.streams × AreFree pool plan.streams × HasAllRoom pool plan.streams × HasAllSpare pool plan.streams
     × IsLowest (IsUpWhereMentioned p plan.streams) v
+
+-- a checked plan may start at a placement with its pool
+abbrev pub MayStart : CheckedModel → PoolModel → PlacementModel → Type 0
+MayStart checked pool placement = IsAdmitted (sizes_of checked.setup) (place_of placement) (pool_hold pool) checked.plan
+
+-- this holds it up there
+abbrev pub IsHeldUpBy : CheckedModel → PoolModel → PlacementModel → Holding → Type 0
+IsHeldUpBy checked pool placement = IsHolding (sizes_of checked.setup) (place_of placement) (pool_hold pool) checked.plan

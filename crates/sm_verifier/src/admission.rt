@@ -4,7 +4,7 @@ ghost use Rattle.sm_placement.specs.Setup.{sizes_of};
 ghost use Rattle.sm_placement.specs.Layout.{place_of};
 ghost use Rattle.sm_reservation.specs.declared.right.Key.{Key};
 ghost use Rattle.sm_reservation.specs.Pool.{pool_hold, true_rights, HasSize};
-ghost use Rattle.sm_verifier.specs.Admission.{AreFree, AreTrue, IsAdmitted, IsHolding, IsIn};
+ghost use Rattle.sm_verifier.specs.Admission.{AreFree, AreTrue, IsHeldUpBy, IsIn, MayStart};
 
 use crate::Checked;
 use crate::amounts::{first_short_room, first_short_spare};
@@ -67,9 +67,9 @@ pub enum Holding {
 pub fn admit(checked: &Checked, pool: &Pool, placement: &Placement) -> Result<(), Holding>
     requires size { HasSize (sizes_of checked.now.setup) pool.now }
     requires setup { placement.now.setup ≡ checked.now.setup }
-    ensures admitted { OnOk result (IsAdmitted (sizes_of checked.now.setup) (place_of placement.now) (pool_hold pool.now) checked.now.plan) }
-    ensures holding { IfErr result (λ why. IsHolding (sizes_of checked.now.setup) (place_of placement.now) (pool_hold pool.now) checked.now.plan why) }
-    ensures refused { OnErr result (¬ IsAdmitted (sizes_of checked.now.setup) (place_of placement.now) (pool_hold pool.now) checked.now.plan) }
+    ensures admitted { OnOk result (MayStart checked.now pool.now placement.now) }
+    ensures holding { IfErr result (IsHeldUpBy checked.now pool.now placement.now) }
+    ensures refused { OnErr result (¬ MayStart checked.now pool.now placement.now) }
 {
     let streams = checked.plan().streams();
     if let Some(key) = first_untrue(placement, streams) {
@@ -93,9 +93,9 @@ pub fn admit_from_true_pool(
     requires size { HasSize (sizes_of checked.now.setup) pool.now }
     requires setup { placement.now.setup ≡ checked.now.setup }
     requires true_pool { (key : Key) → IsIn (pool_hold pool.now) (true_rights (sizes_of placement.now.setup) (place_of placement.now)) key }
-    ensures admitted { OnOk result (IsAdmitted (sizes_of checked.now.setup) (place_of placement.now) (pool_hold pool.now) checked.now.plan) }
-    ensures holding { IfErr result (λ why. IsHolding (sizes_of checked.now.setup) (place_of placement.now) (pool_hold pool.now) checked.now.plan why) }
-    ensures refused { OnErr result (¬ IsAdmitted (sizes_of checked.now.setup) (place_of placement.now) (pool_hold pool.now) checked.now.plan) }
+    ensures admitted { OnOk result (MayStart checked.now pool.now placement.now) }
+    ensures holding { IfErr result (IsHeldUpBy checked.now pool.now placement.now) }
+    ensures refused { OnErr result (¬ MayStart checked.now pool.now placement.now) }
 {
     if first_taken(pool, checked.plan().streams()).is_some() {
         return admit(checked, pool, placement);
@@ -109,9 +109,9 @@ fn admit_free(checked: &Checked, pool: &Pool, placement: &Placement) -> Result<(
     requires setup { placement.now.setup ≡ checked.now.setup }
     requires true_ones { AreTrue (sizes_of checked.now.setup) (place_of placement.now) checked.now.plan.streams }
     requires free_ones { AreFree (pool_hold pool.now) checked.now.plan.streams }
-    ensures admitted { OnOk result (IsAdmitted (sizes_of checked.now.setup) (place_of placement.now) (pool_hold pool.now) checked.now.plan) }
-    ensures holding { IfErr result (λ why. IsHolding (sizes_of checked.now.setup) (place_of placement.now) (pool_hold pool.now) checked.now.plan why) }
-    ensures refused { OnErr result (¬ IsAdmitted (sizes_of checked.now.setup) (place_of placement.now) (pool_hold pool.now) checked.now.plan) }
+    ensures admitted { OnOk result (MayStart checked.now pool.now placement.now) }
+    ensures holding { IfErr result (IsHeldUpBy checked.now pool.now placement.now) }
+    ensures refused { OnErr result (¬ MayStart checked.now pool.now placement.now) }
 {
     let streams = checked.plan().streams();
     if let Some(server) = first_short_room(pool, streams) {
