@@ -37,7 +37,7 @@ abbrev pub OldHasNoEffect : Type 0
 OldHasNoEffect = (base : Base) (slot : Slot) (order : Order) (at : ℕ) →
     ((order.stamp.number ≤ slot.last) ⊎ (order.stamp.number ≤ base.number)) → committed base slot order at ≡ None
 
--- An order that is committed is answered again from then on, and has no effect again.
+-- An order that is committed is answered again until the next one is, and has no effect again.
 abbrev pub CommitsOnce : Type 0
 CommitsOnce = (base : Base) (slot : Slot) (order : Order) (at : ℕ) (next : Slot) →
     committed base slot order at ≡ Some next →
@@ -59,7 +59,7 @@ UnknownDoesNothing = (base : Base) (slot : Slot) → lacks_slots base ≡ true �
     ((order : Order) (at : ℕ) → committed base slot order at ≡ None) ×
     ((applied : ℕ) (request : Request) → routed base slot applied request ≡ NotHere)
 
--- A fence raises the server's base above all earlier ones; from then on nothing is committed.
+-- A fence raises the server's base above all earlier ones; until its settle nothing is committed.
 abbrev pub FencedCommitsNothing : Type 0
 FencedCommitsNothing = (base : Base) (reopening : Reopening) (nonce : ℕ) (next : Base) →
     fenced base reopening nonce ≡ Taken next →

@@ -18,7 +18,7 @@ pub fn old_has_no_effect()
     ensures { OldHasNoEffect }
 {}
 
-/// States that a committed order is answered again from then on, and has no effect again.
+/// States that a committed order is answered again until the next one is, and has no effect again.
 pub fn commits_once()
     ensures { CommitsOnce }
 {}
@@ -33,7 +33,7 @@ pub fn unknown_does_nothing()
     ensures { UnknownDoesNothing }
 {}
 
-/// States that a fence raises the server's base above all earlier ones; from then on nothing is committed.
+/// States that a fence raises the server's base above all earlier ones; until its settle nothing is committed.
 pub fn fenced_commits_nothing()
     ensures { FencedCommitsNothing }
 {}
