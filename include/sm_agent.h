@@ -22,7 +22,7 @@ enum sm_answer {
   SM_BAD = 0,           /* a kind or a flag is out of range */
   SM_BEGIN = 1,         /* order: begin its work; publication: show its entry from now on */
   SM_WORKING = 2,       /* order: its work has begun, and is not committed yet */
-  SM_AGAIN = 3,         /* it had its effect before: answer it again */
+  SM_AGAIN = 3,         /* it had its effect before, or a later publication had: answer it again */
   SM_OLD = 4,           /* order: it has no effect any more; do not answer it */
   SM_FOREIGN = 5,       /* order: it is of another journal */
   SM_NOT_READY = 6,     /* the server is Unknown or fenced */
