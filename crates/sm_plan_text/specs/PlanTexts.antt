@@ -1,12 +1,14 @@
 -- The text of a plan, over the names of the shards and servers: what is written for it.
--- `scalar_data`, `scalars_put`, `lead_text` and `step_data` are internal: you need not read them for the public
+-- `scalar_data`, `scalars_said`, `tokens_of` and `lead_text` are internal: you need not read them for the public
 -- contracts.
 use Rattle.std.specs.Prelude.{◌≡◌, ℕ, Bool, List, [], ◌∷◌, codes, map, slice_index_or, Option, Some, None, nat_lt, if◌then◌else◌}
 use Rattle.std.specs.List.{list_any}
 use Rattle.std.specs.Borrow.{Bor}
-use Rattle.serde_json.specs.Data.{Data, Members, null, number, unsigned, string, array, object, no_members, member, put}
+use Rattle.serde_json.specs.Data.{Data, Members, null, number, unsigned, string, array, object, no_members, member}
 use Rattle.serde_json.specs.View.{items_of}
-use Rattle.serde_json.specs.Written.{compact_text}
+use Rattle.json.specs.Token.{Token}
+use Rattle.json.specs.Tree.{json_tokens}
+use Rattle.serde_json.specs.Written.{compact_text, outline}
 use Rattle.sm_server.specs.declared.call.Role.{Role}
 use Rattle.sm_server.specs.declared.call.Role.TheVariants.{Primary, Secondary}
 use Rattle.sm_placement.specs.declared.lead.Lead.{Lead}
@@ -54,10 +56,14 @@ scalar_data scalars.Null = null
 scalar_data (scalars.Text text) = string text.now
 scalar_data (scalars.Number n) = whole_data n
 
--- members with such ones put to them, one after another
-abbrev pub scalars_put : Members → List (Bor (List ℕ) × Scalar) → Members
-scalars_put found [] = found
-scalars_put found (m ∷ ms) = scalars_put (put m.0.now (scalar_data m.1) found) ms
+-- members that are such ones, in their order
+abbrev pub scalars_said : List (Bor (List ℕ) × Scalar) → Members
+scalars_said [] = no_members
+scalars_said (m ∷ ms) = member m.0.now (scalar_data m.1) (scalars_said ms)
+
+-- the tokens of a value's text
+abbrev pub tokens_of : Data → List Token
+tokens_of d = json_tokens (outline d)
 
 -- the name of the object with a number
 abbrev pub name_at : List (List ℕ) → ℕ → List ℕ
@@ -152,11 +158,6 @@ prepare_data shards servers word s v other = saying (
     (Other, name_data servers other) ∷
     (Server, name_data servers v) ∷
     (Shard, name_data shards s) ∷ [])
-
--- an instruction for a shard at a server, with one member more
-abbrev pub step_data : List (List ℕ) → List (List ℕ) → List ℕ → ℕ → ℕ → List ℕ → Data → Data
-step_data shards servers word s v key more =
-    object (put key more (put (text_of Shard) (name_data shards s) (put (text_of Server) (name_data servers v) (put (text_of Do) (string word) no_members))))
 
 -- an instruction of a shard alone
 abbrev pub entry_data : List (List ℕ) → List ℕ → ℕ → Data

@@ -1,13 +1,11 @@
 //! Plans as JSON texts.
-ghost use Rattle.std.specs.Prelude.{◌≡◌, ◌<◌, ℕ, Bool, List, length, map, All, IfOk, Ok};
-ghost use Rattle.serde_json.specs.Data.{object, no_members};
-ghost use Rattle.serde_json.specs.View.{view};
+ghost use Rattle.std.specs.Prelude.{◌≡◌, ◌<◌, ◌++◌, ◌∷◌, ℕ, Bool, List, length, map, All, IfOk, OnOk, Ok, if◌then◌else◌};
+ghost use Rattle.json.specs.Token.{key};
+ghost use Rattle.serde_json.specs.Data.{object};
 ghost use Rattle.sm_plan_text.specs.Words.{Data, Member, Setup, IsSetup, names_of_servers, names_of_shards, PlanModel, IsPlan, IsKnownPlan, IsKnownStream, IsKnownInstr, IsKnownParcel, IsKnownCrown, IsKnownCellRight, read_plan};
-ghost use Rattle.sm_plan_text.specs.declared.member.Member.TheVariants as members;
-ghost use Rattle.sm_plan_text.specs.PlanTexts.{name_data, scalar_data, scalars_put, list_data, role_text, plain_text, lead_text, right_data, crown_data, room_data, spare_data, parcel_data, step_data, signal_data, instr_data, stream_data, has_retries, plan_data, plan_text, IsReadBack};
+ghost use Rattle.sm_plan_text.specs.PlanTexts.{name_data, whole_data, scalar_data, scalars_said, tokens_of, list_data, role_text, plain_text, lead_text, right_data, crown_data, room_data, spare_data, parcel_data, prepare_data, signal_data, instr_data, stream_data, has_retries, plan_data, plan_text, IsReadBack};
 
 use self::Scalar::{Null, Number, Text};
-use serde_json::{Map, Value, json, put};
 use sm_placement::{Config, Lead};
 use sm_plan_code::{Instr, Plan, Stream};
 use sm_reservation::{CellRight, Crown, Parcel, PlainCell, Room, Spare};
@@ -22,31 +20,57 @@ enum Scalar<'a> {
     Number(u64),
 }
 
+/// Writes a value that is neither a list nor an object.
+fn write_scalar(value: Scalar<'_>, out: &mut json::Writer) -> Result<(), AllocError>
+    ensures tokens { OnOk result (out.new.tokens ≡ out.old.tokens ++ tokens_of (scalar_data value.entry)) }
+    ensures before { out.new.before ≡ out.old.before }
+{
+    match value {
+        Null => out.null(),
+        Text(text) => out.string(text),
+        Number(number) => out.u64(number),
+    }
+}
+
+/// Writes an object of members that are neither lists nor objects, in this order.
+fn write_object(members: &[(&str, Scalar<'_>)], out: &mut json::Writer) -> Result<(), AllocError>
+    ensures tokens { OnOk result (out.new.tokens ≡ out.old.tokens ++ tokens_of (object (scalars_said members.now))) }
+    ensures before { out.new.before ≡ out.old.before }
+{
+    out.begin_object()?;
+    for member in members {
+        out.key(member.0)?;
+        write_scalar(member.1, out)?;
+    }
+    out.end_object()
+}
+
+/// Writes a member that is a whole number.
+fn write_count(name: &str, count: u32, out: &mut json::Writer) -> Result<(), AllocError>
+    ensures tokens { OnOk result (out.new.tokens ≡ out.old.tokens ++ key name.now ∷ tokens_of (whole_data count)) }
+    ensures before { out.new.before ≡ out.old.before }
+{
+    out.key(name)?;
+    out.u64(u64::from(count))
+}
+
+/// Writes an instruction of a signal.
+fn write_signal(word: &str, signal: u32, out: &mut json::Writer) -> Result<(), AllocError>
+    ensures tokens { OnOk result (out.new.tokens ≡ out.old.tokens ++ tokens_of (signal_data word.now signal)) }
+    ensures before { out.new.before ≡ out.old.before }
+{
+    let signal = ("signal", Number(u64::from(signal)));
+    write_object(&[("do", Text(word)), signal], out)
+}
+
 /// Writes over the names of a configuration, with the retries of streams or without.
 #[derive(Clone, Copy)]
 struct Writer<'c> {
-    alloc: Global,
     config: &'c Config,
     retries: bool,
 }
 
 impl<'c> Writer<'c> {
-    /// Returns an object of members that are neither lists nor objects.
-    fn object(&self, members: &[(&str, Scalar<'_>)]) -> Result<Value, AllocError>
-        ensures { IfOk result (λ value. view value ≡ object (scalars_put no_members members.now)) }
-    {
-        let mut object = Map::new(self.alloc);
-        for member in members {
-            let value = match member.1 {
-                Null => Value::Null,
-                Text(text) => Value::try_from_str(self.alloc, text)?,
-                Number(number) => Value::from(number),
-            };
-            put(&mut object, self.alloc, member.0, value)?;
-        }
-        Ok(Value::Object(object))
-    }
-
     #[tactic(auto, using(crate::proofs::Written::shard_name_at))]
     fn shard(&self, shard: ShardId) -> Scalar<'c>
         requires { shard < length self.now.config.now.shards }
@@ -63,41 +87,59 @@ impl<'c> Writer<'c> {
         Text(self.config.server(server).name.as_str())
     }
 
-    /// Returns an instruction for a shard at a server, with one more member.
-    fn step(
+    /// Writes a step of a handover for a shard at a server, with the other server.
+    fn prepare(
         &self,
         word: &str,
         shard: ShardId,
         server: ServerId,
-        key: &str,
-        more: Scalar<'_>,
-    ) -> Result<Value, AllocError>
+        other: ServerId,
+        out: &mut json::Writer,
+    ) -> Result<(), AllocError>
         requires shard { shard < length self.now.config.now.shards }
         requires server { server < length self.now.config.now.servers }
-        ensures { IfOk result (λ value. view value ≡ step_data (names_of_shards self.now.config.now) (names_of_servers self.now.config.now) word.now shard server key.now (scalar_data more.entry)) }
+        requires other { other < length self.now.config.now.servers }
+        ensures tokens { OnOk result (out.new.tokens ≡ out.old.tokens
+            ++ tokens_of (prepare_data (names_of_shards self.now.config.now) (names_of_servers self.now.config.now)
+            word.now shard server other)) }
+        ensures before { out.new.before ≡ out.old.before }
     {
+        let other = ("other", self.server(other));
         let server = ("server", self.server(server));
         let shard = ("shard", self.shard(shard));
-        self.object(&[("do", Text(word)), server, shard, (key, more)])
+        write_object(&[("do", Text(word)), other, server, shard], out)
     }
 
-    /// Returns an instruction of a signal.
-    fn signal(&self, word: &str, signal: u32) -> Result<Value, AllocError>
-        ensures { IfOk result (λ value. view value ≡ signal_data word.now signal) }
-    {
-        self.object(&[("do", Text(word)), ("signal", Number(u64::from(signal)))])
-    }
-
-    /// Returns a list.
-    fn list<T: PlanPart>(&self, items: &[T]) -> Result<Value, AllocError>
+    /// Writes a list.
+    fn list<T: PlanPart>(&self, items: &[T], out: &mut json::Writer) -> Result<(), AllocError>
         requires { All (T.fits (length self.now.config.now.shards) (length self.now.config.now.servers)) items.now }
-        ensures { IfOk result (λ value. view value ≡ list_data (map (T.written_as (names_of_shards self.now.config.now) (names_of_servers self.now.config.now) self.now.retries) items.now)) }
+        ensures tokens { OnOk result (out.new.tokens ≡ out.old.tokens
+            ++ tokens_of (list_data (map (T.written_as (names_of_shards self.now.config.now)
+            (names_of_servers self.now.config.now) self.now.retries) items.now))) }
+        ensures before { out.new.before ≡ out.old.before }
     {
-        let mut values = Vec::with_capacity(self.alloc, items.len())?;
+        out.begin_array()?;
         for item in items {
-            values.push(item.value(self)?)?;
+            item.write(self, out)?;
         }
-        Ok(Value::Array(values))
+        out.end_array()
+    }
+
+    /// Writes a member that is a list.
+    fn member<T: PlanPart>(
+        &self,
+        name: &str,
+        items: &[T],
+        out: &mut json::Writer,
+    ) -> Result<(), AllocError>
+        requires { All (T.fits (length self.now.config.now.shards) (length self.now.config.now.servers)) items.now }
+        ensures tokens { OnOk result (out.new.tokens ≡ out.old.tokens
+            ++ key name.now ∷ tokens_of (list_data (map (T.written_as (names_of_shards self.now.config.now)
+            (names_of_servers self.now.config.now) self.now.retries) items.now))) }
+        ensures before { out.new.before ≡ out.old.before }
+    {
+        out.key(name)?;
+        self.list(items, out)
     }
 }
 
@@ -139,9 +181,12 @@ trait PlanPart {
     /// The data that it is written as over the names of the shards and of the servers, with retries or without.
     ghost written_as: { List (List ℕ) → List (List ℕ) → Bool → Self → Data };
 
-    fn value(&self, writer: &Writer<'_>) -> Result<Value, AllocError>
+    fn write(&self, writer: &Writer<'_>, out: &mut json::Writer) -> Result<(), AllocError>
         requires { fits (length writer.now.config.now.shards) (length writer.now.config.now.servers) self.now }
-        ensures { IfOk result (λ value. view value ≡ written_as (names_of_shards writer.now.config.now) (names_of_servers writer.now.config.now) writer.now.retries self.now) };
+        ensures tokens { OnOk result (out.new.tokens ≡ out.old.tokens
+            ++ tokens_of (written_as (names_of_shards writer.now.config.now)
+            (names_of_servers writer.now.config.now) writer.now.retries self.now)) }
+        ensures before { out.new.before ≡ out.old.before };
 }
 
 impl PlanPart for CellRight {
@@ -149,10 +194,13 @@ impl PlanPart for CellRight {
 
     ghost written_as = { λ shards servers retries right. right_data shards servers right };
 
-    fn value(&self, writer: &Writer<'_>) -> Result<Value, AllocError> {
+    fn write(&self, writer: &Writer<'_>, out: &mut json::Writer) -> Result<(), AllocError> {
         let (server, shard) = (writer.server(self.server), writer.shard(self.shard));
         let state = Text(state_word(self.state));
-        writer.object(&[("server", server), ("shard", shard), ("state", state)])
+        write_object(
+            &[("server", server), ("shard", shard), ("state", state)],
+            out,
+        )
     }
 }
 
@@ -161,7 +209,7 @@ impl PlanPart for Crown {
 
     ghost written_as = { λ shards servers retries crown. crown_data shards servers crown };
 
-    fn value(&self, writer: &Writer<'_>) -> Result<Value, AllocError> {
+    fn write(&self, writer: &Writer<'_>, out: &mut json::Writer) -> Result<(), AllocError> {
         let lead = ("lead", Text(lead_word(self.lead)));
         let listed = match self.listed {
             Some(server) => ("listed", writer.server(server)),
@@ -169,13 +217,14 @@ impl PlanPart for Crown {
         };
         let shard = ("shard", writer.shard(self.shard));
         match self.lead {
-            Lead::Gone => writer.object(&[lead, listed, shard]),
+            Lead::Gone => write_object(&[lead, listed, shard], out),
             Lead::At(server) => {
-                writer.object(&[lead, listed, ("server", writer.server(server)), shard])
+                let server = ("server", writer.server(server));
+                write_object(&[lead, listed, server, shard], out)
             }
             Lead::Ready(from, to) | Lead::Handing(from, to) | Lead::Handed(from, to) => {
                 let (from, to) = (("from", writer.server(from)), ("to", writer.server(to)));
-                writer.object(&[from, lead, listed, shard, to])
+                write_object(&[from, lead, listed, shard, to], out)
             }
         }
     }
@@ -186,9 +235,9 @@ impl PlanPart for Room {
 
     ghost written_as = { λ shards servers retries room. room_data servers room };
 
-    fn value(&self, writer: &Writer<'_>) -> Result<Value, AllocError> {
+    fn write(&self, writer: &Writer<'_>, out: &mut json::Writer) -> Result<(), AllocError> {
         let server = writer.server(self.server);
-        writer.object(&[("amount", Number(self.amount)), ("server", server)])
+        write_object(&[("amount", Number(self.amount)), ("server", server)], out)
     }
 }
 
@@ -197,9 +246,9 @@ impl PlanPart for Spare {
 
     ghost written_as = { λ shards servers retries spare. spare_data shards spare };
 
-    fn value(&self, writer: &Writer<'_>) -> Result<Value, AllocError> {
+    fn write(&self, writer: &Writer<'_>, out: &mut json::Writer) -> Result<(), AllocError> {
         let shard = writer.shard(self.shard);
-        writer.object(&[("amount", Number(self.amount)), ("shard", shard)])
+        write_object(&[("amount", Number(self.amount)), ("shard", shard)], out)
     }
 }
 
@@ -208,13 +257,13 @@ impl PlanPart for Parcel {
 
     ghost written_as = { λ shards servers retries parcel. parcel_data shards servers parcel };
 
-    fn value(&self, writer: &Writer<'_>) -> Result<Value, AllocError> {
-        json!(in writer.alloc; {
-            "cells": writer.list(self.cells())?,
-            "crowns": writer.list(self.crowns())?,
-            "room": writer.list(self.room())?,
-            "spare": writer.list(self.spare())?,
-        })
+    fn write(&self, writer: &Writer<'_>, out: &mut json::Writer) -> Result<(), AllocError> {
+        out.begin_object()?;
+        writer.member("cells", self.cells(), out)?;
+        writer.member("crowns", self.crowns(), out)?;
+        writer.member("room", self.room(), out)?;
+        writer.member("spare", self.spare(), out)?;
+        out.end_object()
     }
 }
 
@@ -223,41 +272,48 @@ impl PlanPart for Instr {
 
     ghost written_as = { λ shards servers retries instr. instr_data shards servers instr };
 
-    fn value(&self, writer: &Writer<'_>) -> Result<Value, AllocError> {
+    fn write(&self, writer: &Writer<'_>, out: &mut json::Writer) -> Result<(), AllocError> {
         match *self {
             Instr::PrepareAdd {
                 shard,
                 server,
                 owner,
-            } => writer.step("prepare_add", shard, server, "other", writer.server(owner)),
+            } => writer.prepare("prepare_add", shard, server, owner, out),
             Instr::PrepareDrop {
                 shard,
                 server,
                 new_owner,
-            } => {
-                let other = writer.server(new_owner);
-                writer.step("prepare_drop", shard, server, "other", other)
-            }
+            } => writer.prepare("prepare_drop", shard, server, new_owner, out),
             Instr::Add {
                 shard,
                 server,
                 role,
-            } => writer.step("add", shard, server, "role", Text(role_word(role))),
+            } => {
+                let (word, role) = (("do", Text("add")), ("role", Text(role_word(role))));
+                let server = ("server", writer.server(server));
+                write_object(&[word, role, server, ("shard", writer.shard(shard))], out)
+            }
             Instr::Drop { shard, server } => {
                 let server = ("server", writer.server(server));
-                writer.object(&[("do", Text("drop")), server, ("shard", writer.shard(shard))])
+                let shard = ("shard", writer.shard(shard));
+                write_object(&[("do", Text("drop")), server, shard], out)
             }
             Instr::Change { shard, server, to } => {
-                writer.step("change", shard, server, "to", Text(role_word(to)))
+                let server = ("server", writer.server(server));
+                let shard = ("shard", writer.shard(shard));
+                let to = ("to", Text(role_word(to)));
+                write_object(&[("do", Text("change")), server, shard, to], out)
             }
             Instr::Publish { shard } => {
-                writer.object(&[("do", Text("publish")), ("shard", writer.shard(shard))])
+                let shard = ("shard", writer.shard(shard));
+                write_object(&[("do", Text("publish")), shard], out)
             }
             Instr::Unlist { shard } => {
-                writer.object(&[("do", Text("unlist")), ("shard", writer.shard(shard))])
+                let shard = ("shard", writer.shard(shard));
+                write_object(&[("do", Text("unlist")), shard], out)
             }
-            Instr::Signal { signal } => writer.signal("signal", signal),
-            Instr::Wait { signal } => writer.signal("wait", signal),
+            Instr::Signal { signal } => write_signal("signal", signal, out),
+            Instr::Wait { signal } => write_signal("wait", signal, out),
         }
     }
 }
@@ -267,18 +323,17 @@ impl PlanPart for Stream {
 
     ghost written_as = { stream_data };
 
-    fn value(&self, writer: &Writer<'_>) -> Result<Value, AllocError> {
-        let alloc = writer.alloc;
-        let mut stream = Map::new(alloc);
-        put(&mut stream, alloc, "budget", Value::from(self.budget))?;
-        let code = writer.list(self.code.as_slice())?;
-        put(&mut stream, alloc, "code", code)?;
-        put(&mut stream, alloc, "holds", self.holds.value(writer)?)?;
+    fn write(&self, writer: &Writer<'_>, out: &mut json::Writer) -> Result<(), AllocError> {
+        out.begin_object()?;
+        write_count("budget", self.budget, out)?;
+        writer.member("code", self.code.as_slice(), out)?;
+        out.key("holds")?;
+        self.holds.write(writer, out)?;
         if !writer.retries {
-            return Ok(Value::Object(stream));
+            return out.end_object();
         }
-        put(&mut stream, alloc, "retries", Value::from(self.retries))?;
-        Ok(Value::Object(stream))
+        write_count("retries", self.retries, out)?;
+        out.end_object()
     }
 }
 
@@ -289,29 +344,35 @@ fn has_retries(plan: &Plan) -> bool
     plan.streams().iter().any(|stream| stream.retries > 0)
 }
 
-/// Returns a plan.
-fn plan_value(alloc: Global, config: &Config, plan: &Plan) -> Result<Value, AllocError>
-    requires { IsKnownPlan (length config.now.shards) (length config.now.servers) plan.now }
-    ensures { IfOk result (λ value. view value ≡ plan_data (names_of_shards config.now) (names_of_servers config.now) plan.now) }
+/// Returns the format that is written, with retries or without.
+fn format_of(retries: bool) -> u32
+    ensures { result ≡ if retries then 2 else 1 }
 {
-    let writer = Writer {
-        alloc,
-        config,
-        retries: has_retries(plan),
-    };
-    let format = if writer.retries { 2u32 } else { 1u32 };
-    json!(in alloc; {
-        "budget": plan.budget(),
-        "format": format,
-        "signals": writer.list(plan.signals())?,
-        "streams": writer.list(plan.streams())?,
-    })
+    if retries { 2 } else { 1 }
 }
 
-/// States that what is written for a plan is read as that plan.
+/// Writes a plan as an object.
+fn write_members(config: &Config, plan: &Plan, out: &mut json::Writer) -> Result<(), AllocError>
+    requires { IsKnownPlan (length config.now.shards) (length config.now.servers) plan.now }
+    ensures tokens { OnOk result (out.new.tokens ≡ out.old.tokens
+        ++ tokens_of (plan_data (names_of_shards config.now) (names_of_servers config.now) plan.now)) }
+    ensures before { out.new.before ≡ out.old.before }
+{
+    let retries = has_retries(plan);
+    let writer = Writer { config, retries };
+    out.begin_object()?;
+    write_count("budget", plan.budget(), out)?;
+    write_count("format", format_of(retries), out)?;
+    writer.member("signals", plan.signals(), out)?;
+    writer.member("streams", plan.streams(), out)?;
+    out.end_object()
+}
+
+/// States that the text of a plan is read as that plan.
 fn read_back(config: &Config, plan: &Plan)
     requires { IsKnownPlan (length config.now.shards) (length config.now.servers) plan.now }
-    ensures { IsReadBack members.Document (names_of_shards config.now) (names_of_servers config.now) plan.now }
+    ensures { read_plan (names_of_shards config.now) (names_of_servers config.now)
+        (plan_text (names_of_shards config.now) (names_of_servers config.now) plan.now) ≡ Ok plan.now }
 {
     let _shards = config.shard_count();
     let _budget = plan.budget();
@@ -319,14 +380,15 @@ fn read_back(config: &Config, plan: &Plan)
 
 /// Writes a plan as compact JSON over the names of a configuration, without a line feed. Each object has all its members
 /// in the order of their bytes. A plan without retries is of format 1, and one with retries of format 2.
-#[tactic(auto, using(crate::proofs::WrittenPlans::text_is_read, crate::proofs::PlainData::plan_is_plain, crate::proofs::Texts::data_of_text))]
 pub fn write_plan(alloc: Global, config: &Config, plan: &Plan) -> Result<Vec<u8>, AllocError>
     requires { IsKnownPlan (length config.now.shards) (length config.now.servers) plan.now }
     ensures text { IfOk result (λ text. text.items ≡ plan_text (names_of_shards config.now) (names_of_servers config.now) plan.now) }
     ensures reads_back { IfOk result (λ text. read_plan (names_of_shards config.now) (names_of_servers config.now) text.items ≡ Ok plan.now) }
 {
     read_back(config, plan);
-    plan_value(alloc, config, plan)?.to_vec(alloc)
+    let mut out = json::Writer::new(Vec::new(alloc));
+    write_members(config, plan, &mut out)?;
+    Ok(out.into_inner())
 }
 
 /// States that what is written for a plan is read as that plan: no fault is found in it, in whatever member it stands.
