@@ -2,6 +2,7 @@
 from __future__ import annotations
 
 import argparse
+import contextlib
 import hashlib
 import json
 import subprocess
@@ -12,6 +13,7 @@ from typing import Any, Dict, Iterator, List, Optional, Tuple
 
 from . import program
 from .failure import Failure
+from .words import counted
 
 Line = Dict[str, Any]
 
@@ -78,13 +80,19 @@ class Model:
     """The reference model in a process, a line in and a reply out."""
 
     def __init__(self, words: List[str]) -> None:
-        self.process = subprocess.Popen(words, stdin=subprocess.PIPE, stdout=subprocess.PIPE)
+        try:
+            self.process = subprocess.Popen(words, stdin=subprocess.PIPE, stdout=subprocess.PIPE)
+        except OSError as why:
+            raise Failure(f"the session {words[0]}: {why.strerror}", 3) from None
 
     def reply(self, text: str) -> Line:
         """Feeds a line."""
         assert self.process.stdin is not None and self.process.stdout is not None
-        self.process.stdin.write(text.encode() + b"\n")
-        self.process.stdin.flush()
+        try:
+            self.process.stdin.write(text.encode() + b"\n")
+            self.process.stdin.flush()
+        except OSError:
+            raise Failure("the session has ended", 3) from None
         answer = self.process.stdout.readline()
         if not answer:
             raise Failure("the session has ended", 3)
@@ -97,7 +105,8 @@ class Model:
     def close(self) -> None:
         """Ends the process."""
         if self.process.stdin and self.process.stdout:
-            self.process.stdin.close()
+            with contextlib.suppress(OSError):
+                self.process.stdin.close()
             self.process.wait()
             self.process.stdout.close()
 
@@ -233,8 +242,10 @@ def run(told: argparse.Namespace) -> int:
     """Runs the command."""
     try:
         read = read_journal(Path(told.journal).read_text(encoding="utf-8"))
-    except (OSError, UnicodeDecodeError) as why:
-        raise Failure(f"{told.journal} cannot be read: {why}", 2) from None
+    except OSError as why:
+        raise Failure(f"{told.journal}: {why.strerror}") from None
+    except UnicodeDecodeError as why:
+        raise Failure(f"{told.journal} is no journal: its byte {why.start} is not UTF-8") from None
     faults, played, passed_over = list(read.faults), 0, 0
     path = program.find_program(told.program)
     model = Model(told.session)
@@ -252,14 +263,20 @@ def run(told: argparse.Namespace) -> int:
         print(fault)
     torn = ", an end that was not written whole" if read.is_torn else ""
     why = f", {passed_over} not played ({'no program smplan' if path is None else f'more than {MOST_PLANS} plans'})" if passed_over else ""
-    print(f"{len(read.lines)} entries{torn}; {played} epochs played{why}; {len(faults)} faults")
+    entries = counted(len(read.lines), "entry", "entries")
+    print(f"{entries}{torn}; {counted(played, 'epoch')} played{why}; {counted(len(faults), 'fault')}")
     return 1 if faults else 0
 
 
 def add_parser(subparsers: Any) -> None:
     """Adds the command."""
     root = Path(__file__).resolve().parents[2]
-    parser = subparsers.add_parser("audit-journal", help="looks at a journal: its sums, each line by the reference model, each epoch by smplan play")
+    parser = subparsers.add_parser(
+        "audit-journal", help="looks at a journal: its sums, each line by the reference model, each epoch by smplan play",
+        epilog="example: smplan-control audit-journal /var/lib/smpland/journal",
+        description="Tests the sums of a journal, feeds each of its entries to the reference model, and plays each epoch by 'smplan play': both must come "
+        "to the same placement. Exit status 0: no fault was found. 1: each one has a line.",
+    )
     parser.add_argument("journal", help="the file of `smpland JOURNAL`, or the lines that a host has stored")
     parser.add_argument("--session", nargs="+", default=[sys.executable, str(root / "tools" / "smpland_model.py"), "-"], metavar="WORD", help="the session's command line, behind the journal (the reference)")
     parser.add_argument("--strict", action="store_true", help="each entry has to change something, as in a journal of `smpland JOURNAL`")

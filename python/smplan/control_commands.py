@@ -3,6 +3,7 @@ from __future__ import annotations
 
 import argparse
 import importlib
+import os
 import sys
 from typing import List, Optional
 
@@ -16,7 +17,7 @@ def parser() -> argparse.ArgumentParser:
     """Returns the parser of all commands."""
     top = argparse.ArgumentParser(
         prog="smplan-control", description="Drains servers, watches a controller, and audits its journal.",
-        epilog="exit status: 0 done, 1 the answer is no, 2 bad input or a fault of the command line, 3 a controller or a program does not answer",
+        epilog="exit status: 0 done, 1 the answer is no, 2 bad input or a fault of the command line, 3 a controller or a program does not answer, 130 interrupted",
     )
     subparsers = top.add_subparsers(metavar="COMMAND", required=True)
     for name in MODULES:
@@ -28,10 +29,18 @@ def main(words: Optional[List[str]] = None) -> int:
     """Runs one command, and returns its exit status."""
     told = parser().parse_args(words)
     try:
-        return told.run(told)
+        status = told.run(told)
+        sys.stdout.flush()
+        return status
     except Failure as why:
         print(f"smplan-control: {why}", file=sys.stderr)
         return why.status
+    except KeyboardInterrupt:
+        return 130
+    except BrokenPipeError:
+        # (the reader of the output went away, as `head` does; nothing more is written when Python ends)
+        os.dup2(os.open(os.devnull, os.O_WRONLY), sys.stdout.fileno())
+        return 3
 
 
 if __name__ == "__main__":

@@ -9,6 +9,7 @@ from typing import Any, Callable, Dict, List, Optional
 
 from .control_http import fetch
 from .failure import Failure
+from .reading import did_you_mean
 
 Line = Dict[str, Any]
 Post = Callable[[str, Line], Line]
@@ -86,6 +87,9 @@ class Campaign:
     def next_moves(self) -> List[Line]:
         """Asks where everything would go that the server has now."""
         reply = self.post("/ask", {"do": "drain", "server": self.server})
+        if reply.get("bad", {}).get("kind") == "UnknownName":
+            servers = [it["server"] for it in self.post("/ask", {"do": "state"})["state"]["servers"]]
+            raise Failure(f"no server is named '{self.server}'{did_you_mean(self.server, servers)}")
         if "plan" not in reply:
             raise Refused(reply)
         return moves_of(reply["plan"], self.server)
@@ -145,7 +149,12 @@ def at_least(least: float, kind: Callable[[str], float] = float) -> Callable[[st
 
 def add_parser(subparsers: Any) -> None:
     """Adds the command."""
-    parser = subparsers.add_parser("drain", help="empties a server by small plans, one after the other")
+    parser = subparsers.add_parser(
+        "drain", help="empties a server by small plans, one after the other",
+        epilog="example: smplan-control drain berlin-1 --controller http://10.0.0.7:9200 --batch 2 --pause 5",
+        description="Empties a server of its replicas by plans of a few moves each, and waits for plans that are in its way. The first interrupt ends "
+        "it behind the present plan. Exit status 0: the server was empty. 1: it stopped before that, or a plan was refused.",
+    )
     parser.add_argument("server", help="the server's name")
     parser.add_argument("--controller", required=True, metavar="URL", help="the leading controller's HTTP port")
     parser.add_argument("--batch", type=at_least(1, int), default=4, metavar="N", help="moves in a plan (4)")

@@ -65,6 +65,14 @@ async def serve(host: str, port: int, routes: Mapping[str, Route]) -> asyncio.Ab
     return await asyncio.start_server(answer, host, port)
 
 
+def fault_of(body: bytes) -> str:
+    """Returns what a page says that is no answer: its `fault`, or its text."""
+    try:
+        return str(json.loads(body)["fault"])
+    except (ValueError, KeyError, TypeError):
+        return body.decode(errors="replace").strip()
+
+
 def fetch(url: str, line: Optional[Dict[str, Any]] = None, timeout: float = 30.0) -> Any:
     """Gets a page, or posts a line, and returns the answer; fails with status 3 if there is none."""
     body = None if line is None else json.dumps(line).encode()
@@ -72,8 +80,7 @@ def fetch(url: str, line: Optional[Dict[str, Any]] = None, timeout: float = 30.0
         with urlopen(Request(url, data=body), timeout=timeout) as answer:
             text = answer.read()
     except HTTPError as why:
-        told = why.read().decode(errors="replace").strip()
-        raise Failure(f"{url}: {told or why.reason}", 3) from None
+        raise Failure(f"{url}: {fault_of(why.read()) or why.reason}" + ("; ask the next controller" if why.code == 409 else ""), 3) from None
     except ValueError:
         raise Failure(f"{url}: a controller is named as http://HOST:PORT") from None
     except (URLError, OSError) as why:

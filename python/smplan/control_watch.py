@@ -8,6 +8,7 @@ from typing import Any, Dict, List
 
 from .control_drain import at_least
 from .control_http import fetch
+from .words import counted
 
 Line = Dict[str, Any]
 WIDTH = 24
@@ -46,7 +47,7 @@ def message_lines(outgoing: List[Line], most: int) -> List[str]:
     for it in sorted(outgoing, key=lambda told: -told["age"])[:most]:
         message = it["message"]
         what = f"{message.get('call', it['kind'])} {message.get('shard', '')}".strip()
-        lines.append(f"  {it['age']:7.1f} s  {message.get('server') or 'map':<16} {what:<32} sent {it['tries']} times  {it['said']}".rstrip())
+        lines.append(f"  {it['age']:7.1f} s  {message.get('server') or 'map':<16} {what:<32} sent {counted(it['tries'], 'time')}  {it['said']}".rstrip())
     return lines
 
 
@@ -89,11 +90,20 @@ def run_metrics(told: argparse.Namespace) -> int:
 
 def add_parser(subparsers: Any) -> None:
     """Adds both commands."""
-    parser = subparsers.add_parser("watch", help="shows plans, outstanding messages, servers and restarts")
-    parser.add_argument("--controller", required=True, metavar="URL", help="the leading controller's HTTP port")
+    parser = subparsers.add_parser(
+        "watch", help="shows plans, outstanding messages, servers and restarts",
+        epilog="example: smplan-control watch --controller http://10.0.0.7:9200",
+        description="Shows what a controller does until it is interrupted: of each server its load (#), room that plans hold (+) and free room (.), "
+        "running plans, and messages that are not answered, the oldest first.",
+    )
+    parser.add_argument("--controller", required=True, metavar="URL", help="a controller's HTTP port; one that does not lead has no messages")
     parser.add_argument("--every", type=at_least(0), default=1.0, metavar="SECONDS", help="rest before it is shown anew (1)")
     parser.add_argument("--once", action="store_true", help="show it once")
     parser.set_defaults(run=run)
-    parser = subparsers.add_parser("metrics", help="prints figures as Prometheus reads them; a controller serves them at /metrics")
+    parser = subparsers.add_parser(
+        "metrics", help="prints figures as Prometheus reads them; a controller serves them at /metrics",
+        epilog="example: smplan-control metrics --controller http://10.0.0.7:9200",
+        description="Prints a controller's figures once, as it serves them at /metrics.",
+    )
     parser.add_argument("--controller", required=True, metavar="URL", help="a controller's HTTP port")
     parser.set_defaults(run=run_metrics)

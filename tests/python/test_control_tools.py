@@ -5,11 +5,13 @@ import hashlib
 import io
 import json
 import sys
+import tempfile
 import unittest
 
 from smplan import control_audit, control_commands, control_watch
 from smplan.control import Controller, Outgoing, Session
 from smplan.control_drain import Campaign, moves_of
+from smplan.control_http import Page, fetch, serve
 from smplan.control_metrics import metrics_of
 from smplan.control_serve import routes_of
 from smplan.failure import Failure
@@ -124,6 +126,14 @@ class DrainTest(unittest.TestCase):
             with self.assertRaises(SystemExit), contextlib.redirect_stderr(io.StringIO()):
                 control_commands.parser().parse_args(["drain", "a", "--controller", "http://c", *words])
 
+    def test_unknown_server(self):
+        bad = {"bad": {"kind": "UnknownName", "at": "$.server", "text": "bad input: 4 UnknownName server"}}
+        state = {"state": {"servers": [{"server": "oslo-1"}, {"server": "berlin-1"}]}}
+        campaign = Campaign(lambda path, line: bad if line["do"] == "drain" else state, "oslo-2")
+        with self.assertRaisesRegex(Failure, "no server is named 'oslo-2'; did you mean 'oslo-1'") as raised:
+            campaign.run()
+        self.assertEqual(raised.exception.status, 2)
+
     def test_refusal_is_told(self):
         campaign = Campaign(lambda path, line: {"refused": {"text": "no plan: 6 NoPlace shard s"}}, "a")
         with self.assertRaisesRegex(Failure, "NoPlace"):
@@ -180,8 +190,54 @@ class ServeTest(unittest.TestCase):
         self.assertEqual(asyncio.run(statuses()), {400})
 
 
+    def test_no_answer(self):
+        async def told():
+            async def conflict(_):
+                return Page.of({"fault": "this controller does not lead"}, 409)
+
+            async def broken(_):
+                return Page(b"out of order\n", "text/plain", 503)
+
+            server = await serve("127.0.0.1", 0, {"POST /do": conflict, "POST /ask": broken})
+            url = "http://127.0.0.1:%d" % server.sockets[0].getsockname()[1]
+            found = []
+            for path in ("/do", "/ask", "/nowhere"):
+                try:
+                    await asyncio.to_thread(fetch, url + path, {"do": "hello"})
+                except Failure as why:
+                    found.append((str(why).replace(url, ""), why.status))
+            server.close()
+            return found
+
+        self.assertEqual(asyncio.run(told()), [
+            ("/do: this controller does not lead; ask the next controller", 3), ("/ask: out of order", 3), ("/nowhere: no such page", 3),
+        ])
+
+
 class AuditTest(unittest.TestCase):
     """Journals, right and wrong."""
+
+    def audit(self, *words):
+        out, err = io.StringIO(), io.StringIO()
+        with contextlib.redirect_stdout(out), contextlib.redirect_stderr(err):
+            status = control_commands.main(["audit-journal", *words])
+        return status, out.getvalue(), err.getvalue()
+
+    def test_what_cannot_be_read(self):
+        with tempfile.TemporaryDirectory() as folder:
+            path = f"{folder}/journal"
+            self.assertEqual(self.audit(path), (2, "", f"smplan-control: {path}: No such file or directory\n"))
+            with open(path, "wb") as file:
+                file.write(b"ab\xff")
+            self.assertEqual(self.audit(path), (2, "", f"smplan-control: {path} is no journal: its byte 2 is not UTF-8\n"))
+
+    def test_sessions_that_do_not_answer(self):
+        with tempfile.TemporaryDirectory() as folder:
+            path = f"{folder}/journal"
+            with open(path, "w", encoding="utf-8") as file:
+                file.write(journal_of(['{"do":"new_epoch"}']))
+            self.assertEqual(self.audit(path, "--session", f"{folder}/none"), (3, "", f"smplan-control: the session {folder}/none: No such file or directory\n"))
+            self.assertEqual(self.audit(path, "--session", "false"), (3, "", "smplan-control: the session has ended\n"))
 
     def test_sums(self):
         text = journal_of(['{"do":"new_epoch"}', '{"a":"]}"}'], ['{"do":"x"}'])
