@@ -46,6 +46,12 @@ def faults_in(data: bytes, command: Optional[str]) -> List[Fault]:
     return sorted(found, key=lambda it: it.kind.number)
 
 
+def beside_faults(value: Any) -> List[Fault]:
+    """Returns the faults of members that stand beside each other in a document, though the command that reads them takes one."""
+    found = need_faults(value, "play") if "events" in value else []
+    return found + (need_faults(value, "plan") if "moves" in value and "drain" in value else [])
+
+
 def findings_on_plan(plan: Plan, document: Document, placement: Placement, command: Optional[str]) -> List[Finding]:
     """Returns why a plan is refused, or else held up, or else not begun."""
     found = plan_findings(plan, placement) or holding_findings(plan, placement)
@@ -155,8 +161,9 @@ def explain(arguments: argparse.Namespace) -> int:
         print("\n".join(plan_alone_lines(arguments.document)))
         return 1
     found = explained(data, arguments.command)
-    if found.faults:
-        print("\n".join(fault_lines(found.faults, arguments.most)))
+    faults = found.faults or ([] if arguments.command else beside_faults(read_text(data).value))
+    if faults:
+        print("\n".join(fault_lines(faults, arguments.most)))
         return 1
     document = document_of(read_text(data).value)
     said = verdict_lines(document, found, program.find_program(arguments.program))

@@ -47,6 +47,17 @@ class Reasons(unittest.TestCase):
                 self.assertIn(wanted or "nothing is wrong", done.out)
                 self.assertNotIn("The program's word counts", done.out)
 
+    def test_members_of_which_one_is_too_much(self):
+        """They are told of without a command, too, if a command reads both."""
+        document = load(example("drain-berlin-1"))
+        with_both = {"drain": document | {"moves": []}, "plans": load(example("play-two-plans")) | {"plan": load(example("plan-handover"))["plan"]}}
+        for member, both in with_both.items():
+            done = tools("explain", text=json.dumps(both))
+            self.assertEqual(1, done.status)
+            self.assertIn(f"'{member}' stands beside ", done.out)
+        done = tools("explain", text=json.dumps(document | {"plan": load(example("plan-handover"))["plan"], "plans": []}))
+        self.assertNotIn("stands beside", done.out)
+
     def test_a_plan_without_its_document(self):
         """It is told what to do with it, which works."""
         path = example("plan-handover")
