@@ -3,6 +3,7 @@ from dataclasses import dataclass
 from typing import Dict, List, Optional, Set
 
 from .model import Document, Instruction, Lead
+from .words import down_in_words
 
 
 @dataclass(frozen=True)
@@ -179,7 +180,7 @@ def too_many_down(document: Document, placement: Placement) -> List[Finding]:
     if len(placement.down) <= document.limit:
         return []
     names = [it for it in document.servers if it in placement.down]
-    return [Finding("placement refused: 9 TooManyDown", f"{len(names)} servers are down, and 'limit' is {document.limit}", [f"down: {', '.join(names)}"])]
+    return [Finding("placement refused: 9 TooManyDown", f"{down_in_words(len(names))}, and 'limit' is {document.limit}", [f"down: {', '.join(names)}"])]
 
 
 def opening_findings(document: Document) -> List[Finding]:

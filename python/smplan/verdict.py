@@ -7,7 +7,7 @@ from typing import Callable, Dict, List, Set, Tuple
 from .model import Document, Parcel, Plan, Spot
 from .placement import Finding, Placement
 from .rights import Walk, loads_of, walk
-from .words import carried, counted
+from .words import carried, counted, down_in_words
 
 
 def budget_findings(plan: Plan) -> List[Finding]:
@@ -259,7 +259,7 @@ def places_needed(plan: Plan) -> int:
 def log_findings(document: Document, placement: Placement) -> List[Finding]:
     if document.log >= len(placement.down):
         return []
-    return [Finding("log refused: 2 LogFull", f"the log has {counted(document.log, 'place')}, and {len(placement.down)} servers are down",
+    return [Finding("log refused: 2 LogFull", f"the log has {counted(document.log, 'place')}, and {down_in_words(len(placement.down))}",
                     [f"raise \"log\" to {len(placement.down)} at least"])]
 
 

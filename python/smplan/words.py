@@ -9,6 +9,11 @@ def counted(count: int, noun: str, plural: Optional[str] = None) -> str:
     return f"{count} {noun if count == 1 else plural or noun + 's'}"
 
 
+def down_in_words(count: int) -> str:
+    """Returns that so many servers are down."""
+    return f"{counted(count, 'server')} {'is' if count == 1 else 'are'} down"
+
+
 def rights_in_words(parcel: Parcel) -> List[str]:
     """Returns each right of a parcel in words."""
     found = [f"room {amount} at {server}" for server, amount in parcel.room.items()]
