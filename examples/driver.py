@@ -2,8 +2,8 @@
 
     python3 examples/driver.py [DOCUMENT [PROGRAM..]]
 
-DOCUMENT has a `plan`, or a server to `drain`: for that the session asks smplan, which has to be built (`make try`). PROGRAM is the session's command
-line, as build/smpland - with its dash; tools/smpland_model.py - if none is named.
+DOCUMENT (examples/drain-berlin-1.json if none is named) has a `plan`, or a server to `drain`: for that the session asks smplan, which has to be built
+(`make try`). PROGRAM is the session's command line, as build/smpland - with its dash; tools/smpland_model.py - if none is named.
 
 The servers keep slots and data in dictionaries, and the journal is a list. Servers that keep them for good, and messages that get lost, late and
 repeated, are in cluster/.
@@ -80,7 +80,7 @@ class Servers:
 def done(reply, word):
     """Returns what a reply says was done; ends the program with the reply if it was not."""
     if word not in reply:
-        sys.exit(f"driver.py: no {word}: {json.dumps(reply)}")
+        sys.exit(f"driver.py: the session did not answer `{word}`: {json.dumps(reply)}")
     return reply[word]
 
 
@@ -102,8 +102,10 @@ async def main(path, program):
     try:
         with open(path, encoding="utf-8") as file:
             document = json.load(file)
-    except (OSError, ValueError) as why:
-        sys.exit(f"driver.py: {path} cannot be read: {why}")
+    except OSError as why:
+        sys.exit(f"driver.py: {path}: {why.strerror}")
+    except ValueError as why:
+        sys.exit(f"driver.py: {path} is no JSON: {why}")
     plan, drained = document.pop("plan", None), document.pop("drain", None)
     if plan is None and drained is None:
         sys.exit(f"driver.py: {path} has neither a plan nor a server to drain")
