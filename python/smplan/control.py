@@ -350,3 +350,10 @@ class Controller:
         if kind in ("restore", "notice"):
             return {}
         return {"do": "answered", "plan": message["plan"], "stream": message["stream"], "number": message["number"]}
+
+
+if __name__ == "__main__":
+    # (this is a library; who runs it looks for the operator's commands)
+    from .control_commands import main
+
+    raise SystemExit(main())

@@ -4,6 +4,7 @@ import contextlib
 import hashlib
 import io
 import json
+import subprocess
 import sys
 import tempfile
 import unittest
@@ -174,6 +175,14 @@ class WatchTest(unittest.TestCase):
         self.assertIn('smplan_answer_seconds_bucket{le="+Inf"} 2', lines)
         names = [it.split()[2] for it in lines if it.startswith("# TYPE")]
         self.assertEqual(len(names), len(set(names)))
+
+
+class CommandLineTest(unittest.TestCase):
+    """How the commands are named."""
+
+    def test_the_library_as_a_program(self):
+        told = subprocess.run([sys.executable, "-m", "smplan.control", "--help"], capture_output=True, text=True, check=True)
+        self.assertEqual((told.stdout, told.stderr), (control_commands.parser().format_help(), ""))
 
 
 class ServeTest(unittest.TestCase):
