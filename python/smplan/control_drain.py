@@ -7,7 +7,7 @@ import time
 from dataclasses import dataclass
 from typing import Any, Callable, Dict, List, Optional
 
-from .control_http import fetch
+from .control_http import fetch, leads
 from .failure import Failure
 from .reading import did_you_mean
 
@@ -126,6 +126,8 @@ class Campaign:
 def run(told: argparse.Namespace) -> int:
     """Runs the command. The first interrupt ends the campaign behind the present plan."""
     url = told.controller.rstrip("/")
+    if not leads(url):
+        raise Failure(f"{url}: this controller does not lead; ask the next controller", 3)
     campaign = Campaign(lambda path, line: fetch(url + path, line), told.server, told.batch, told.pause, told.stop)
 
     def stop(*_: object) -> None:

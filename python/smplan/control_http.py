@@ -89,3 +89,8 @@ def fetch(url: str, line: Optional[Dict[str, Any]] = None, timeout: float = 30.0
         return json.loads(text)
     except ValueError:
         return text.decode(errors="replace")
+
+
+def leads(url: str) -> bool:
+    """Asks a controller whether it leads."""
+    return "\nsmplan_leads 1" in fetch(url + "/metrics")

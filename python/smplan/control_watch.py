@@ -7,7 +7,7 @@ import time
 from typing import Any, Dict, List
 
 from .control_drain import at_least
-from .control_http import fetch
+from .control_http import fetch, leads
 from .words import counted
 
 Line = Dict[str, Any]
@@ -71,8 +71,8 @@ def run(told: argparse.Namespace) -> int:
     url = told.controller.rstrip("/")
     try:
         while True:
-            leads = "\nsmplan_leads 1" in fetch(url + "/metrics")
-            text = screen(fetch(url + "/ask", {"do": "state"})["state"], fetch(url + "/outgoing"), leads=leads)
+            is_leader = leads(url)
+            text = screen(fetch(url + "/ask", {"do": "state"})["state"], fetch(url + "/outgoing"), leads=is_leader)
             sys.stdout.write(("\033[H\033[J" if sys.stdout.isatty() and not told.once else "") + text)
             sys.stdout.flush()
             if told.once:

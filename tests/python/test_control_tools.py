@@ -177,6 +177,24 @@ class WatchTest(unittest.TestCase):
         self.assertEqual(len(names), len(set(names)))
 
 
+class LeaderTest(unittest.TestCase):
+    """A drain goes to the controller that leads."""
+
+    def test_another_controller(self):
+        async def told():
+            async def metrics(_):
+                return Page(b"# HELP smplan_leads whether this controller acts\n# TYPE smplan_leads gauge\nsmplan_leads 0\n", "text/plain")
+
+            server = await serve("127.0.0.1", 0, {"GET /metrics": metrics})
+            url = "http://127.0.0.1:%d" % server.sockets[0].getsockname()[1]
+            with contextlib.redirect_stderr(io.StringIO()) as err:
+                status = await asyncio.to_thread(control_commands.main, ["drain", "a", "--controller", url + "/"])
+            server.close()
+            return status, err.getvalue().replace(url, "URL")
+
+        self.assertEqual(asyncio.run(told()), (3, "smplan-control: URL: this controller does not lead; ask the next controller\n"))
+
+
 class CommandLineTest(unittest.TestCase):
     """How the commands are named."""
 
