@@ -154,7 +154,8 @@ class Reopenings:
 
     def put(self, shard: Shard, slot: Slot) -> None:
         """Makes a slot what was brought, in memory. Its lock is held."""
-        before, shard.slot, shard.old_owner = shard.slot, slot, None
+        before, has_taken_over = shard.slot, shard.slot.cell == Cell.PREPARED and shard.has_reached_cut
+        shard.slot, shard.old_owner = slot, None
         if slot.cell == before.cell == Cell.PRIMARY:
             shard.wake()
             return
@@ -162,7 +163,7 @@ class Reopenings:
         self.server.stop_following(shard, leaves=slot.cell == Cell.ABSENT)
         if slot.cell != Cell.PRIMARY:
             self.server.sources.close(shard)
-        else:
+        elif not has_taken_over:  # (a new owner that has is a source since then, and knows who is away)
             shard.expect(shard.members)
         if slot.cell == Cell.ABSENT:
             shard.position, shard.chain, shard.members = 0, "", set()

@@ -1,5 +1,5 @@
 """A secondary that is killed is waited for once, for three seconds: not anew by each new owner of its shard, be it by a
-handover or a change of roles. Who was connected until a handover is waited for behind it.
+handover, a change of roles or a reopening in a handover. Who was connected until a handover is waited for behind it.
 
 `python3 tests/cluster/waits.py`
 """
@@ -37,6 +37,14 @@ async def exchange(it: Scripted, old: str, new: str, replicas: list[str]) -> Non
     await it.send(it.order(new, "change", "s", **{"from": "secondary"}, to="primary", **more))
 
 
+async def reopen_in_handover(it: Scripted, old: str, new: str, others: list[str]) -> None:
+    """A reopening makes a new owner the primary that has all writes up to the cut."""
+    for order in it.handover("s", old, new, [old, *others])[:2]:
+        await it.send(order)
+    await asyncio.sleep(1)
+    await it.settle(await it.fence(*it.processes), {"s": {new: "primary", **dict.fromkeys(others, "secondary")}})
+
+
 async def waits() -> dict[str, bool]:
     """What is found of the waits."""
     it = Scripted("abcde")
@@ -63,10 +71,13 @@ async def found_of(it: Scripted) -> dict[str, bool]:
     await exchange(it, "b", "d", ["b", "d", "e"])
     found["nor does a secondary that becomes the primary"] = await push(it, "d", "4") < QUICK
     await asyncio.sleep(1)
+    await reopen_in_handover(it, "d", "a", ["b", "e"])
+    found["nor does a new owner that a reopening makes the primary"] = await push(it, "a", "5") < QUICK
+    await asyncio.sleep(1)
     it.kill("e")
     killed = time.monotonic()
-    await it.move("s", "d", "a", ["b", "d"])
-    await push(it, "a", "5")
+    await it.move("s", "a", "d", ["a", "b"])
+    await push(it, "d", "6")
     found["who was connected until a handover is waited for behind it"] = time.monotonic() - killed > DEAD_AFTER - 0.2
     return found
 
