@@ -125,7 +125,7 @@ class Run:
             await self.calm_down()
             self.tell("everything has come to rest; now the checkers look at it")
             program = shlex.split(self.cluster.program)
-            floors = {it["name"]: 0 if self.story.lost else it["want"] - it["cap"] for it in document_of(self.settings.shape)["shards"]}
+            floors = {it["name"]: it["want"] - it["cap"] for it in document_of(self.settings.shape)["shards"]}
             reference = None if "smpland_model.py" in self.cluster.program else shlex.split(REFERENCE)
             self.verdict = await judge(self.cluster, self.operator, program, reference, self.story.alive, floors, self.story.permits)
             return self.result(counts)

@@ -7,7 +7,7 @@ Histories are those of `python3 -m cluster.servers.history`. Orders are lines of
 lines of the journal with `"do":"answered"`, expected is `{"s":{"a":"primary",..},..}` at the end, wants is
 `{"s":FLOOR,..}`, the fewest replicas that a shard may have, and permits are lines
 `{"server":"a","t":T,"kind":"permit","down":true}` of restarts that were approved (at the latest then) or ended (at the
-earliest then). Exit status 1 if anything is wrong.
+earliest then), and `{"server":"a","t":T,"kind":"lost"}` of servers that are given up. Exit status 1 if anything is wrong.
 """
 from __future__ import annotations
 
@@ -214,6 +214,10 @@ class Checker:
         host.is_down = event["down"]
         for shard in [name for name, at in host.shards.items() if at.state != "absent"]:
             self.look_at_floor(event, shard)
+
+    def on_lost(self, host: Host, event: dict) -> None:
+        """It is given up, so that shards may lack replicas from now on."""
+        self.wants = {}
 
     def look_at_floor(self, event: dict, shard: str) -> None:
         """No shard has fewer replicas at servers that may not be down than it may have. The two of a handover are one."""

@@ -99,6 +99,7 @@ class HandoverStory(LeaderStory, ServerStory):
         async with self.cut(f"client clients {server}"):
             if not await self.wait_for_replicas([server], seconds):
                 return False
+            self.permits.append({"server": server, "t": time.monotonic_ns(), "kind": "lost"})
             await self.cluster.processes[server].kill()
             return True
 

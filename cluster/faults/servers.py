@@ -49,8 +49,10 @@ class ServerStory(Story):
     # Restarts under a permit.
 
     async def forget(self) -> None:
-        """Restarts a server, which loses its slots."""
-        await self.restart_server(True)
+        """Restarts a server, which loses its slots: each time another one, as who is restarted without leave does not get them back."""
+        server = self.dice.choice([it for it in self.alive if it not in self.forgetful] or self.alive)
+        self.forgetful.add(server)
+        await self.restart_server(True, server)
 
     async def restart_server(self, lose_slots: bool | None = None, server: str | None = None, started: Callable[[str], Awaitable[None]] | None = None) -> bool:
         """Asks for leave to restart a server, kills it, starts it again with or without its slots, does what is named once it has `started`, and tells that it

@@ -29,8 +29,10 @@ class Story:
         self.lost: set[str] = set()
         # The shards that a server which was lost was to take.
         self.forsaken: set[str] = set()
-        # When servers went down under a permit and came up, for the checkers.
+        # When servers went down under a permit, came up or were given up, for the checkers.
         self.permits: list[Line] = []
+        # The servers that were to forget their slots.
+        self.forgetful: set[str] = set()
         self.restarting = asyncio.Lock()
         self.names = 0
         # Why the last reopening was refused.

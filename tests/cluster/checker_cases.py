@@ -139,6 +139,7 @@ RIGHT_SERVERS = {
         {"s": ["primary", 1]}, {}).write("a", 2).found(),
     "answers": lambda it: it.order("b", "prepare_add", "prepared").found(orders=[order_line("b", 1)], answered=ANSWERED),
     "a restart of a server that has nothing": lambda it: it.add("b", "permit", down=True).add("b", "permit", down=False).found(),
+    "a drop of the last replica, once a server was given up": lambda it: it.add("b", "lost").order("a", "drop", "absent").found(),
     "an Unknown server that starts, and meets the fence of before": lambda it: started(
         it.add("b", "forget", before=STEP, nonce="k").add("b", "fence", base=2 * STEP, slots={}, at_work=0, nonce="m"), "n")
         .add("b", "fence", base=2 * STEP, slots={}, at_work=0, nonce="o").found(),
@@ -155,6 +156,7 @@ WRONG_SERVERS = {
     "has the primaries": lambda it: it.order("b", "prepare_add", "prepared").order("b", "add", "primary").found(),
     "has 0 replicas": lambda it: it.order("a", "drop", "absent").found(),
     "s has 0 replicas": lambda it: it.add("a", "permit", down=True).found(),
+    "0 replicas": lambda it: it.order("a", "drop", "absent").add("b", "lost").found(),
     "by a server that is absent": lambda it: it.write("b").found(),
     "by a server that is prepared": lambda it: it.order("b", "prepare_add", "prepared").write("b").found(),
     "by a server that is forwarding": lambda it: it.order("b", "prepare_add", "prepared").order("a", "prepare_drop", "forwarding").write("a").found(),

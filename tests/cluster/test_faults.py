@@ -280,6 +280,21 @@ class PartsTest(unittest.TestCase):
         self.assertEqual((names.count("forget"), names.count("restart_server")), (3, 0))
 
 
+class ForgettingTest(unittest.IsolatedAsyncioTestCase):
+    """Servers that are restarted and lose their slots."""
+
+    async def test_each_time_another_one(self):
+        story, names = HandoverStory(SimpleNamespace(shape=Shape(servers=3)), SimpleNamespace(), None, 1, lambda text: None), []
+
+        async def restart_server(lose_slots, server):
+            names.append(server)
+
+        story.restart_server = restart_server
+        for _ in range(4):
+            await story.forget()
+        self.assertEqual((sorted(names[:3]), len(names)), (["a", "b", "c"], 4))
+
+
 class SourceTest(unittest.TestCase):
     """Whom a secondary asks for its shard's writes."""
 
