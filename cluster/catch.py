@@ -28,15 +28,16 @@ PARTS = (
 # (a server that goes down without leave and has its slots again is one that crashed)
 FORGETTING = tuple((share, "forget" if name == "restart_server" else name) for share, name in PARTS)
 REOPENINGS = ((0.05, "reopen_amid_passing"), (0.3, "reopen_amid_passing"), (0.6, "reopen_amid_passing"))
+OFTEN = (0.05, 0.2, 0.35, 0.5, 0.65, 0.8)
 PARTS_OF = {
     "restart-without-approval": FORGETTING,
     "new-journal-without-reopening": ((0.5, "open_anew"),),
     "restore-without-nonce": ((0.05, "forget_twice"), (0.3, "forget_twice"), (0.6, "forget_twice")),
     "change-while-writing": ((0.3, "kill_leader"), (0.6, "crash_server")),
-    "fence-while-passed": REOPENINGS,
+    "fence-while-passed": tuple((share, "reopen_amid_passing") for share in OFTEN),
     "commit-after-fence": REOPENINGS,
     "settle-twice": REOPENINGS,
-    "cut-unheeded": tuple((share, "break_following") for share in (0.05, 0.2, 0.35, 0.5, 0.65, 0.8)),
+    "cut-unheeded": tuple((share, "break_following") for share in OFTEN),
 }
 # How many of the moves are changes of roles, if not as many as otherwise.
 SWAPS_OF = {"change-while-writing": 0.9, "no-numbers": 0.5}

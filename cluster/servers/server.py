@@ -174,7 +174,7 @@ class Server:
 
     def lag(self, shard: Shard) -> float:
         """How late it is, at most, with the writes that it follows."""
-        slow = {"add-without-cut": 0.6 if shard.slot.cell == Cell.PREPARED else 0}
+        slow = {"add-without-cut": 1.5 if shard.slot.cell == Cell.PREPARED else 0}
         return self.longest_lag or slow.get(self.bug, 0)
 
     # -- messages of the controller
