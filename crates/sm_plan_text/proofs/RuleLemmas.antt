@@ -100,3 +100,35 @@ pub worded_value : {W : Type 0} (P : Option W → Type 0) (Q : W → Type 0) (pa
 worded_value P Q parent word named table d text start end none is_text holds is is_end is_none =
     by_its_word P Q parent word table d (option_and_then named (text_found word d)) holds (none_at_all start end (worded_faults parent word named table d) is_end is_none)
     (subst (λ o. IfSome o Q) (ap named is_text ∙ sym (at_word named (text_found word d) none)) is)
+
+-- the faults by the rules of a word that says a table are those by that table
+by_its_rules : {W : Type 0} (table : W → List Row) (scope : Scope) (d : Data) (rules : List Rule) (opened end : Option TextFault) (o : Option W)
+    → Some (map (row_of scope) rules) ≡ option_map table o
+    → IfSome o (λ w. end ≡ noted opened (flat_map (row_faults d) (table w)))
+    → end ≡ noted opened (flat_map (row_faults d) (map (row_of scope) rules))
+by_its_rules table scope d rules opened end None is is_end = absurd (cc)
+by_its_rules table scope d rules opened end (Some w) is is_end =
+    is_end ∙ ap (λ rows. noted opened (flat_map (row_faults d) rows)) (sym (ap (λ o. unwrap_or o []) is))
+
+-- noting what an object's members are, and then the faults by the table of its word, notes what the definition says of such an object
+pub worded_taken : {W : Type 0} (parent word : Member) (named : List ℕ → Option W) (table : W → List Row) (scope : Scope) (d : Data) (text : List ℕ) (rules : Bor (List Rule)) (start opened end : Option TextFault)
+    → named [] ≡ None → text ≡ text_in word d
+    → Some (map (row_of scope) rules.now) ≡ option_map table (named text)
+    → opened ≡ noted start (object_faults parent (text_of word ∷ map (λ r. text_of (member_of r)) rules.now) d)
+    → IfSome (named text) (λ w. end ≡ noted opened (flat_map (row_faults d) (table w)))
+    → end ≡ noted start (worded_faults parent word named table d)
+worded_taken parent word named table scope d text rules start opened end none is_text is_table is_opened is_end =
+    worded_faults_noted parent word named table scope d text (Some rules) start end none is_text is_table
+    (worded_noted parent word scope rules.now d start opened end is_opened (by_its_rules table scope d rules.now opened end (named text) is_table is_end))
+
+-- a word without rules says none of the tables
+no_table : {W : Type 0} (table : W → List Row) (o : Option W) → None ≡ option_map table o → o ≡ None
+no_table table None is = refl
+no_table table (Some w) is = absurd (cc)
+
+-- what an object says by a word without rules
+pub wordless_value : {W V : Type 0} (word : Member) (named : List ℕ → Option W) (table : W → List Row) (by : Option W → V) (d : Data) (text : List ℕ)
+    → named [] ≡ None → text ≡ text_in word d → None ≡ option_map table (named text)
+    → by None ≡ by (option_and_then named (text_found word d))
+wordless_value word named table by d text none is_text is_table =
+    ap by (sym (at_word named (text_found word d) none ∙ sym (ap named is_text) ∙ no_table table (named text) is_table))

@@ -1,17 +1,18 @@
 //! Rules for the members of an object, and the faults of one that breaks them.
 ghost use Rattle.std.specs.Prelude.{◌≡◌, map, option_map, IfOk, OnOk};
 ghost use Rattle.std.specs.List.{flat_map, cons_option};
-ghost use Rattle.sm_plan_text.specs.Words.{view, members_view, as_number, text_of, noted, is_name, own_faults, row_of};
-ghost use Rattle.sm_plan_text.specs.Tables.{texts_found, has_double_key, is_among, has_unknown_member, object_faults, row_faults, value_faults, entry_faults, by_word, text, list, keyed};
+ghost use Rattle.sm_plan_text.specs.Words.{view, members_view, as_number, text_of, noted, is_name, own_faults, row_of, id_in, number_in, number_or};
+ghost use Rattle.sm_plan_text.specs.Tables.{one, maybe, whole, known, texts_found, has_double_key, is_among, has_unknown_member, object_faults, row_faults, value_faults, entry_faults, by_word, text, list, keyed};
 ghost use Rattle.sm_plan_text.specs.Rules.{has_form, number_faults, want_of, member_of};
 
-use crate::cursor::{Scope, after_of, items_of, role_of, state_of};
+use crate::cursor::{Scope, after_of, id, items_of, role_of, state_of};
 use crate::limits::MOST_ASKS;
 use crate::{Cursor, Faults, Member, Names, TextFault};
 use indexmap::IndexSet;
 use json_tree::Tree;
 use sm_placement::is_name;
 use sm_plan_code::MOST_RIGHTS;
+use sm_server::{ServerId, ShardId};
 use std::alloc::{AllocError, Global};
 
 /// The form that the value of a member is to have.
@@ -251,7 +252,7 @@ impl<'p, 't> Cursor<'p, 't> {
     }
 
     /// Notes the faults of one member of an object.
-    fn note_row(&self, rule: &Rule, faults: &mut Faults) -> Result<(), AllocError>
+    pub fn note_row(&self, rule: &Rule, faults: &mut Faults) -> Result<(), AllocError>
         ensures { OnOk result (faults.new.lowest ≡ noted faults.old.lowest (row_faults (view self.now.tree.now) (row_of self.now.scope rule.now))) }
     {
         let (Rule::One(member, form) | Rule::Maybe(member, form)) = *rule;
@@ -281,7 +282,7 @@ impl<'p, 't> Cursor<'p, 't> {
     }
 
     /// Notes a fault unless it is an object that has no members beside its word and those with a rule.
-    fn note_unknown(&self, word: Option<Member>, rules: &[Rule], faults: &mut Faults)
+    pub fn note_unknown(&self, word: Option<Member>, rules: &[Rule], faults: &mut Faults)
         ensures { faults.new.lowest ≡ noted faults.old.lowest
             (object_faults self.now.member (cons_option (option_map text_of word) (map (λ rule. text_of (member_of rule)) rules.now)) (view self.now.tree.now)) }
     {
@@ -320,5 +321,76 @@ impl<'p, 't> Cursor<'p, 't> {
         };
         self.note_unknown(Some(word), rules, faults);
         self.note_rows(rules, faults)
+    }
+}
+
+/// Each call returns what a member of an object says, and notes what is wrong with the member, which is found once.
+impl<'p, 't> Cursor<'p, 't> {
+    fn take_id(&self, member: Member, names: &Names, faults: &mut Faults) -> u32
+        ensures id { result ≡ id_in names.now member (view self.now.tree.now) }
+        ensures faults { faults.new.lowest ≡ noted faults.old.lowest (row_faults (view self.now.tree.now) (one member (known names.now))) }
+    {
+        let Some(text) = self.find(member).and_then(Tree::as_str) else {
+            faults.note(TextFault::Shape { member });
+            return 0;
+        };
+        let Some(number) = names.find(text) else {
+            faults.note(TextFault::UnknownName { member });
+            return 0;
+        };
+        id(number)
+    }
+
+    /// Returns the shard that a member is to name.
+    pub fn take_shard(&self, member: Member, faults: &mut Faults) -> ShardId
+        ensures shard { result ≡ id_in self.now.scope.shards.now member (view self.now.tree.now) }
+        ensures faults { faults.new.lowest ≡ noted faults.old.lowest (row_faults (view self.now.tree.now) (one member (known self.now.scope.shards.now))) }
+    {
+        ShardId::new(self.take_id(member, self.scope.shards, faults))
+    }
+
+    /// Returns the server that a member is to name.
+    pub fn take_server(&self, member: Member, faults: &mut Faults) -> ServerId
+        ensures server { result ≡ id_in self.now.scope.servers.now member (view self.now.tree.now) }
+        ensures faults { faults.new.lowest ≡ noted faults.old.lowest (row_faults (view self.now.tree.now) (one member (known self.now.scope.servers.now))) }
+    {
+        ServerId::new(self.take_id(member, self.scope.servers, faults))
+    }
+
+    /// Returns the whole number up to a limit that a member is to be, or the default if it is missing.
+    pub fn take_number_or(
+        &self,
+        member: Member,
+        limit: u32,
+        default: u32,
+        faults: &mut Faults,
+    ) -> u32
+        ensures number { result ≡ number_or default member limit (view self.now.tree.now) }
+        ensures faults { faults.new.lowest ≡ noted faults.old.lowest (row_faults (view self.now.tree.now) (maybe member (whole limit))) }
+    {
+        let Some(tree) = self.find(member) else {
+            return default;
+        };
+        let value = Cursor {
+            tree,
+            member,
+            ..*self
+        };
+        value.note_number(Form::Whole(limit), faults);
+        match tree.as_u64() {
+            Some(n) if n <= u64::from(limit) => n as u32,
+            _ => 0,
+        }
+    }
+
+    /// Returns the whole number up to a limit that a member is to be.
+    pub fn take_number(&self, member: Member, limit: u32, faults: &mut Faults) -> u32
+        ensures number { result ≡ number_in member limit (view self.now.tree.now) }
+        ensures faults { faults.new.lowest ≡ noted faults.old.lowest (row_faults (view self.now.tree.now) (one member (whole limit))) }
+    {
+        let is_missing = self.find(member).is_none();
+        let number = self.take_number_or(member, limit, 0, faults);
+        faults.note_unless(!is_missing, TextFault::Shape { member });
+        number
     }
 }
