@@ -132,3 +132,20 @@ pub wordless_value : {W V : Type 0} (word : Member) (named : List ℕ → Option
     → by None ≡ by (option_and_then named (text_found word d))
 wordless_value word named table by d text none is_text is_table =
     ap by (sym (at_word named (text_found word d) none ∙ sym (ap named is_text) ∙ no_table table (named text) is_table))
+
+-- noting the faults of one member notes those of a table of it
+pub one_row : (d : Data) (a : Row) (best end : Option TextFault) → end ≡ noted best (row_faults d a) → end ≡ noted best (flat_map (row_faults d) (a ∷ []))
+one_row d a best end is = is ∙ sym (noted_append best (row_faults d a) [])
+
+-- the same of two members
+pub two_rows : (d : Data) (a b : Row) (best end : Option TextFault) → end ≡ noted best (row_faults d a ++ row_faults d b) → end ≡ noted best (flat_map (row_faults d) (a ∷ b ∷ []))
+two_rows d a b best end is =
+    one_row d b (noted best (row_faults d a)) end (is ∙ noted_append best (row_faults d a) (row_faults d b)) ∙
+    sym (noted_append best (row_faults d a) (flat_map (row_faults d) (b ∷ [])))
+
+-- the same of two members, and of one more behind them
+pub three_rows : (d : Data) (a b c : Row) (best middle end : Option TextFault) → middle ≡ noted best (row_faults d a ++ row_faults d b) → end ≡ noted middle (row_faults d c) → end ≡ noted best (flat_map (row_faults d) (a ∷ b ∷ c ∷ []))
+three_rows d a b c best middle end is_middle is_end =
+    two_rows d b c (noted best (row_faults d a)) end
+    (is_end ∙ ap (λ m. noted m (row_faults d c)) (is_middle ∙ noted_append best (row_faults d a) (row_faults d b)) ∙ sym (noted_append (noted best (row_faults d a)) (row_faults d b) (row_faults d c))) ∙
+    sym (noted_append best (row_faults d a) (flat_map (row_faults d) (b ∷ c ∷ [])))
