@@ -15,6 +15,10 @@ use thiserror::Error;
 /// The greatest depth to which arrays and objects may nest.
 pub const MAX_DEPTH: usize = 127;
 
+/// The number of members that an object has room for from its start: most have no more. A list that is given back in the
+/// size in which it was taken is there at once for the next object.
+const FEW_MEMBERS: usize = 3;
+
 /// Why a text was not read.
 #[derive(Clone, Copy, Debug, Drop, PartialEq, Eq, Error)]
 pub enum ReadFault {
@@ -111,6 +115,15 @@ fn read_items<'a>(
     Ok(found)
 }
 
+/// Gives back the room that no member stands in, unless it is no more than each object has from its start.
+fn trim(members: &mut Vec<(&str, Tree<'_>)>)
+    ensures { members.new.items ≡ members.old.items }
+{
+    if members.len() > FEW_MEMBERS {
+        members.shrink_to_fit();
+    }
+}
+
 /// Returns the members of an object, to its end.
 #[cycle(read)]
 #[inline(never)]
@@ -125,11 +138,11 @@ fn read_members<'a>(
     ensures not_json { result ≡ Err ReadFault.NotJson
         → converted (λ ms. of_members ms no_members) (members (value depth) (length reader.old) reader.old) ≡ None }
 {
-    let mut found = Vec::new(alloc);
+    let mut found = Vec::with_capacity(alloc, FEW_MEMBERS)?;
     'members: while let Some(name) = reader.next_key()? {
         let member = read_value(alloc, reader, depth)?;
         found.push((name, member)).or(Err(ReadFault::NoMemory))?;
     }
-    found.shrink_to_fit();
+    trim(&mut found);
     Ok(found)
 }

@@ -149,7 +149,7 @@ read_members-returns-clause-ok t c =
     let l = c.members in
     let n = l.invariant.0 in
     let old = members_view l.found.items in
-    l.invariant.2 ∙ members_over p old n l.reader c.next_key.new.self l.invariant.1 (grind arith) ∙ ap (λ ms. Some (members_view ms, c.next_key.new.self)) (sym c.shrink_to_fit.ensures.items)
+    l.invariant.2 ∙ members_over p old n l.reader c.next_key.new.self l.invariant.1 (grind arith) ∙ ap (λ ms. Some (members_view ms, c.next_key.new.self)) (sym c.trim.ensures)
 
 pub read_value-returns-in_ok-ok_or-in-Number-clause-ok : goal.read_value-returns-in_ok-ok_or-in-Number-clause-ok
 read_value-returns-in_ok-ok_or-in-Number-clause-ok t c =
