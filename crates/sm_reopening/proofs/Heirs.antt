@@ -1,17 +1,18 @@
 -- The search for who inherits a shard.
 use Rattle.std.proofs.Common.{◌≡◌, ◌≢◌, ◌∙◌, ◌+◌, ◌<◌, ◌≤◌, ◌↔◌, ◌⊎◌, ℕ, Bool, true, false, Option, Some, None, length, refl, sym, ap, subst, arith, inl, inr}
-use Rattle.std.specs.Prelude.{if◌then◌else◌}
-use Rattle.std.proofs.lemmas.Bool.{cases_eq, cases_lt}
+use Rattle.std.specs.Prelude.{◌&&◌, IfSome, if◌then◌else◌, is_none, nat_lt}
+use Rattle.std.specs.List.{range_with_len}
+use Rattle.std.proofs.lemmas.Bool.{and_from, cases_Bool, cases_eq, cases_lt, lt-ltb}
 use Rattle.sm_network.specs.Reopening.{Inventory, Server}
 use Rattle.sm_network.specs.ReopeningLaws.{claim, claim_told}
 use Rattle.sm_reopening.specs.declared.ongoing.OngoingReopening.{OngoingReopening}
 use Rattle.sm_reopening.specs.declared.survivors.Standing.{Standing}
 use Rattle.sm_reopening.specs.Ongoing.{recorded_place, net_reopening}
-use Rattle.sm_reopening.specs.Survivors.{HasNoSurvivor, IsHeirOf, standing_of, stands_above}
+use Rattle.sm_reopening.specs.Survivors.{HasNoSurvivor, IsHeirOf, heir_of, is_best, standing_of, stands_above}
 use Rattle.sm_reopening.proofs.Standings.{above_all, above_means, below_claim, not_above, not_above_itself, still_below}
 use Rattle.std.proofs.lemmas.List.{get_or_past}
 use Rattle.sm_placement.specs.Opening.{first_below}
-use Rattle.sm_placement.proofs.Searches.{first_none}
+use Rattle.sm_placement.proofs.Searches.{cases_Option, find_filter, first_listed, first_none, first_none_from}
 use Rattle.sm_reopening.specs.declared.party.Membership.TheVariants.{Member}
 use Rattle.sm_reopening.specs.declared.state.ServerState.{ServerState}
 use Rattle.sm_reopening.specs.States.{fresh_state, told_position}
@@ -113,3 +114,37 @@ one_inherits x s u v a b = elim (cases_lt u v) [
     | inr m ↦ omega arith
   ]
 ]
+
+-- the lowest number that passes is found
+first_found : (n : ℕ) (t : ℕ → Bool) (u : ℕ) → u < n → t u ≡ true → ((k : ℕ) → k < u → t k ≡ false) → first_below n t ≡ Some u
+first_found n t u l e none = find_filter t (range_with_len 0 n) _ u (first_listed t 0 n u (omega arith) (omega arith) e (λ k _ m. none k m))
+
+-- somebody is there who passes
+some_there : (n : ℕ) (t : ℕ → Bool) (u : ℕ) → u < n → t u ≡ true → is_none (first_below n t) ≡ false
+some_there n t u l e = elim (cases_Option (first_below n t)) [
+  | inl none ↦ absurd (let z = sym (first_none n t none u l) ∙ e in cc)
+  | inr some ↦ rw some.1 refl
+]
+
+-- who inherits is the best
+best_is : (x : OngoingReopening) (s u : ℕ) → IsHeirOf x s u → is_best x s u ≡ true
+best_is x s u h = and_from _ _ (lt-ltb 0 (standing_of x s u).claim h.claims)
+    (ap is_none (first_none_from (length x.servers.items) (λ v. stands_above (standing_of x s v) (standing_of x s u)) (λ v _. h.best v)))
+
+-- and those below it are not
+not_best : (x : OngoingReopening) (s u v : ℕ) → IsHeirOf x s u → v < u → is_best x s v ≡ false
+not_best x s u v h l =
+    let above = some_there (length x.servers.items) (λ w. stands_above (standing_of x s w) (standing_of x s v)) u h.known (h.first v l) in
+    ap (λ b. nat_lt 0 (standing_of x s v).claim && b) above ∙ and_false (nat_lt 0 (standing_of x s v).claim)
+  where
+    and_false : (b : Bool) → (b && false) ≡ false
+    and_false true = refl
+    and_false false = refl
+
+-- so it is the first of those
+pub heir_exact : (x : OngoingReopening) (s : ℕ) (heir : Option ℕ) → IfSome heir (IsHeirOf x s) → (heir ≡ None → HasNoSurvivor x s) → heir ≡ heir_of x s
+heir_exact x s (Some u) is none = sym (first_found (length x.servers.items) (is_best x s) u is.known (best_is x s u is) (λ v l. not_best x s u v is l))
+heir_exact x s None is none = sym (first_none_from (length x.servers.items) (is_best x s) (λ v _. nobody v (none refl v)))
+  where
+    nobody : (v : ℕ) → (standing_of x s v).claim ≡ 0 → is_best x s v ≡ false
+    nobody v e = ap (λ n. nat_lt 0 n && is_none (first_below (length x.servers.items) (λ w. stands_above (standing_of x s w) (standing_of x s v)))) e

@@ -13,7 +13,7 @@ use Rattle.sm_reopening.specs.declared.party.FoundSlot.{FoundSlot}
 use Rattle.sm_reopening.specs.declared.ongoing.OngoingReopening.{OngoingReopening}
 use Rattle.sm_reopening.specs.Ongoing.{left_out_of, past_state, recorded_place, net_reopening, told_slot}
 use Rattle.sm_reopening.specs.Settles.{nonce_of}
-use Rattle.sm_reopening.specs.Survivors.{HasNoSurvivor, IsHeirOf, standing_of}
+use Rattle.sm_reopening.specs.Survivors.{HasNoSurvivor, IsHeirOf, heir_of, standing_of}
 
 -- by shard and server, the role that the document gives
 abbrev pub Documented : Type 0
@@ -47,6 +47,19 @@ pub record IsProposedPrimary (x : OngoingReopening) (d : Documented) (s : ℕ) (
   pub heir : (u : ℕ) → is_led x d s ≡ true → IsHeirOf x s u → primary ≡ Some u
   pub documented : is_led x d s ≡ true → HasNoSurvivor x s → primary ≡ first_below (net_reopening x).servers (λ v. is_primary_role (role_counted x d s v))
   pub none : is_led x d s ≡ false → primary ≡ None
+
+-- the lowest Unknown server that the document has as the shard's primary
+abbrev pub documented_primary : OngoingReopening → Documented → ℕ → Option ℕ
+documented_primary x d s = first_below (net_reopening x).servers (λ v. is_primary_role (role_counted x d s v))
+
+-- the first, or otherwise the second
+abbrev pub first_or : Option ℕ → Option ℕ → Option ℕ
+first_or (Some u) other = Some u
+first_or None other = other
+
+-- that primary as a function
+abbrev pub primary_of : OngoingReopening → Documented → ℕ → Option ℕ
+primary_of x d s = if is_led x d s then first_or (heir_of x s) (documented_primary x d s) else None
 
 -- a replica: the primary or a secondary
 abbrev pub has_replica_role : Cell → Bool

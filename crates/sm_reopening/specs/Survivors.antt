@@ -1,6 +1,7 @@
 -- The heirs of a shard: the survivors, by what they told or are recorded to have.
 -- `slot_claim` is internal: you need not read it for the public contracts.
-use Rattle.std.specs.Prelude.{◌≡◌, ◌<◌, ℕ, ◌&&◌, ◌||◌, ◌==◌, Bool, true, false, Option, Some, None, nat_lt}
+use Rattle.std.specs.Prelude.{◌≡◌, ◌<◌, ℕ, ◌&&◌, ◌||◌, ◌==◌, Bool, true, false, Option, Some, None, is_none, nat_lt}
+use Rattle.sm_placement.specs.Opening.{first_below}
 use Rattle.sm_network.specs.ReopeningLaws.{claim, claim_of}
 use Rattle.sm_reopening.specs.declared.ongoing.OngoingReopening.{OngoingReopening}
 use Rattle.sm_reopening.specs.declared.survivors.Standing.{Standing}
@@ -30,3 +31,12 @@ pub record IsHeirOf (x : OngoingReopening) (s u : ℕ) : Type 0 where
 -- nobody has a claim to the shard
 abbrev pub HasNoSurvivor : OngoingReopening → ℕ → Type 0
 HasNoSurvivor x s = (v : ℕ) → (standing_of x s v).claim ≡ 0
+
+-- the server has a claim to the shard, and nobody stands above it
+abbrev pub is_best : OngoingReopening → ℕ → ℕ → Bool
+is_best x s u =
+    nat_lt 0 (standing_of x s u).claim && is_none (first_below (net_reopening x).servers (λ v. stands_above (standing_of x s v) (standing_of x s u)))
+
+-- who inherits the shard, if there is a survivor: the lowest of these
+abbrev pub heir_of : OngoingReopening → ℕ → Option ℕ
+heir_of x s = first_below (net_reopening x).servers (is_best x s)

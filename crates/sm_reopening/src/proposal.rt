@@ -4,7 +4,7 @@ ghost use Rattle.sm_placement.specs.Layout.{grid_of};
 ghost use Rattle.sm_placement.specs.Lead.{has_part};
 ghost use Rattle.sm_placement.specs.Opening.{first_below};
 ghost use Rattle.sm_reopening.specs.Ongoing.{net_reopening};
-ghost use Rattle.sm_reopening.specs.Proposal.{IsProposedPrimary, had_something, has_told_part, has_told_replica, has_whole, is_bare, is_primary_role, has_replica_role, is_silent_heir, keeps_replica, leads_shard, proposed_cell, role_counted};
+ghost use Rattle.sm_reopening.specs.Proposal.{IsProposedPrimary, had_something, has_told_part, has_told_replica, has_whole, is_bare, is_primary_role, has_replica_role, is_silent_heir, keeps_replica, leads_shard, primary_of, proposed_cell, role_counted};
 
 use crate::ongoing::OngoingReopening;
 use crate::party::{FoundSlot, Membership};
@@ -143,7 +143,8 @@ impl OngoingReopening {
     /// Returns the primary that is proposed for a shard. `documented` has the document's roles, shard after shard, with one for each number
     /// of a server.
     pub fn proposed_primary(&self, documented: &[Option<Role>], shard: ShardId) -> Option<ServerId>
-        ensures { IsProposedPrimary self.now (grid_of (net_reopening self.now).servers None documented.now) shard result }
+        ensures proposed { IsProposedPrimary self.now (grid_of (net_reopening self.now).servers None documented.now) shard result }
+        ensures exact { result ≡ primary_of self.now (grid_of (net_reopening self.now).servers None documented.now) shard }
     {
         if self.first_leading(documented, shard).is_none() {
             return None;

@@ -1,9 +1,12 @@
 -- The primary is who inherits, or the document's.
 use Rattle.std.proofs.Common.{◌≡◌, ◌∙◌, ◌<◌, ℕ, Bool, true, false, Option, Some, None, IfSome, refl, sym, ap, subst, arith}
-use Rattle.std.specs.Prelude.{is_none, is_some, not}
+use Rattle.std.specs.Prelude.{if◌then◌else◌, is_none, is_some, not}
 use Rattle.sm_reopening.specs.declared.ongoing.OngoingReopening.{OngoingReopening}
-use Rattle.sm_reopening.specs.Survivors.{HasNoSurvivor, IsHeirOf}
-use Rattle.sm_reopening.proofs.Heirs.{one_inherits}
+use Rattle.sm_placement.specs.Layout.{grid_of}
+use Rattle.sm_reopening.specs.Ongoing.{net_reopening}
+use Rattle.sm_reopening.specs.Proposal.{Documented, documented_primary, first_or, is_led, primary_of}
+use Rattle.sm_reopening.specs.Survivors.{HasNoSurvivor, IsHeirOf, heir_of}
+use Rattle.sm_reopening.proofs.Heirs.{heir_exact, one_inherits}
 use Rattle.sm_reopening.proofs.ongoing.OngoingReopening.proposed_primary.Goals as goal
 
 is_heir : (x : OngoingReopening) (s u : ℕ) (o : Option ℕ) → IfSome o (IsHeirOf x s) → is_some o ≡ true → IsHeirOf x s u → o ≡ Some u
@@ -14,13 +17,13 @@ none_found : (o : Option ℕ) → is_some o ≡ false → o ≡ None
 none_found None e = refl
 none_found (Some x) e = absurd (cc)
 
-pub returns-then-is_none : goal.returns-then-is_none
-returns-then-is_none c =
+pub returns-then-is_none-clause-proposed : goal.returns-then-is_none-clause-proposed
+returns-then-is_none-clause-proposed c =
     let led = sym (ap is_some c.first_leading.ensures) ∙ c.is_none.ensures ∙ ap not c.if-is_none.true in
     record { heir = λ u l i. absurd (let z = sym led ∙ l in cc); documented = λ l n. absurd (let z = sym led ∙ l in cc); none = λ e. refl }
 
-pub returns-then-is_some : goal.returns-then-is_some
-returns-then-is_some c =
+pub returns-then-is_some-clause-proposed : goal.returns-then-is_some-clause-proposed
+returns-then-is_some-clause-proposed c =
     let led = sym (ap is_some c.first_leading.ensures) ∙ c.is_none.ensures ∙ ap not c.if-is_none.false in
     let some : is_some c.heir-heir.result ≡ true = sym c.is_some.ensures ∙ c.if-is_some.true in
     record {
@@ -29,8 +32,8 @@ returns-then-is_some c =
       none = λ e. absurd (let z = sym led ∙ e in cc);
     }
 
-pub returns : goal.returns
-returns c =
+pub returns-clause-proposed : goal.returns-clause-proposed
+returns-clause-proposed c =
     let led = sym (ap is_some c.first_leading.ensures) ∙ c.is_none.ensures ∙ ap not c.if-is_none.false in
     let nobody : c.heir-heir.result ≡ None = none_found c.heir-heir.result (sym c.is_some.ensures ∙ c.if-is_some.false) in
     record {
@@ -38,3 +41,35 @@ returns c =
       documented = λ l n. c.documented_primary.ensures;
       none = λ e. absurd (let z = sym led ∙ e in cc);
     }
+
+-- ---- the same as a function
+
+by_lead : (x : OngoingReopening) (d : Documented) (s : ℕ) (b : Bool) → is_led x d s ≡ b → primary_of x d s ≡ (if b then first_or (heir_of x s) (documented_primary x d s) else None)
+by_lead x d s b e = ap (λ (l : Bool). if l then first_or (heir_of x s) (documented_primary x d s) else None) e
+
+or_some : (o other : Option ℕ) → is_some o ≡ true → first_or o other ≡ o
+or_some (Some u) other e = refl
+or_some None other e = absurd (cc)
+
+pub returns-then-is_none-clause-exact : goal.returns-then-is_none-clause-exact
+returns-then-is_none-clause-exact c =
+    let led = sym (ap is_some c.first_leading.ensures) ∙ c.is_none.ensures ∙ ap not c.if-is_none.true in
+    sym (by_lead c.args.self.now (grid_of (net_reopening c.args.self.now).servers None c.args.documented.now) c.args.shard false led)
+
+pub returns-then-is_some-clause-exact : goal.returns-then-is_some-clause-exact
+returns-then-is_some-clause-exact c =
+    let x : OngoingReopening = c.args.self.now in
+    let d : Documented = grid_of (net_reopening x).servers None c.args.documented.now in
+    let led = sym (ap is_some c.first_leading.ensures) ∙ c.is_none.ensures ∙ ap not c.if-is_none.false in
+    let some : is_some c.heir-heir.result ≡ true = sym c.is_some.ensures ∙ c.if-is_some.true in
+    let heir = heir_exact x c.args.shard c.heir-heir.result c.heir-heir.ensures.heir c.heir-heir.ensures.none.0 in
+    sym (by_lead x d c.args.shard true led ∙ ap (λ o. first_or o (documented_primary x d c.args.shard)) (sym heir) ∙ or_some c.heir-heir.result (documented_primary x d c.args.shard) some)
+
+pub returns-clause-exact : goal.returns-clause-exact
+returns-clause-exact c =
+    let x : OngoingReopening = c.args.self.now in
+    let d : Documented = grid_of (net_reopening x).servers None c.args.documented.now in
+    let led = sym (ap is_some c.first_leading.ensures) ∙ c.is_none.ensures ∙ ap not c.if-is_none.false in
+    let nobody : c.heir-heir.result ≡ None = none_found c.heir-heir.result (sym c.is_some.ensures ∙ c.if-is_some.false) in
+    let heir = heir_exact x c.args.shard c.heir-heir.result c.heir-heir.ensures.heir c.heir-heir.ensures.none.0 in
+    c.documented_primary.ensures ∙ sym (by_lead x d c.args.shard true led ∙ ap (λ o. first_or o (documented_primary x d c.args.shard)) (sym heir ∙ nobody))
