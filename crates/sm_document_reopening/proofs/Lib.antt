@@ -3,6 +3,7 @@ pub mod Eased
 mod Floors
 pub mod Naming
 pub mod Lists
+pub mod Marking
 pub mod Frames
 pub mod Rows
 pub mod Begun

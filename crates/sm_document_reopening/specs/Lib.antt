@@ -1,4 +1,5 @@
 pub mod Waiting
+pub mod Proposal
 pub mod Faults
 pub mod Numbers
 pub mod Roles

@@ -1,6 +1,8 @@
 //! Proposals, by the numbers of a reopening.
-ghost use Rattle.std.specs.Prelude.{◌≡◌, IfOk, length};
+ghost use Rattle.std.specs.Prelude.{◌≡◌, ◌<◌, ℕ, IfOk, false, length, slice_index_or};
+ghost use Rattle.sm_document_reopening.specs.Proposal.{document_shards, has_shard, proposed_primary};
 
+use crate::marks::{is_marked, mark};
 use crate::reopening::DocumentReopening;
 use crate::roles::{Roles, role_of};
 use sm_server::{Role, ServerId, ShardId};
@@ -34,7 +36,9 @@ impl Proposal {
 
 impl DocumentReopening {
     /// Returns the primary that is proposed for a shard.
-    pub(crate) fn proposed_primary(&self, shard: ShardId) -> Option<ServerId> {
+    pub(crate) fn proposed_primary(&self, shard: ShardId) -> Option<ServerId>
+        ensures { result ≡ proposed_primary self.now shard }
+    {
         self.ongoing.proposed_primary(&self.documented.list, shard)
     }
 
@@ -77,10 +81,28 @@ impl DocumentReopening {
         Ok(roles)
     }
 
+    /// Returns by number which shards the document has.
+    fn shard_marks(&self, alloc: Global) -> Result<Vec<bool>, AllocError>
+        ensures { IfOk result (λ marks. (k : ℕ) → k < length self.now.numbering.shards → slice_index_or marks.items k false ≡ has_shard self.now k) }
+    {
+        let mut marks = vec![in alloc; false; self.numbering.shard_count() as usize]?;
+        for shard in &self.shards {
+            mark(&mut marks, shard.number());
+        }
+        Ok(marks)
+    }
+
     /// Returns the shards of the document, in the order of their numbers.
-    pub fn shards_in_order(&self, alloc: Global) -> Result<Vec<ShardId>, AllocError> {
-        let mut shards = self.shards.to_vec(alloc)?;
-        shards.sort_by_key(|shard| shard.number())?;
+    pub fn shards_in_order(&self, alloc: Global) -> Result<Vec<ShardId>, AllocError>
+        ensures { IfOk result (λ shards. shards.items ≡ document_shards self.now) }
+    {
+        let marks = self.shard_marks(alloc)?;
+        let mut shards = Vec::new(alloc);
+        for number in 0..self.numbering.shard_count() {
+            if is_marked(&marks, number) {
+                shards.push(ShardId::new(number))?;
+            }
+        }
         Ok(shards)
     }
 

@@ -1,10 +1,13 @@
 //! Awaited answers.
-ghost use Rattle.std.specs.Prelude.{◌≡◌, ◌∷◌, ◌++◌, [], IfOk, OnOk, is_some};
+ghost use Rattle.std.specs.Prelude.{◌≡◌, ◌<◌, ◌∷◌, ◌++◌, ℕ, [], IfOk, OnOk, false, is_some, slice_index_or};
 ghost use Rattle.std.specs.List.{filter};
-ghost use Rattle.sm_reopening.specs.Ongoing.{net_reopening};
+ghost use Rattle.sm_reopening.specs.Ongoing.{is_missing, net_reopening};
+ghost use Rattle.sm_reopening.specs.Proposal.{is_the};
 ghost use Rattle.sm_reopening.specs.Settles.{is_unsettled, net_party};
+ghost use Rattle.sm_document_reopening.specs.Proposal.{awaited_parties, has_silent_lead, is_silent_primary, parties_waited_for, silent_leaders};
 ghost use Rattle.sm_document_reopening.specs.Waiting.{is_unanswered, unanswered_parties, unsettled_parties};
 
+use crate::marks::{is_marked, mark};
 use crate::reopening::DocumentReopening;
 use sm_reopening::Party;
 use sm_server::{ServerId, ShardId};
@@ -57,59 +60,90 @@ impl DocumentReopening {
         Ok(parties)
     }
 
-    /// Returns the parties, in their order, that have to answer the fence whatever the others tell.
-    fn awaited(&self, alloc: Global) -> Result<Vec<Party>, AllocError> {
-        let mut parties = Vec::new(alloc);
-        if self.is_unanswered(&Party::MapOwner) {
-            parties.push(Party::MapOwner)?;
+    /// Returns whether a party has to answer the fence whatever the others tell.
+    fn is_awaited(&self, party: &Party) -> bool
+        ensures { result ≡ is_missing self.now.ongoing (net_party party.now) }
+    {
+        match party {
+            Party::Server(server) => self.ongoing.is_awaited(*server),
+            Party::MapOwner => !self.ongoing.has_answered(party),
         }
+    }
+
+    /// Adds a party if it has to answer the fence whatever the others tell.
+    fn push_awaited(&self, parties: &mut Vec<Party>, party: Party) -> Result<(), AllocError>
+        ensures { OnOk result (parties.new.items ≡ parties.old.items
+            ++ filter (λ p. is_missing self.now.ongoing (net_party p)) (party ∷ [])) }
+    {
+        if self.is_awaited(&party) {
+            parties.push(party)?;
+        }
+        Ok(())
+    }
+
+    /// Returns the parties, in their order, that have to answer the fence whatever the others tell.
+    fn awaited(&self, alloc: Global) -> Result<Vec<Party>, AllocError>
+        ensures { IfOk result (λ parties. parties.items ≡ awaited_parties self.now) }
+    {
+        let mut parties = Vec::new(alloc);
+        self.push_awaited(&mut parties, Party::MapOwner)?;
         for number in 0..self.ongoing.server_count() {
-            let server = ServerId::new(number);
-            if self.ongoing.is_awaited(server) {
-                parties.push(Party::Server(server))?;
-            }
+            self.push_awaited(&mut parties, Party::Server(ServerId::new(number)))?;
         }
         Ok(parties)
     }
 
-    /// Returns whether a shard of the document would have a server as its primary that has not answered, and is not recorded so.
-    fn has_silent_heir(&self, shard: ShardId) -> Option<ServerId> {
-        let heir = self.proposed_primary(shard)?;
-        if self.ongoing.is_silent_heir(shard, heir) {
-            Some(heir)
+    /// Returns the server that would be a shard's primary, if it has not answered, and is not recorded so.
+    fn silent_primary(&self, shard: ShardId) -> Option<ServerId>
+        ensures { (v : ℕ) → is_the result v ≡ is_silent_primary self.now v shard }
+    {
+        let primary = self.proposed_primary(shard)?;
+        if self.ongoing.is_silent_heir(shard, primary) {
+            Some(primary)
         } else {
             None
         }
     }
 
-    /// Returns by number which servers would be primaries, have not answered, and are not recorded so.
-    fn silent_heirs(&self, alloc: Global) -> Result<Vec<bool>, AllocError> {
-        let mut heirs = vec![in alloc; false; self.ongoing.server_count() as usize]?;
+    /// Returns by number which servers would be primaries of shards of the document, have not answered, and are not recorded so.
+    fn silent_marks(&self, alloc: Global) -> Result<Vec<bool>, AllocError>
+        ensures { IfOk result (λ marks. (v : ℕ) → v < (net_reopening self.now.ongoing).servers
+            → slice_index_or marks.items v false ≡ has_silent_lead self.now v) }
+    {
+        let mut marks = vec![in alloc; false; self.ongoing.server_count() as usize]?;
         for shard in &self.shards {
-            if let Some(heir) = self.has_silent_heir(*shard) {
-                let place = heir.number() as usize;
-                if place < heirs.len() {
-                    heirs[place] = true;
-                }
+            if let Some(primary) = self.silent_primary(*shard) {
+                mark(&mut marks, primary.number());
             }
         }
-        Ok(heirs)
+        Ok(marks)
     }
 
-    /// Returns the parties, in their order, that have to answer the fence before anything can be confirmed. They are
-    /// those that are not carried over, or otherwise those that would be primaries and are not recorded so.
-    pub fn waits_for(&self, alloc: Global) -> Result<Vec<Party>, AllocError> {
-        let mut parties = self.awaited(alloc)?;
-        if !parties.is_empty() {
-            return Ok(parties);
-        }
-        let heirs = self.silent_heirs(alloc)?;
+    /// Returns the servers, in their order, that would be primaries of shards of the document, have not answered, and are not recorded so.
+    fn silent_leaders(&self, alloc: Global) -> Result<Vec<Party>, AllocError>
+        ensures { IfOk result (λ parties. parties.items ≡ silent_leaders self.now) }
+    {
+        let marks = self.silent_marks(alloc)?;
+        let mut parties = Vec::new(alloc);
         for number in 0..self.ongoing.server_count() {
-            if heirs.get(number as usize) == Some(&true) {
+            if is_marked(&marks, number) {
                 parties.push(Party::Server(ServerId::new(number)))?;
             }
         }
         Ok(parties)
+    }
+
+    /// Returns the parties, in their order, that have to answer the fence before anything can be confirmed. They are
+    /// those that are not carried over, or otherwise those that would be primaries and are not recorded so.
+    pub fn waits_for(&self, alloc: Global) -> Result<Vec<Party>, AllocError>
+        ensures { IfOk result (λ parties. parties.items ≡ parties_waited_for self.now) }
+    {
+        let parties = self.awaited(alloc)?;
+        if parties.is_empty() {
+            self.silent_leaders(alloc)
+        } else {
+            Ok(parties)
+        }
     }
 
     /// Adds a party if it was sent a settle, and has not answered it.
