@@ -1,6 +1,7 @@
 pub mod BadLines
 pub mod Choices
 pub mod Commands
+pub mod Ids
 pub mod Lines
 pub mod Members
 pub mod Reading

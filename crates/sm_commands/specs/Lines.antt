@@ -5,15 +5,12 @@ use Rattle.std.specs.Borrow.{Bor}
 use Rattle.serde_json.specs.Data.{Data, null}
 use Rattle.json_tree.specs.View.{view, items_view}
 use Rattle.json_tree.specs.declared.tree.Tree.{Tree}
-use Rattle.serde_json.specs.Find.{as_str}
-use Rattle.sm_commands.specs.Values.{bits_at, entries_at, list_at, text_at, value_at, whole, whole_at}
+use Rattle.sm_commands.specs.Values.{bits_at, entries_at, list_at, text_at, value_at, whole_at}
 use Rattle.sm_commands.specs.declared.bad_line.BadLine.{BadLine}
 use Rattle.sm_commands.specs.declared.command_member.CommandMember.{CommandMember}
 use Rattle.sm_commands.specs.declared.command_member.CommandMember.TheVariants as at
 use Rattle.sm_commands.specs.declared.command.FailedAnswer.{FailedAnswer}
 use Rattle.sm_commands.specs.declared.command.FailedAnswer.TheVariants.{Old, Refused, Foreign, NotReady}
-use Rattle.sm_commands.specs.declared.command.Id.{Id}
-use Rattle.sm_commands.specs.declared.command.Id.TheVariants.{Number, Text}
 use Rattle.sm_commands.specs.declared.command.StateOf.{StateOf}
 use Rattle.sm_commands.specs.declared.command.StateOf.TheVariants.{Whole, Shard, Plan}
 use Rattle.sm_commands.specs.declared.command.ToldText.{ToldText}
@@ -112,15 +109,6 @@ abbrev pub TellsFound : Option (Bor (List Tree)) → Option ℕ → ToldText →
 TellsFound slots bits told.Map = Unit {0}
 TellsFound slots bits (told.Slots found) = slots ≡ Some found
 TellsFound slots bits (told.Unknown found) = bits ≡ Some found
-
--- an id by which a client tells its line
-abbrev pub IsId : Data → Id → Type 0
-IsId d (Text text) = as_str d ≡ Some text.now
-IsId d (Number number) = whole d ≡ Some number
-
--- the id of a line
-abbrev pub HasId : Data → Id → Type 0
-HasId d id = (value : Data) × (value_at at.Id d ≡ Some value) × IsId value id
 
 -- what was read of a line whose word this is
 abbrev pub OfWord : List ℕ → Data → Result LineCommand BadLine → Type 0

@@ -1,8 +1,11 @@
 //! The forms of values in lines.
 ghost use Rattle.std.specs.Prelude.{◌≡◌, ◌≢◌, IfSome};
+ghost use Rattle.std.specs.List.{list_all};
 ghost use Rattle.std.specs.Str.Parse.{digits_value};
 ghost use Rattle.json_tree.specs.View.{view};
-ghost use Rattle.sm_commands.specs.Lines.{IsId};
+ghost use Rattle.sm_placement.specs.Names.{is_name_byte};
+ghost use Rattle.sm_commands.specs.Ids.{is_label, told_id};
+ghost use Rattle.sm_commands.specs.Members.{id_members};
 ghost use Rattle.sm_commands.specs.Values.{is_hexadecimal};
 
 use crate::command::Id;
@@ -15,19 +18,29 @@ pub const MOST_EXACT: u64 = 9_007_199_254_740_991;
 const MOST_LABEL: usize = 64;
 
 /// Returns whether a byte may stand in a label.
-fn is_label_byte(byte: u8) -> bool {
-    matches!(byte, b'A'..=b'Z' | b'a'..=b'z' | b'0'..=b'9' | b'.' | b'_' | b'-')
+fn is_label_byte(byte: u8) -> bool
+    ensures { result ≡ is_name_byte byte }
+{
+    byte.is_ascii_alphanumeric() || matches!(byte, b'-' | b'.' | b'_')
+}
+
+/// Returns whether all bytes of a text may stand in a label.
+fn are_label_bytes(text: &str) -> bool
+    ensures { result ≡ list_all is_name_byte text.now }
+{
+    text.bytes().all(is_label_byte)
 }
 
 /// Returns whether a text is a label: 1 to 64 letters, digits, dots, underscores and dashes.
-pub fn is_label(text: &str) -> bool {
-    let bytes = text.as_bytes();
-    !bytes.is_empty() && bytes.len() <= MOST_LABEL && bytes.iter().all(|&byte| is_label_byte(byte))
+pub fn is_label(text: &str) -> bool
+    ensures { result ≡ is_label text.now }
+{
+    !text.is_empty() && text.len() <= MOST_LABEL && are_label_bytes(text)
 }
 
 /// Returns what a value tells a line by, if it is a label or a whole number.
 pub fn id_in<'a>(value: &Tree<'a>) -> Option<Id<'a>>
-    ensures { IfSome result (IsId (view value.now)) }
+    ensures { id_members result ≡ told_id (view value.now) }
 {
     match value.as_str() {
         Some(text) if is_label(text) => Some(Id::Text(text)),

@@ -1,9 +1,11 @@
 //! Lines, and what they ask for.
-ghost use Rattle.std.specs.Prelude.{◌≡◌, IfOk, IfSome, Some};
+ghost use Rattle.std.specs.Prelude.{◌≡◌, IfOk, IfSome, None, Some};
 ghost use Rattle.json_tree.specs.View.{view};
 ghost use Rattle.sm_plan_text.specs.Reading.{data_of};
 ghost use Rattle.sm_commands.specs.Commands.{IsKnownCommand};
-ghost use Rattle.sm_commands.specs.Lines.{HasId, OfWord, Says};
+ghost use Rattle.sm_commands.specs.Ids.{line_id};
+ghost use Rattle.sm_commands.specs.Lines.{OfWord, Says};
+ghost use Rattle.sm_commands.specs.Members.{id_members};
 
 use crate::asking_lines::{
     read_audit, read_check, read_drain, read_failed, read_moves, read_plain, read_since, read_state,
@@ -28,7 +30,8 @@ pub fn parse_line<'a>(
     line: &'a [u8],
     scratch: &'a mut Scratch,
 ) -> Result<Option<Tree<'a>>, AllocError>
-    ensures { IfOk result (λ found. IfSome found (λ tree. data_of line.now ≡ Some (view tree))) }
+    ensures value { IfOk result (λ found. IfSome found (λ tree. data_of line.now ≡ Some (view tree))) }
+    ensures none { IfOk result (λ found. found ≡ None → data_of line.now ≡ None) }
 {
     let Ok(text) = str::from_utf8(line) else {
         return Ok(None);
@@ -42,7 +45,7 @@ pub fn parse_line<'a>(
 
 /// Returns the id of a line, if it has one that is in its form.
 pub fn id_of<'a>(line: &Tree<'a>) -> Option<Id<'a>>
-    ensures { IfSome result (HasId (view line.now)) }
+    ensures { id_members result ≡ line_id (view line.now) }
 {
     line.get("id").and_then(id_in)
 }

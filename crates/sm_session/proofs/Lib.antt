@@ -1,3 +1,4 @@
 pub mod Asked
 pub mod Replayed
+pub mod Shifted
 pub mod Told

@@ -1,5 +1,4 @@
 -- Replies to questions.
--- `present_orders`, `present_notices` and `orders_reply` are internal: you need not read them for the public contracts.
 use Rattle.std.specs.Prelude.{List, [], ◌++◌, Option, Some, None, codes}
 use Rattle.json.specs.Token.{Token}
 use Rattle.sm_driver.specs.Driver.{record_of}

@@ -1,28 +1,23 @@
 -- Replies to lines. If a line changed something, its reply tells the change.
--- `ignored_answer`, `TellsGiven` and `TellsGivenAt` are internal: you need not read them for the public contracts.
-use Rattle.std.specs.Prelude.{◌≡◌, ℕ, ◌||◌, Bool, List, [], ◌++◌, IfSome, Option, Some, None, bytes_eq, codes, false, if◌then◌else◌, string_bytes, true}
+use Rattle.std.specs.Prelude.{◌≡◌, ℕ, List, [], ◌++◌, Option, Some, None, codes, true}
 use Rattle.json.specs.Token.{Token}
 use Rattle.json.specs.Print.{print}
 use Rattle.serde_json.specs.Data.{Data}
 use Rattle.sm_reservation.specs.declared.stream_id.StreamId.{StreamId}
 use Rattle.sm_plan_code.specs.Plan.{PlanModel}
 use Rattle.sm_plan_text.specs.Reading.{data_of}
-use Rattle.sm_driver.specs.Driver.{DriverModel, HasApproved, HasBegunPlan, HasEndedRestart, HasRestored, HasTakenStep, is_due, is_past, record_of}
-use Rattle.sm_commands.specs.declared.command.Id.{Id}
-use Rattle.sm_commands.specs.Lines.{HasId}
-use Rattle.sm_commands.specs.Members.{id_members, object, server_text, text_member}
-use Rattle.sm_commands.specs.Refusals.{TellsRefused}
+use Rattle.sm_driver.specs.Driver.{DriverModel, HasApproved, HasBegunPlan, HasEndedRestart, HasRestored, HasTakenStep, is_due, record_of}
+use Rattle.sm_commands.specs.Ids.{line_id}
+use Rattle.sm_commands.specs.Members.{object, server_text, text_member}
 use Rattle.sm_commands.specs.Writer.{HasNoLineFeed}
-use Rattle.sm_open_journal.specs.declared.given_permits.GivenAt.{GivenAt}
-use Rattle.sm_open_journal.specs.declared.given_permits.GivenPermit.{GivenPermit}
 use Rattle.sm_open_journal.specs.declared.opened.Opened.{Opened}
 use Rattle.sm_open_journal.specs.Begun.{begun_members, begun_plan}
 use Rattle.sm_open_journal.specs.Bits.{hexadecimal}
-use Rattle.sm_open_journal.specs.Given.{given_at}
-use Rattle.sm_open_journal.specs.Permits.{given_member, opened_member, permit_member}
+use Rattle.sm_open_journal.specs.Permits.{opened_member, permit_member}
 use Rattle.sm_open_journal.specs.Replies.{sinces_of, taken_members}
 use Rattle.sm_open_journal.specs.Restores.{TellsKept}
 use Rattle.sm_reopening_lines.specs.Parties.{fences_member}
+use Rattle.sm_session.specs.Answers.{AnswersLine}
 use Rattle.sm_session.specs.Changes.{ComesInForce, HasGoneOn, HasReopened, OpensNext}
 use Rattle.sm_session.specs.declared.reopening.UnderWay.{UnderWay}
 use Rattle.sm_session.specs.declared.session.LineEffect.{LineEffect}
@@ -40,24 +35,11 @@ TellsMoved old new before after =
     (id : StreamId) × (number : ℕ) × (is_due old id number ≡ true) × HasTakenStep id old new
     × (after ≡ before ++ taken_members new id (sinces_of (record_of old) id.plan))
 
--- why an answer that is not due tells nothing new: its stream has gone on, or a reopening is under way; otherwise it is not known
-abbrev pub ignored_answer : Bool → DriverModel → StreamId → ℕ → List ℕ
-ignored_answer is_reopening d id number = if is_reopening || is_past d id number then codes "old" else codes "unknown"
-
 -- the restart of a server was approved, and its permit is told
 abbrev pub TellsApproved : DriverModel → DriverModel → List Token → List Token → Type 0
 TellsApproved old new before after =
     (server : ℕ) × (permit : ℕ) × HasApproved server permit old new
     × (after ≡ before ++ permit_member (codes "approved") (server_text new.machine.placement.setup server) permit)
-
--- The reply tells what came of a permit that was given under a name. If another server has it, the line is refused.
-pub record TellsGiven (d : DriverModel) (server : List ℕ) (given : GivenPermit) (before after : List Token) : Type 0 where
-  pub same : bytes_eq (string_bytes given.server) server ≡ true → after ≡ before ++ given_member d server given.permit
-  pub other : bytes_eq (string_bytes given.server) server ≡ false → TellsRefused before after
-
--- the same of the permit that a name stands for, if it has not been forgotten
-abbrev pub TellsGivenAt : Opened → GivenAt → List ℕ → List Token → List Token → Type 0
-TellsGivenAt o at server before after = IfSome (given_at o.permits at) (λ given. TellsGiven o.driver server given before after)
 
 -- the restart of a server has ended, and it is told which is up
 abbrev pub TellsUp : DriverModel → DriverModel → List Token → List Token → Type 0
@@ -110,18 +92,20 @@ pub data TellsChanges (opened : Option Opened) (under : Option UnderWay) (new : 
 abbrev pub SessionTells : Session → Session → List Token → List Token → Type 0
 SessionTells old new before after = TellsChanges old.opened old.under_way new.opened new.under_way before after
 
--- the same behind an id, which is none but the line's
+-- the same behind the id of a line's value
 abbrev pub TellsBehindId : Data → Session → Session → List Token → List Token → Type 0
-TellsBehindId value old new before after = (id : Option Id) × IfSome id (HasId value) × SessionTells old new (before ++ id_members id) after
+TellsBehindId value old new before after = SessionTells old new (before ++ line_id value) after
 
 -- the same of a line's text
 abbrev pub TellsLine : List ℕ → Session → Session → List Token → List Token → Type 0
 TellsLine line old new before after = (value : Data) × (data_of line ≡ Some value) × TellsBehindId value old new before after
 
--- A text replies to a line: that of some tokens in braces, which need not make an object. If the line has changed something, they tell it.
+-- A text replies to a line: that of some tokens in braces, which need not make an object. They answer the line, and if it has changed something, they
+-- tell that.
 pub record RepliesTo (line : List ℕ) (old new : Session) (effect : LineEffect) (text : List ℕ) : Type 0 where
   pub members : List Token
   pub is : text ≡ print (object members)
+  pub answered : AnswersLine line old [] members
   pub changed : effect ≡ Changed → TellsLine line old new [] members
 
 -- the reply to a line is one line

@@ -2,9 +2,10 @@
 ghost use Rattle.std.specs.Prelude.{◌≡◌, ◌++◌, IfOk, OnOk, codes, false, true};
 ghost use Rattle.sm_commands.specs.Members.{text_member};
 ghost use Rattle.sm_open_journal.specs.Replies.{taken_members};
+ghost use Rattle.sm_session.specs.Answers.{TellsIgnored};
 ghost use Rattle.sm_session.specs.Asked.{TakesAnswerOf};
 ghost use Rattle.sm_session.specs.Changes.{TakesAnswer};
-ghost use Rattle.sm_session.specs.Replies.{TellsMoved, ignored_answer};
+ghost use Rattle.sm_session.specs.Replies.{TellsMoved};
 
 use crate::standing::Standing;
 use sm_commands::{Writer, write_text};
@@ -69,8 +70,7 @@ pub fn answered(
     ensures in_force { IfOk result (λ moved. moved ≡ true → at.is_reopening ≡ false) }
     ensures told { IfOk result (λ moved. moved ≡ true
         → TellsMoved opened.old.driver opened.new.driver writer.old.tokens writer.new.tokens) }
-    ensures ignored { IfOk result (λ moved. moved ≡ false → writer.new.tokens
-        ≡ writer.old.tokens ++ text_member (codes "ignored") (ignored_answer at.is_reopening opened.old.driver id number)) }
+    ensures ignored { OnOk result (TellsIgnored opened.old.driver at.is_reopening id number writer.old.tokens writer.new.tokens) }
 {
     if at.is_reopening {
         write_ignored(writer, "old")?;

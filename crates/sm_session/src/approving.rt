@@ -1,10 +1,11 @@
 //! Approvals of restarts.
-ghost use Rattle.std.specs.Prelude.{◌≡◌, ◌<◌, ℕ, IfOk, None, false, true, IfSome, OnOk};
+ghost use Rattle.std.specs.Prelude.{◌≡◌, ◌<◌, ℕ, IfOk, None, OnOk, false, true};
 ghost use Rattle.sm_driver.specs.Driver.{HasApproved, record_of};
 ghost use Rattle.sm_names.specs.Names.{value_of};
+ghost use Rattle.sm_session.specs.Answers.{TellsApprovedAgain, TellsGiven, TellsGivenAt};
 ghost use Rattle.sm_session.specs.Asked.{ApprovesRestartOf};
 ghost use Rattle.sm_session.specs.Changes.{ApprovesRestart};
-ghost use Rattle.sm_session.specs.Replies.{TellsApproved, TellsGiven, TellsGivenAt};
+ghost use Rattle.sm_session.specs.Replies.{TellsApproved};
 
 use crate::standing::Standing;
 use sm_commands::{
@@ -122,8 +123,7 @@ pub fn approve(
     ensures told { IfOk result (λ approved. approved ≡ true
         → TellsApproved opened.old.driver opened.new.driver writer.old.tokens writer.new.tokens) }
     // Whoever asks again under the same name is told the same permit.
-    ensures again { IfSome (value_of opened.old.approvals by.now)
-        (λ given. OnOk result (TellsGivenAt opened.old given server.now writer.old.tokens writer.new.tokens)) }
+    ensures again { OnOk result (TellsApprovedAgain opened.old server.now by.now writer.old.tokens writer.new.tokens) }
 {
     if let Some(given) = opened.approvals.get(by) {
         write_given(opened, alloc, writer, given, server)?;

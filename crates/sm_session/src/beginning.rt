@@ -1,12 +1,13 @@
 //! The begin of a plan.
-ghost use Rattle.std.specs.Prelude.{◌≡◌, ◌++◌, ℕ, IfOk, IfSome, None, OnOk, length, false, true, not};
+ghost use Rattle.std.specs.Prelude.{◌≡◌, ◌++◌, ℕ, IfOk, IfSome, None, OnOk, length, false, true};
 ghost use Rattle.sm_placement.specs.Setup.{sizes_of};
 ghost use Rattle.sm_names.specs.Names.{value_of};
 ghost use Rattle.sm_plan_code.specs.Plan.{IsKnownPlan};
 ghost use Rattle.sm_verifier.specs.Plan.{IsCheckedPlan};
-ghost use Rattle.sm_open_journal.specs.Begun.{begun_members, begun_plan, begun_again_members};
+ghost use Rattle.sm_open_journal.specs.Begun.{begun_members, begun_plan};
 ghost use Rattle.json_tree.specs.View.{view};
 ghost use Rattle.sm_driver.specs.Driver.{HasBegunPlan};
+ghost use Rattle.sm_session.specs.Answers.{TellsBegunAgain};
 ghost use Rattle.sm_session.specs.Asked.{BeginsPlanOf};
 ghost use Rattle.sm_session.specs.Changes.{BeginsPlan};
 ghost use Rattle.sm_session.specs.Replies.{TellsBegun};
@@ -118,8 +119,7 @@ pub fn begin(
     ensures told { IfOk result (λ begun. begun ≡ true
         → TellsBegun opened.old.driver opened.new.driver writer.old.tokens writer.new.tokens) }
     // Whoever begins again under the same name is told the same plan.
-    ensures again { IfSome (value_of opened.old.plans name.now) (λ plan. OnOk result (writer.new.tokens ≡ writer.old.tokens
-        ++ begun_again_members opened.old.driver plan (not at.is_reopening))) }
+    ensures again { OnOk result (TellsBegunAgain opened.old at.is_reopening name.now writer.old.tokens writer.new.tokens) }
 {
     if let Some(plan) = opened.plans.get(name) {
         opened.write_begun_again(alloc, writer, plan, !at.is_reopening)?;

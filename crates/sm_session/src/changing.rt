@@ -1,5 +1,6 @@
 //! Commands that change a journal that is open.
-ghost use Rattle.std.specs.Prelude.{◌≡◌, IfOk, false, true};
+ghost use Rattle.std.specs.Prelude.{◌≡◌, IfOk, OnOk, false, true};
+ghost use Rattle.sm_session.specs.Answers.{AnswersAgain};
 ghost use Rattle.sm_session.specs.Asked.{DoesToDriver};
 ghost use Rattle.sm_session.specs.Changes.{Changes};
 ghost use Rattle.sm_session.specs.Replies.{TellsChange};
@@ -30,6 +31,7 @@ pub fn change(
     ensures in_force { IfOk result (λ changed. changed ≡ true → at.is_reopening ≡ false) }
     ensures told { IfOk result (λ changed. changed ≡ true
         → TellsChange opened.old.driver opened.new.driver writer.old.tokens writer.new.tokens) }
+    ensures again { OnOk result (AnswersAgain command.entry opened.old at.is_reopening writer.old.tokens writer.new.tokens) }
 {
     match command {
         LineCommand::Begin { plan, name } => begin(opened, at, alloc, writer, plan, name),

@@ -1,8 +1,9 @@
 //! The entries of a journal, applied again.
-ghost use Rattle.std.specs.Prelude.{◌≡◌, ℕ, List, [], IfOk, false, true};
+ghost use Rattle.std.specs.Prelude.{◌≡◌, ℕ, List, [], IfOk, IfSome, false, is_some, true};
 ghost use Rattle.json.specs.Token.{Token};
 ghost use Rattle.journal_lines.specs.Objects.{IsObject};
 ghost use Rattle.sm_session.specs.declared.session.LineEffect.TheVariants as did;
+ghost use Rattle.sm_session.specs.Answers.{Answers, AnswersLine, TellsIgnored};
 ghost use Rattle.sm_session.specs.Asked.{DoesAsSaid, DoesToSession, StaysOpen, TakesAnswerOf};
 ghost use Rattle.sm_session.specs.Changes.{SessionChanges};
 ghost use Rattle.sm_session.specs.Replies.{RepliesTo, SessionTells, TellsLine};
@@ -37,7 +38,8 @@ impl Session {
         ensures changed { IfOk result (λ changed. changed ≡ true → SessionChanges self.old self.new) }
         ensures asked { IfOk result (λ changed. changed ≡ true → DoesAsSaid entry.now self.old self.new) }
         ensures unchanged { IfOk result (λ changed. changed ≡ false → self.new ≡ self.old) }
-        ensures told { IfOk result (λ changed. changed ≡ true → (members : List Token) × TellsLine entry.now self.old self.new [] members) }
+        ensures told { IfOk result (λ changed. changed ≡ true → (members : List Token) × TellsLine entry.now self.old self.new [] members
+            × AnswersLine entry.now self.old [] members) }
     {
         let mut scratch = Scratch::new(alloc);
         let Some(tree) = parse_line(alloc, entry, &mut scratch)? else {
@@ -58,7 +60,8 @@ impl Session {
         ensures changed { IfOk result (λ changed. changed ≡ true → SessionChanges self.old self.new) }
         ensures asked { IfOk result (λ changed. changed ≡ true → DoesToSession command.entry self.old self.new) }
         ensures unchanged { IfOk result (λ changed. changed ≡ false → self.new ≡ self.old) }
-        ensures told { IfOk result (λ changed. changed ≡ true → (members : List Token) × SessionTells self.old self.new [] members) }
+        ensures told { IfOk result (λ changed. changed ≡ true → (members : List Token) × SessionTells self.old self.new [] members
+            × Answers command.entry self.old [] members) }
     {
         if let LineCommand::Answered {
             plan,
@@ -78,7 +81,8 @@ impl Session {
         ensures asked { IfOk result (λ changed. changed ≡ true
             → StaysOpen (TakesAnswerOf id number) self.old.opened self.new.opened) }
         ensures unchanged { IfOk result (λ changed. changed ≡ false → self.new ≡ self.old) }
-        ensures told { IfOk result (λ changed. changed ≡ true → (members : List Token) × SessionTells self.old self.new [] members) }
+        ensures told { IfOk result (λ changed. changed ≡ true → (members : List Token) × SessionTells self.old self.new [] members
+            × IfSome self.old.opened (λ o. TellsIgnored o.driver (is_some self.old.under_way) id number [] members)) }
     {
         let at = self.standing();
         match &mut self.opened {

@@ -1,9 +1,7 @@
 //! Servers that have lost all they had.
-ghost use Rattle.std.specs.Prelude.{◌≡◌, IfOk, false, true, ℕ, OnOk, Some};
+ghost use Rattle.std.specs.Prelude.{◌≡◌, IfOk, OnOk, false, true};
+ghost use Rattle.sm_session.specs.Answers.{TellsRestoredAgain};
 ghost use Rattle.sm_session.specs.Asked.{RestoresServerOf};
-ghost use Rattle.sm_placement.specs.Setup.{server_named};
-ghost use Rattle.sm_driver.specs.Restores.{was_told};
-ghost use Rattle.sm_open_journal.specs.Restores.{TellsKept};
 ghost use Rattle.sm_session.specs.Changes.{RestoresServer};
 ghost use Rattle.sm_session.specs.Replies.{TellsRestored};
 
@@ -44,9 +42,7 @@ pub fn restore(
     ensures told { IfOk result (λ restored. restored ≡ true
         → TellsRestored opened.old.driver opened.new.driver writer.old.tokens writer.new.tokens) }
     // A server that asks again under the same nonce is told what it was told.
-    ensures again { (server : ℕ) → server_named opened.old.driver.machine.placement.setup name.now ≡ Some server
-        → was_told opened.old.driver.restores server nonce ≡ true
-        → OnOk result (TellsKept opened.new.driver server writer.old.tokens writer.new.tokens) }
+    ensures again { OnOk result (TellsRestoredAgain opened.old name.now nonce writer.old.tokens writer.new.tokens) }
 {
     let Some(server) = opened.driver.machine().config().server_named(name) else {
         write_bad(

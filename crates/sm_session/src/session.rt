@@ -48,8 +48,10 @@ pub struct Session {
 }
 
 impl Session {
-    ghost use Rattle.std.specs.Prelude.{option_map, true};
+    ghost use Rattle.std.specs.Prelude.{is_some, option_map, true};
     ghost use Rattle.json_tree.specs.View.{view};
+    ghost use Rattle.sm_commands.specs.Ids.{line_id};
+    ghost use Rattle.sm_session.specs.Answers.{Answers, AnswersLine, AnswersObject};
     ghost use Rattle.sm_session.specs.Asked.{DoesAsSaid, DoesAsTold, DoesToSession, setup_in_force};
     ghost use Rattle.sm_session.specs.Changes.{IsNew, SessionChanges};
     ghost use Rattle.sm_session.specs.Replies.{IsLineReply, SessionTells, TellsBehindId, TellsLine};
@@ -116,6 +118,7 @@ impl Session {
         ensures asked { IfOk result (λ changed. changed ≡ true → DoesAsSaid line.now self.old self.new) }
         ensures unchanged { IfOk result (λ changed. changed ≡ false → self.new ≡ self.old) }
         ensures told { IfOk result (λ changed. changed ≡ true → TellsLine line.now self.old self.new writer.old.tokens writer.new.tokens) }
+        ensures answered { OnOk result (AnswersLine line.now self.old writer.old.tokens writer.new.tokens) }
         ensures object { IfOk result (λ changed. changed ≡ true → IsObject line.now) }
     {
         if line.len() > MOST_BYTES {
@@ -123,19 +126,19 @@ impl Session {
             return Ok(false);
         }
         let mut scratch = Scratch::new(alloc);
-        match parse_line(alloc, line, &mut scratch)? {
-            Some(tree) if tree.is_object() && is_object(line) => {
-                self.answer_object(alloc, &tree, writer)
-            }
-            Some(tree) if !tree.is_object() => {
-                write_bad(writer, alloc, BadLine::Malformed(LinePart::Line))?;
-                Ok(false)
-            }
-            _ => {
-                write_bad(writer, alloc, BadLine::NotJson)?;
-                Ok(false)
-            }
+        let Some(tree) = parse_line(alloc, line, &mut scratch)? else {
+            write_bad(writer, alloc, BadLine::NotJson)?;
+            return Ok(false);
+        };
+        if !tree.is_object() {
+            write_bad(writer, alloc, BadLine::Malformed(LinePart::Line))?;
+            return Ok(false);
         }
+        if !is_object(line) {
+            write_bad(writer, alloc, BadLine::NotJson)?;
+            return Ok(false);
+        }
+        self.answer_object(alloc, &tree, writer)
     }
 
     /// Applies a line that is an object.
@@ -149,6 +152,8 @@ impl Session {
         ensures asked { IfOk result (λ changed. changed ≡ true → DoesAsTold (view line.now) self.old self.new) }
         ensures unchanged { IfOk result (λ changed. changed ≡ false → self.new ≡ self.old) }
         ensures told { IfOk result (λ changed. changed ≡ true → TellsBehindId (view line.now) self.old self.new writer.old.tokens writer.new.tokens) }
+        ensures answered { OnOk result (AnswersObject (view line.now) self.old
+            (writer.old.tokens ++ line_id (view line.now)) writer.new.tokens) }
     {
         write_id(writer, id_of(line))?;
         match read_command(alloc, line, self.config())? {
@@ -172,7 +177,8 @@ impl Session {
 
     /// Returns the place of a command that changes something now, and whether a reopening is under way.
     pub(crate) fn standing(&self) -> Standing
-        ensures { result.is_reopening ≡ false → self.now.under_way ≡ None }
+        ensures in_force { result.is_reopening ≡ false → self.now.under_way ≡ None }
+        ensures reopening { result.is_reopening ≡ is_some self.now.under_way }
     {
         Standing {
             place: self.place.saturating_add(1),
@@ -191,6 +197,7 @@ impl Session {
         ensures asked { IfOk result (λ changed. changed ≡ true → DoesToSession command.entry self.old self.new) }
         ensures unchanged { IfOk result (λ changed. changed ≡ false → self.new ≡ self.old) }
         ensures told { IfOk result (λ changed. changed ≡ true → SessionTells self.old self.new writer.old.tokens writer.new.tokens) }
+        ensures answered { OnOk result (Answers command.entry self.old writer.old.tokens writer.new.tokens) }
     {
         let at = self.standing();
         match command {

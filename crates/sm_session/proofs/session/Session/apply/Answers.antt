@@ -7,9 +7,9 @@ use Rattle.sm_session.proofs.session.Session.apply.Goals as goal
 pub returns-then-not-changed-clause-told : goal.returns-then-not-changed-clause-told
 returns-then-not-changed-clause-told c =
     replied _ _ _ _ _ _ _ _ _ (c.as_slice.ensures.value ∙ c.into_text-members.ensures.text) c.into_text-members.ensures.one_line
-    c.in_ok-push_object.ensures c.new-writer.ensures (λ (e : Unchanged ≡ Changed). absurd (let z = e in cc))
+    c.in_ok-push_object.ensures c.new-writer.ensures (λ (e : Unchanged ≡ Changed). absurd (let z = e in cc)) c.in_ok-changed.ensures.answered
 
 pub returns-clause-told : goal.returns-clause-told
 returns-clause-told c =
     replied _ _ _ _ _ _ _ _ _ (c.as_slice.ensures.value ∙ c.into_text-members.ensures.text) c.into_text-members.ensures.one_line
-    c.in_ok-push_object.ensures c.new-writer.ensures (λ _. c.in_ok-changed.ensures.told c.if-not-changed.false)
+    c.in_ok-push_object.ensures c.new-writer.ensures (λ _. c.in_ok-changed.ensures.told c.if-not-changed.false) c.in_ok-changed.ensures.answered

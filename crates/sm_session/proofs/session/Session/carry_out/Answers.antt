@@ -17,9 +17,9 @@ driven (Err e) opened new under after o p is_reopening was is_now stays none cha
 pub returns-in-Some-clause-changed : goal.returns-in-Some-clause-changed
 returns-in-Some-clause-changed c =
     driven c.change.result _ _ _ _ c.in-Some.opened c.change.new.opened c.standing-at.result.is_reopening
-    c.in-Some.is refl refl c.standing-at.ensures c.change.ensures.changed c.change.ensures.in_force
+    c.in-Some.is refl refl c.standing-at.ensures.in_force c.change.ensures.changed c.change.ensures.in_force
 
 pub returns-in-Some-clause-told : goal.returns-in-Some-clause-told
 returns-in-Some-clause-told c =
     told_driven c.change.result _ _ _ _ c.in-Some.opened c.change.new.opened c.standing-at.result.is_reopening _ _
-    c.in-Some.is refl refl c.standing-at.ensures c.change.ensures.told c.change.ensures.in_force
+    c.in-Some.is refl refl c.standing-at.ensures.in_force c.change.ensures.told c.change.ensures.in_force

@@ -1,0 +1,101 @@
+-- What is told with nothing before it is told behind anything.
+use Rattle.std.proofs.Common.{◌≡◌, ◌++◌, [], Bool, ℕ, List, Option, Some, None, ap, bytes_eq, false, string_bytes, true}
+use Rattle.std.specs.Prelude.{IfSome, is_some}
+use Rattle.json.specs.Token.{Token}
+use Rattle.sm_placement.specs.Setup.{server_named}
+use Rattle.sm_names.specs.Names.{value_of}
+use Rattle.sm_driver.specs.Driver.{DriverModel}
+use Rattle.sm_driver.specs.Restores.{was_told}
+use Rattle.sm_commands.specs.declared.command.LineCommand.{LineCommand}
+use Rattle.sm_commands.specs.declared.command.LineCommand.TheVariants as line
+use Rattle.sm_open_journal.specs.declared.given_permits.GivenAt.{GivenAt}
+use Rattle.sm_open_journal.specs.declared.given_permits.GivenPermit.{GivenPermit}
+use Rattle.sm_open_journal.specs.declared.opened.Opened.{Opened}
+use Rattle.sm_open_journal.specs.Given.{given_at}
+use Rattle.sm_open_journal.specs.Restores.{TellsKept}
+use Rattle.sm_session.specs.declared.reopening.UnderWay.{UnderWay}
+use Rattle.sm_session.specs.declared.session.Session.{Session}
+use Rattle.sm_session.specs.Answers.{Answers, AnswersAgain, TellsGiven, TellsGivenAt}
+use Rattle.sm_session.specs.Replies.{Approved, Begun, Drives, Follows, Moved, Next, Opens, Reopens, Restored, SessionTells, TellsChange, TellsChanges, TellsDriven, TellsFences, TellsOpened, Up}
+
+-- of nothing that is there, nothing is told
+told_of : {A : Type 0} (found : Option A) (P Q : A → Type 0) → ((x : A) → P x → Q x) → IfSome found P → IfSome found Q
+told_of None P Q f told = tt
+told_of (Some x) P Q f told = f x told
+
+module _ (front after : List Token) where
+  behind : {told : List Token} → after ≡ told → front ++ after ≡ front ++ told
+  behind e = ap (λ (ts : List Token). front ++ ts) e
+
+  kept : {A : Type 0} (found : Option A) (of : A → List Token) → IfSome found (λ x. after ≡ of x) → IfSome found (λ x. front ++ after ≡ front ++ of x)
+  kept found of told = told_of found (λ x. after ≡ of x) (λ x. front ++ after ≡ front ++ of x) (λ x e. behind e) told
+
+  change : (old new : DriverModel) → TellsChange old new [] after → TellsChange old new front (front ++ after)
+  change old new (Begun t) = Begun (t.0, t.1, t.2, behind t.3)
+  change old new (Moved t) = Moved (t.0, t.1, t.2, t.3, behind t.4)
+  change old new (Approved t) = Approved (t.0, t.1, t.2, behind t.3)
+  change old new (Up t) = Up (t.0, t.1, t.2, t.3, behind t.4)
+  change old new (Restored t) = Restored (t.0, t.1, t.2, kept _ _ t.3)
+  change old new (Next t) = Next (t.0, behind t.1)
+
+  opening : (new : Option Opened) → TellsOpened new [] after → TellsOpened new front (front ++ after)
+  opening (Some o) told = behind told
+  opening None told = told
+
+  driven : (opened new : Option Opened) → TellsDriven opened new [] after → TellsDriven opened new front (front ++ after)
+  driven None new told = opening new told
+  driven (Some old) (Some new) told = change old.driver new.driver told
+  driven (Some old) None told = told
+
+  fences : (u : Option UnderWay) → TellsFences u [] after → TellsFences u front (front ++ after)
+  fences (Some u) told = behind told
+  fences None told = told
+
+  changes : (opened : Option Opened) (under : Option UnderWay) (new : Option Opened) (after_it : Option UnderWay) →
+      TellsChanges opened under new after_it [] after → TellsChanges opened under new after_it front (front ++ after)
+  changes opened under new after_it (Drives was is told) = Drives was is (driven opened new told)
+  changes opened under new after_it (Reopens did told) = Reopens did (fences after_it told)
+  changes opened under new after_it (Follows did) = Follows did
+  changes opened under new after_it (Opens did told) = Opens did (opening new told)
+
+  -- so it is with what has changed
+  pub told_behind_any : (old new : Session) → SessionTells old new [] after → SessionTells old new front (front ++ after)
+  told_behind_any old new told = changes old.opened old.under_way new.opened new.under_way told
+
+  given : (d : DriverModel) (server : List ℕ) (permit : GivenPermit) → TellsGiven d server permit [] after →
+      TellsGiven d server permit front (front ++ after)
+  given d server permit told = record {
+    same = λ (is : bytes_eq (string_bytes permit.server) server ≡ true). behind (told.same is);
+    other = λ (is : bytes_eq (string_bytes permit.server) server ≡ false). let t = told.other is in (t.0, behind t.1);
+  }
+
+  given_there : (o : Opened) (at : GivenAt) (server : List ℕ) → TellsGivenAt o at server [] after → TellsGivenAt o at server front (front ++ after)
+  given_there o at server told =
+      told_of (given_at o.permits at) (λ (permit : GivenPermit). TellsGiven o.driver server permit [] after)
+      (λ (permit : GivenPermit). TellsGiven o.driver server permit front (front ++ after)) (λ permit t. given o.driver server permit t) told
+
+  again : (command : LineCommand) (o : Opened) (is_reopening : Bool) → AnswersAgain command o is_reopening [] after →
+      AnswersAgain command o is_reopening front (front ++ after)
+  again (line.Begin _ name) o is_reopening told = kept _ _ told
+  again (line.Approve server by) o is_reopening told =
+      told_of (value_of o.approvals by.now) (λ (at : GivenAt). TellsGivenAt o at server.now [] after)
+      (λ (at : GivenAt). TellsGivenAt o at server.now front (front ++ after)) (λ at t. given_there o at server.now t) told
+  again (line.Restore name nonce) o is_reopening told =
+      told_of (server_named o.driver.machine.placement.setup name.now)
+      (λ (v : ℕ). was_told o.driver.restores v nonce ≡ true → TellsKept o.driver v [] after)
+      (λ (v : ℕ). was_told o.driver.restores v nonce ≡ true → TellsKept o.driver v front (front ++ after))
+      (λ v t was. kept _ _ (t was)) told
+  again (line.Answered plan stream number) o is_reopening told = λ unawaited. behind (told unawaited)
+  again _ o is_reopening told = tt
+
+  open_again : (command : LineCommand) (opened : Option Opened) (is_reopening : Bool) →
+      IfSome opened (λ o. AnswersAgain command o is_reopening [] after) →
+      IfSome opened (λ o. AnswersAgain command o is_reopening front (front ++ after))
+  open_again command opened is_reopening told =
+      told_of opened (λ (o : Opened). AnswersAgain command o is_reopening [] after)
+      (λ (o : Opened). AnswersAgain command o is_reopening front (front ++ after)) (λ o t. again command o is_reopening t) told
+
+  -- and with what answers a command
+  pub answered_behind_any : (command : LineCommand) (s : Session) → Answers command s [] after → Answers command s front (front ++ after)
+  answered_behind_any line.Orders s told = λ in_force. behind (told in_force)
+  answered_behind_any command s told = open_again command s.opened (is_some s.under_way) told

@@ -1,0 +1,107 @@
+-- Answers to lines, whether they change something or not: a command that comes again is told what it was told, an answer that no stream waits for is
+-- ignored, `orders` tells all orders, and a line that is no command is told as bad.
+use Rattle.std.specs.Prelude.{◌≡◌, ◌<◌, ◌⊎◌, ◌&&◌, ◌||◌, ℕ, Bool, true, false, List, ◌++◌, Option, Some, None, IfSome, bytes_eq, codes, if◌then◌else◌, is_some, length, not, string_bytes}
+use Rattle.json.specs.Token.{Token}
+use Rattle.serde_json.specs.Data.{Data}
+use Rattle.serde_json.specs.Find.{as_object}
+use Rattle.journal_lines.specs.Objects.{IsObject}
+use Rattle.sm_placement.specs.Setup.{server_named}
+use Rattle.sm_reservation.specs.declared.stream_id.StreamId.{StreamId}
+use Rattle.sm_plan_text.specs.Reading.{data_of}
+use Rattle.sm_names.specs.Names.{value_of}
+use Rattle.sm_driver.specs.Driver.{DriverModel, is_due, is_past}
+use Rattle.sm_driver.specs.Restores.{was_told}
+use Rattle.sm_commands.specs.BadLines.{told_bad}
+use Rattle.sm_commands.specs.Ids.{line_id}
+use Rattle.sm_commands.specs.Lines.{Says}
+use Rattle.sm_commands.specs.Members.{text_member}
+use Rattle.sm_commands.specs.Refusals.{TellsRefused}
+use Rattle.sm_commands.specs.declared.bad_line.BadLine.{BadLine}
+use Rattle.sm_commands.specs.declared.bad_line.BadLine.TheVariants as bad
+use Rattle.sm_commands.specs.declared.command.LineCommand.{LineCommand}
+use Rattle.sm_commands.specs.declared.command.LineCommand.TheVariants as line
+use Rattle.sm_commands.specs.declared.line_part.LinePart.TheVariants.{Line}
+use Rattle.sm_open_journal.specs.declared.given_permits.GivenAt.{GivenAt}
+use Rattle.sm_open_journal.specs.declared.given_permits.GivenPermit.{GivenPermit}
+use Rattle.sm_open_journal.specs.declared.opened.Opened.{Opened}
+use Rattle.sm_open_journal.specs.Begun.{begun_again_members}
+use Rattle.sm_open_journal.specs.Given.{given_at}
+use Rattle.sm_open_journal.specs.Permits.{given_member}
+use Rattle.sm_open_journal.specs.Restores.{TellsKept}
+use Rattle.sm_session.specs.Asked.{IsKnownOver, setup_in_force}
+use Rattle.sm_session.specs.Questions.{orders_reply}
+use Rattle.sm_session.specs.declared.session.Session.{Session}
+use Rattle.sm_session.specs.declared.session.TheConstants.{MOST_BYTES}
+
+-- ---- names and nonces that come again
+
+-- a plan has begun under this name: that it has is told again, with the messages that its streams stand before now
+abbrev pub TellsBegunAgain : Opened → Bool → List ℕ → List Token → List Token → Type 0
+TellsBegunAgain o is_reopening name before after =
+    IfSome (value_of o.plans name) (λ plan. after ≡ before ++ begun_again_members o.driver plan (not is_reopening))
+
+-- The reply tells what came of a permit that was given under a name. If another server has it, the line is refused.
+pub record TellsGiven (d : DriverModel) (server : List ℕ) (given : GivenPermit) (before after : List Token) : Type 0 where
+  pub same : bytes_eq (string_bytes given.server) server ≡ true → after ≡ before ++ given_member d server given.permit
+  pub other : bytes_eq (string_bytes given.server) server ≡ false → TellsRefused before after
+
+-- the same of the permit that a name stands for, if it has not been forgotten
+abbrev pub TellsGivenAt : Opened → GivenAt → List ℕ → List Token → List Token → Type 0
+TellsGivenAt o at server before after = IfSome (given_at o.permits at) (λ given. TellsGiven o.driver server given before after)
+
+-- a restart was approved under this name: what came of its permit is told
+abbrev pub TellsApprovedAgain : Opened → List ℕ → List ℕ → List Token → List Token → Type 0
+TellsApprovedAgain o server by before after = IfSome (value_of o.approvals by) (λ at. TellsGivenAt o at server before after)
+
+-- the server of this name was told something under this nonce: the same is told again
+abbrev pub TellsRestoredAgain : Opened → List ℕ → ℕ → List Token → List Token → Type 0
+TellsRestoredAgain o name nonce before after =
+    IfSome (server_named o.driver.machine.placement.setup name)
+    (λ server. was_told o.driver.restores server nonce ≡ true → TellsKept o.driver server before after)
+
+-- ---- answers that tell nothing new
+
+-- a stream waits for this answer, and no reopening is under way
+abbrev pub is_expected : Bool → DriverModel → StreamId → ℕ → Bool
+is_expected is_reopening d id number = not is_reopening && is_due d id number
+
+-- why an answer is ignored: its stream has gone on, or a reopening is under way; otherwise it is not known
+abbrev pub ignored_answer : Bool → DriverModel → StreamId → ℕ → List ℕ
+ignored_answer is_reopening d id number = if is_reopening || is_past d id number then codes "old" else codes "unknown"
+
+-- an answer that no stream waits for is ignored
+abbrev pub TellsIgnored : DriverModel → Bool → StreamId → ℕ → List Token → List Token → Type 0
+TellsIgnored d is_reopening id number before after = is_expected is_reopening d id number ≡ false
+    → after ≡ before ++ text_member (codes "ignored") (ignored_answer is_reopening d id number)
+
+-- ---- commands
+
+-- a command on a journal that is open is told what it was told before, or that it tells nothing new
+abbrev pub AnswersAgain : LineCommand → Opened → Bool → List Token → List Token → Type 0
+AnswersAgain (line.Begin _ name) o is_reopening before after = TellsBegunAgain o is_reopening name.now before after
+AnswersAgain (line.Approve server by) o is_reopening before after = TellsApprovedAgain o server.now by.now before after
+AnswersAgain (line.Restore name nonce) o is_reopening before after = TellsRestoredAgain o name.now nonce before after
+AnswersAgain (line.Answered plan stream number) o is_reopening before after =
+    TellsIgnored o.driver is_reopening (record { plan = plan; stream = stream }) number before after
+AnswersAgain _ o is_reopening before after = Unit {0}
+
+-- So is a command to a session. As long as no reopening is under way, `orders` is told all orders and notices. Of other commands nothing is said.
+abbrev pub Answers : LineCommand → Session → List Token → List Token → Type 0
+Answers line.Orders s before after = s.under_way ≡ None → after ≡ before ++ orders_reply s.opened
+Answers command s before after = IfSome s.opened (λ o. AnswersAgain command o (is_some s.under_way) before after)
+
+-- ---- lines
+
+-- An object is told as bad, or answered as the known command that it says.
+pub data AnswersObject (value : Data) (s : Session) (before after : List Token) : Type 0 where
+  IsBad : (fault : BadLine) → after ≡ before ++ told_bad fault → AnswersObject value s before after
+  IsCommand : (command : LineCommand) → Says value command → IsKnownOver (setup_in_force s) command → Answers command s before after
+      → AnswersObject value s before after
+
+-- A line that is too long, that is no JSON on one line, or whose value is no object is told as bad. Any other is answered behind its id.
+pub data AnswersLine (text : List ℕ) (s : Session) (before after : List Token) : Type 0 where
+  TooLong : MOST_BYTES < length text → after ≡ before ++ told_bad bad.TooLong → AnswersLine text s before after
+  NotJson : (data_of text ≡ None) ⊎ (IsObject text → ⊥) → after ≡ before ++ told_bad bad.NotJson → AnswersLine text s before after
+  NoObject : (value : Data) → data_of text ≡ Some value → as_object value ≡ None → after ≡ before ++ told_bad (bad.Malformed Line)
+      → AnswersLine text s before after
+  Object : (value : Data) → data_of text ≡ Some value → AnswersObject value s (before ++ line_id value) after → AnswersLine text s before after
