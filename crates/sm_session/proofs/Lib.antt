@@ -1,4 +1,5 @@
 pub mod Asked
+pub mod Declined
 pub mod Replayed
 pub mod Shifted
 pub mod Told

@@ -5,6 +5,7 @@ ghost use Rattle.sm_open_journal.specs.Replies.{taken_members};
 ghost use Rattle.sm_session.specs.Answers.{TellsIgnored};
 ghost use Rattle.sm_session.specs.Asked.{TakesAnswerOf};
 ghost use Rattle.sm_session.specs.Changes.{TakesAnswer};
+ghost use Rattle.sm_session.specs.Declines.{Declines};
 ghost use Rattle.sm_session.specs.Replies.{TellsMoved};
 
 use crate::standing::Standing;
@@ -70,6 +71,7 @@ pub fn answered(
     ensures in_force { IfOk result (λ moved. moved ≡ true → at.is_reopening ≡ false) }
     ensures told { IfOk result (λ moved. moved ≡ true
         → TellsMoved opened.old.driver opened.new.driver writer.old.tokens writer.new.tokens) }
+    ensures declined { IfOk result (λ moved. moved ≡ false → Declines writer.old.tokens writer.new.tokens) }
     ensures ignored { OnOk result (TellsIgnored opened.old.driver at.is_reopening id number writer.old.tokens writer.new.tokens) }
 {
     if at.is_reopening {

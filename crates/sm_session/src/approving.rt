@@ -5,6 +5,7 @@ ghost use Rattle.sm_names.specs.Names.{value_of};
 ghost use Rattle.sm_session.specs.Answers.{TellsApprovedAgain, TellsGiven, TellsGivenAt};
 ghost use Rattle.sm_session.specs.Asked.{ApprovesRestartOf};
 ghost use Rattle.sm_session.specs.Changes.{ApprovesRestart};
+ghost use Rattle.sm_session.specs.Declines.{Declines};
 ghost use Rattle.sm_session.specs.Replies.{TellsApproved};
 
 use crate::standing::Standing;
@@ -24,7 +25,9 @@ fn write_denied(
     alloc: Global,
     config: &Config,
     why: Denied,
-) -> Result<(), AllocError> {
+) -> Result<(), AllocError>
+    ensures { OnOk result (Declines writer.old.tokens writer.new.tokens) }
+{
     let front = "denied ";
     match why {
         Denied::AlreadyDown => write_refusal(writer, alloc, front, 1, "AlreadyDown", &[]),
@@ -90,6 +93,7 @@ fn approve_now(
     ensures unchanged { IfOk result (λ approved. approved ≡ false → opened.new ≡ opened.old) }
     ensures told { IfOk result (λ approved. approved ≡ true
         → TellsApproved opened.old.driver opened.new.driver writer.old.tokens writer.new.tokens) }
+    ensures declined { IfOk result (λ approved. approved ≡ false → Declines writer.old.tokens writer.new.tokens) }
 {
     match opened.driver.approve(server) {
         Ok(permit) => {
@@ -122,6 +126,8 @@ pub fn approve(
     ensures in_force { IfOk result (λ approved. approved ≡ true → at.is_reopening ≡ false) }
     ensures told { IfOk result (λ approved. approved ≡ true
         → TellsApproved opened.old.driver opened.new.driver writer.old.tokens writer.new.tokens) }
+    ensures declined { IfOk result (λ approved. approved ≡ false → value_of opened.old.approvals by.now ≡ None
+        → Declines writer.old.tokens writer.new.tokens) }
     // Whoever asks again under the same name is told the same permit.
     ensures again { OnOk result (TellsApprovedAgain opened.old server.now by.now writer.old.tokens writer.new.tokens) }
 {

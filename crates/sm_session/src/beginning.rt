@@ -10,6 +10,7 @@ ghost use Rattle.sm_driver.specs.Driver.{HasBegunPlan};
 ghost use Rattle.sm_session.specs.Answers.{TellsBegunAgain};
 ghost use Rattle.sm_session.specs.Asked.{BeginsPlanOf};
 ghost use Rattle.sm_session.specs.Changes.{BeginsPlan};
+ghost use Rattle.sm_session.specs.Declines.{Declines};
 ghost use Rattle.sm_session.specs.Replies.{TellsBegun};
 
 use crate::planning::read_plan;
@@ -30,6 +31,7 @@ fn ready(
     plan: Plan,
 ) -> Result<Option<ReadyPlan>, AllocError>
     requires { IsKnownPlan (length opened.now.driver.machine.placement.setup.shards) (length opened.now.driver.machine.placement.setup.servers) plan }
+    ensures declined { IfOk result (λ found. found ≡ None → Declines writer.old.tokens writer.new.tokens) }
     ensures setup { IfOk result (λ found. IfSome found (λ ready. ready.setup ≡ opened.now.driver.machine.placement.setup)) }
     ensures checked { IfOk result (λ found. IfSome found (λ ready. IsCheckedPlan (sizes_of ready.setup) ready.plan)) }
     ensures same { IfOk result (λ found. IfSome found (λ ready. ready.plan ≡ plan)) }
@@ -88,6 +90,7 @@ fn start(
     ensures unchanged { IfOk result (λ begun. begun ≡ false → opened.new ≡ opened.old) }
     ensures told { IfOk result (λ begun. begun ≡ true
         → TellsBegun opened.old.driver opened.new.driver writer.old.tokens writer.new.tokens) }
+    ensures declined { IfOk result (λ begun. begun ≡ false → Declines writer.old.tokens writer.new.tokens) }
 {
     match opened.driver.begin(ready) {
         Ok(number) => {
@@ -118,6 +121,8 @@ pub fn begin(
     ensures in_force { IfOk result (λ begun. begun ≡ true → at.is_reopening ≡ false) }
     ensures told { IfOk result (λ begun. begun ≡ true
         → TellsBegun opened.old.driver opened.new.driver writer.old.tokens writer.new.tokens) }
+    ensures declined { IfOk result (λ begun. begun ≡ false → value_of opened.old.plans name.now ≡ None
+        → Declines writer.old.tokens writer.new.tokens) }
     // Whoever begins again under the same name is told the same plan.
     ensures again { OnOk result (TellsBegunAgain opened.old at.is_reopening name.now writer.old.tokens writer.new.tokens) }
 {

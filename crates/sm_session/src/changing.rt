@@ -1,8 +1,9 @@
 //! Commands that change a journal that is open.
-ghost use Rattle.std.specs.Prelude.{◌≡◌, IfOk, OnOk, false, true};
+ghost use Rattle.std.specs.Prelude.{◌≡◌, IfOk, None, OnOk, Some, false, true};
 ghost use Rattle.sm_session.specs.Answers.{AnswersAgain};
 ghost use Rattle.sm_session.specs.Asked.{DoesToDriver};
 ghost use Rattle.sm_session.specs.Changes.{Changes};
+ghost use Rattle.sm_session.specs.Declines.{DriverDeclines};
 ghost use Rattle.sm_session.specs.Replies.{TellsChange};
 
 use crate::answering::{answered, write_ignored};
@@ -32,6 +33,8 @@ pub fn change(
     ensures told { IfOk result (λ changed. changed ≡ true
         → TellsChange opened.old.driver opened.new.driver writer.old.tokens writer.new.tokens) }
     ensures again { OnOk result (AnswersAgain command.entry opened.old at.is_reopening writer.old.tokens writer.new.tokens) }
+    ensures declined { IfOk result (λ changed. changed ≡ false
+        → DriverDeclines command.entry (Some opened.old) writer.old.tokens writer.new.tokens) }
 {
     match command {
         LineCommand::Begin { plan, name } => begin(opened, at, alloc, writer, plan, name),
@@ -57,7 +60,8 @@ pub fn change_nothing(
     writer: &mut Writer,
     command: LineCommand<'_, '_>,
 ) -> Result<bool, AllocError>
-    ensures { IfOk result (λ changed. changed ≡ false) }
+    ensures nothing { IfOk result (λ changed. changed ≡ false) }
+    ensures declined { IfOk result (λ _. DriverDeclines command.entry None writer.old.tokens writer.new.tokens) }
 {
     match command {
         LineCommand::Restarted { .. } => write_ignored(writer, "old")?,

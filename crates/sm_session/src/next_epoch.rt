@@ -1,6 +1,7 @@
 //! The opening of the next epoch.
-ghost use Rattle.std.specs.Prelude.{◌≡◌, IfOk, false, true};
+ghost use Rattle.std.specs.Prelude.{◌≡◌, IfOk, OnOk, false, true};
 ghost use Rattle.sm_session.specs.Changes.{OpensNext};
+ghost use Rattle.sm_session.specs.Declines.{Declines};
 ghost use Rattle.sm_session.specs.Replies.{TellsNext};
 
 use crate::standing::Standing;
@@ -15,7 +16,9 @@ fn refuse_epoch(
     alloc: Global,
     writer: &mut Writer,
     fault: EpochFault,
-) -> Result<(), AllocError> {
+) -> Result<(), AllocError>
+    ensures { OnOk result (Declines writer.old.tokens writer.new.tokens) }
+{
     match fault {
         EpochFault::NotAtRest { plan } => {
             let plan = Field::Number("plan", u64::from(plan));
@@ -41,6 +44,7 @@ pub fn open_next(
     ensures opened { IfOk result (λ is_open. is_open ≡ true → OpensNext opened.old.driver opened.new.driver) }
     ensures unchanged { IfOk result (λ is_open. is_open ≡ false → opened.new ≡ opened.old) }
     ensures in_force { IfOk result (λ is_open. is_open ≡ true → at.is_reopening ≡ false) }
+    ensures declined { IfOk result (λ is_open. is_open ≡ false → Declines writer.old.tokens writer.new.tokens) }
     ensures told { IfOk result (λ is_open. is_open ≡ true
         → TellsNext opened.old.driver opened.new.driver writer.old.tokens writer.new.tokens) }
 {

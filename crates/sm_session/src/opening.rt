@@ -1,5 +1,5 @@
 //! The first opening of a journal.
-ghost use Rattle.std.specs.Prelude.{◌≡◌, IfOk, IfSome, Ok, OnOk, Some, false, true};
+ghost use Rattle.std.specs.Prelude.{◌≡◌, IfOk, IfSome, None, Ok, OnOk, Some, false, true};
 ghost use Rattle.sm_placement.specs.Setup.{sizes_of};
 ghost use Rattle.sm_placement.specs.Layout.{place_of};
 ghost use Rattle.sm_placement.specs.Lead.{IsSettled};
@@ -9,6 +9,7 @@ ghost use Rattle.sm_plan_text.specs.Opened.{opening_of};
 ghost use Rattle.sm_plan_text.specs.Reading.{read_data, rows_of};
 ghost use Rattle.sm_session.specs.Asked.{OpensOver};
 ghost use Rattle.sm_session.specs.Changes.{HasDriven, driver_of};
+ghost use Rattle.sm_session.specs.Declines.{Declines};
 ghost use Rattle.sm_session.specs.Replies.{TellsDriven, TellsOpened};
 
 use crate::standing::Standing;
@@ -27,6 +28,7 @@ pub fn read_document(
     writer: &mut Writer,
 ) -> Result<Option<Document>, AllocError>
     ensures quiet { IfOk result (λ found. IfSome found (λ document. writer.new.tokens ≡ writer.old.tokens)) }
+    ensures declined { IfOk result (λ found. found ≡ None → Declines writer.old.tokens writer.new.tokens) }
     ensures said { IfOk result (λ found. IfSome found (λ document. read_data (Some (view value.now)) ≡ Ok (rows_of document))) }
 {
     match read_document_value(alloc, value) {
@@ -49,6 +51,7 @@ fn read_placement(
     document: &Document,
     writer: &mut Writer,
 ) -> Result<Option<Placement>, AllocError>
+    ensures declined { IfOk result (λ found. found ≡ None → Declines writer.old.tokens writer.new.tokens) }
     ensures settled { IfOk result (λ found. IfSome found (λ placement. IsSettled (sizes_of placement.setup) (place_of placement))) }
     ensures setup { IfOk result (λ found. IfSome found (λ placement. placement.setup ≡ document.now.config)) }
     ensures place { IfOk result (λ found. IfSome found (λ placement. place_of placement ≡ opened_place (opening_of (rows_of document.now)))) }
@@ -99,6 +102,7 @@ pub fn open(
     ensures asked { IfOk result (λ changed. changed ≡ true → OpensOver (view document.now) journal epoch opened.old opened.new) }
     ensures unchanged { IfOk result (λ changed. changed ≡ false → opened.new ≡ opened.old) }
     ensures in_force { IfOk result (λ changed. changed ≡ true → at.is_reopening ≡ false) }
+    ensures declined { IfOk result (λ changed. changed ≡ false → Declines writer.old.tokens writer.new.tokens) }
     ensures told { IfOk result (λ changed. changed ≡ true → TellsDriven opened.old opened.new writer.old.tokens writer.new.tokens) }
 {
     if opened.is_some() || at.is_reopening {

@@ -1,8 +1,9 @@
 //! Plans that are not begun: whether one would begin now, and plans that are made.
-ghost use Rattle.std.specs.Prelude.{◌≡◌, IfOk, IfSome, length};
+ghost use Rattle.std.specs.Prelude.{◌≡◌, IfOk, IfSome, None, length};
 ghost use Rattle.json_tree.specs.View.{view};
 ghost use Rattle.sm_plan_code.specs.Plan.{IsKnownPlan};
 ghost use Rattle.sm_session.specs.Asked.{SaysPlan};
+ghost use Rattle.sm_session.specs.Declines.{Declines};
 
 use json_tree::Tree;
 use sm_commands::{
@@ -28,6 +29,7 @@ pub fn read_plan(
     value: &Tree<'_>,
 ) -> Result<Option<Plan>, AllocError>
     ensures known { IfOk result (λ found. IfSome found (IsKnownPlan (length opened.now.driver.machine.placement.setup.shards) (length opened.now.driver.machine.placement.setup.servers))) }
+    ensures declined { IfOk result (λ found. found ≡ None → Declines writer.old.tokens writer.new.tokens) }
     ensures said { IfOk result (λ found. IfSome found (λ plan. SaysPlan opened.now.driver.machine.placement.setup (view value.now) plan)) }
     ensures quiet { IfOk result (λ found. IfSome found (λ plan. writer.new.tokens ≡ writer.old.tokens)) }
 {

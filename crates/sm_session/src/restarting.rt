@@ -1,6 +1,7 @@
 //! Ends of restarts.
-ghost use Rattle.std.specs.Prelude.{◌≡◌, IfOk, false, true};
+ghost use Rattle.std.specs.Prelude.{◌≡◌, IfOk, OnOk, false, true};
 ghost use Rattle.sm_session.specs.Changes.{EndsRestart};
+ghost use Rattle.sm_session.specs.Declines.{Declines};
 ghost use Rattle.sm_session.specs.Replies.{TellsUp};
 
 use crate::answering::write_ignored;
@@ -16,7 +17,9 @@ fn wait_for_reopening(
     alloc: Global,
     writer: &mut Writer,
     permit: u64,
-) -> Result<(), AllocError> {
+) -> Result<(), AllocError>
+    ensures { OnOk result (Declines writer.old.tokens writer.new.tokens) }
+{
     if opened.driver.permits().contains(&Some(permit)) {
         refuse(writer, alloc, "Reopening", &[])
     } else {
@@ -37,6 +40,7 @@ pub fn restarted(
     ensures ended { IfOk result (λ ended. ended ≡ true → EndsRestart permit base opened.old.driver opened.new.driver) }
     ensures unchanged { IfOk result (λ ended. ended ≡ false → opened.new ≡ opened.old) }
     ensures in_force { IfOk result (λ ended. ended ≡ true → at.is_reopening ≡ false) }
+    ensures declined { IfOk result (λ ended. ended ≡ false → Declines writer.old.tokens writer.new.tokens) }
     ensures told { IfOk result (λ ended. ended ≡ true → TellsUp opened.old.driver opened.new.driver writer.old.tokens writer.new.tokens) }
 {
     if at.is_reopening {

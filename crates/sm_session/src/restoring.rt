@@ -1,8 +1,10 @@
 //! Servers that have lost all they had.
-ghost use Rattle.std.specs.Prelude.{◌≡◌, IfOk, OnOk, false, true};
+ghost use Rattle.std.specs.Prelude.{◌≡◌, IfOk, None, OnOk, false, true};
+ghost use Rattle.sm_placement.specs.Setup.{server_named};
 ghost use Rattle.sm_session.specs.Answers.{TellsRestoredAgain};
 ghost use Rattle.sm_session.specs.Asked.{RestoresServerOf};
 ghost use Rattle.sm_session.specs.Changes.{RestoresServer};
+ghost use Rattle.sm_session.specs.Declines.{Declines};
 ghost use Rattle.sm_session.specs.Replies.{TellsRestored};
 
 use crate::standing::Standing;
@@ -18,7 +20,9 @@ fn refuse_engaged(
     alloc: Global,
     server: &str,
     stream: StreamId,
-) -> Result<(), AllocError> {
+) -> Result<(), AllocError>
+    ensures { OnOk result (Declines writer.old.tokens writer.new.tokens) }
+{
     let server = Field::Name("server", server);
     let plan = Field::Number("plan", u64::from(stream.plan));
     let number = Field::Number("stream", u64::from(stream.stream));
@@ -41,6 +45,9 @@ pub fn restore(
     ensures in_force { IfOk result (λ restored. restored ≡ true → at.is_reopening ≡ false) }
     ensures told { IfOk result (λ restored. restored ≡ true
         → TellsRestored opened.old.driver opened.new.driver writer.old.tokens writer.new.tokens) }
+    ensures declined { IfOk result (λ restored. restored ≡ false
+        → server_named opened.old.driver.machine.placement.setup name.now ≡ None
+        → Declines writer.old.tokens writer.new.tokens) }
     // A server that asks again under the same nonce is told what it was told.
     ensures again { OnOk result (TellsRestoredAgain opened.old name.now nonce writer.old.tokens writer.new.tokens) }
 {

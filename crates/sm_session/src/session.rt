@@ -54,6 +54,7 @@ impl Session {
     ghost use Rattle.sm_session.specs.Answers.{Answers, AnswersLine, AnswersObject};
     ghost use Rattle.sm_session.specs.Asked.{DoesAsSaid, DoesAsTold, DoesToSession, setup_in_force};
     ghost use Rattle.sm_session.specs.Changes.{IsNew, SessionChanges};
+    ghost use Rattle.sm_session.specs.Declines.{DeclinesBy, DeclinesLine, DeclinesValue, SessionDeclines};
     ghost use Rattle.sm_session.specs.Replies.{IsLineReply, SessionTells, TellsBehindId, TellsLine};
 
     /// Returns a session before its first line.
@@ -95,6 +96,9 @@ impl Session {
         ensures object { IfOk result (λ applied. applied ≡ did.Changed → IsObject line.now) }
         ensures behind { OnOk result ((text : List ℕ) × (reply.new.items ≡ reply.old.items ++ text)) }
         ensures told { IfOk result (λ applied. (text : List ℕ) × (reply.new.items ≡ reply.old.items ++ text) × IsLineReply line.now self.old self.new applied text) }
+        // No reply tells a change that was not made.
+        ensures declined { IfOk result (λ applied. applied ≡ did.Unchanged → (text : List ℕ)
+            × (reply.new.items ≡ reply.old.items ++ text) × DeclinesBy text line.now self.old) }
     {
         let mut writer = Writer::new(alloc);
         let changed = self.answer(alloc, line, &mut writer)?;
@@ -119,6 +123,8 @@ impl Session {
         ensures unchanged { IfOk result (λ changed. changed ≡ false → self.new ≡ self.old) }
         ensures told { IfOk result (λ changed. changed ≡ true → TellsLine line.now self.old self.new writer.old.tokens writer.new.tokens) }
         ensures answered { OnOk result (AnswersLine line.now self.old writer.old.tokens writer.new.tokens) }
+        ensures declined { IfOk result (λ changed. changed ≡ false
+            → DeclinesLine line.now self.old writer.old.tokens writer.new.tokens) }
         ensures object { IfOk result (λ changed. changed ≡ true → IsObject line.now) }
     {
         if line.len() > MOST_BYTES {
@@ -153,6 +159,8 @@ impl Session {
         ensures unchanged { IfOk result (λ changed. changed ≡ false → self.new ≡ self.old) }
         ensures told { IfOk result (λ changed. changed ≡ true → TellsBehindId (view line.now) self.old self.new writer.old.tokens writer.new.tokens) }
         ensures answered { OnOk result (AnswersObject (view line.now) self.old
+            (writer.old.tokens ++ line_id (view line.now)) writer.new.tokens) }
+        ensures declined { IfOk result (λ changed. changed ≡ false → DeclinesValue (view line.now) self.old
             (writer.old.tokens ++ line_id (view line.now)) writer.new.tokens) }
     {
         write_id(writer, id_of(line))?;
@@ -198,6 +206,8 @@ impl Session {
         ensures unchanged { IfOk result (λ changed. changed ≡ false → self.new ≡ self.old) }
         ensures told { IfOk result (λ changed. changed ≡ true → SessionTells self.old self.new writer.old.tokens writer.new.tokens) }
         ensures answered { OnOk result (Answers command.entry self.old writer.old.tokens writer.new.tokens) }
+        ensures declined { IfOk result (λ changed. changed ≡ false
+            → SessionDeclines command.entry self.old writer.old.tokens writer.new.tokens) }
     {
         let at = self.standing();
         match command {

@@ -1,6 +1,8 @@
-use Rattle.std.proofs.Common.{◌≡◌, true}
+use Rattle.std.proofs.Common.{◌≡◌, Some, IfOk, false, subst, sym, true}
 use Rattle.std.proofs.lemmas.Result.{IfOk-weaker}
+use Rattle.sm_commands.specs.declared.command.LineCommand.{LineCommand}
 use Rattle.sm_session.specs.Changes.{Changes, Ends, EndsRestart}
+use Rattle.sm_session.specs.Declines.{DriverDeclines}
 use Rattle.sm_session.proofs.changing.change.Goals as goal
 
 -- A restart that has ended is a change, whatever its permit and its base.
@@ -13,3 +15,9 @@ returns-in-Restarted-clause-changed c =
     (λ changed. changed ≡ true → Changes old new)
     (λ _ ends is. Ends c.in-Restarted.permit c.in-Restarted.base (ends is))
     c.restarted.ensures.ended
+
+-- A server that is restored is declined as the command says.
+pub returns-in-Restore-clause-declined : goal.returns-in-Restore-clause-declined
+returns-in-Restore-clause-declined c =
+    subst (λ (command : LineCommand). IfOk c.restore.result (λ changed. changed ≡ false
+    → DriverDeclines command (Some c.args.opened.now) c.args.writer.now.tokens c.restore.new.writer.tokens)) (sym c.in-Restore.is) c.restore.ensures.declined

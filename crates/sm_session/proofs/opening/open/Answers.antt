@@ -1,5 +1,7 @@
 use Rattle.json_tree.specs.View.{view}
+use Rattle.sm_session.specs.Declines.{Refused}
 use Rattle.sm_session.proofs.Asked.{none_open, opens_driver, opens_over, tells_first}
+use Rattle.sm_session.proofs.Declined.{declined_after, declined_behind}
 use Rattle.sm_session.proofs.opening.open.Goals as goal
 
 pub returns-in-Ok-clause-changed : goal.returns-in-Ok-clause-changed
@@ -24,3 +26,15 @@ returns-in-Ok-clause-told c = λ _.
     tells_first c.args.opened.now c.take.new.opened c.in_ok-document.field-0 c.in-Some.document c.in_ok-placement.field-0 c.in-Some-2.placement
     c.args.writer.now.tokens _ _ c.take.new.writer.tokens
     none c.in-Some.is c.in-Some-2.is c.in_ok-document.ensures.quiet c.in_ok-placement.ensures.quiet c.in_ok-take-in-Ok.ensures.told
+
+-- The document was read without a word.
+pub returns-in_default-2-clause-declined : goal.returns-in_default-2-clause-declined
+returns-in_default-2-clause-declined c = λ _.
+    declined_after c.in_ok-document.field-0 c.in-Some.document c.args.writer.now.tokens _ _
+    c.in-Some.is c.in_ok-document.ensures.quiet (c.in_ok-placement.ensures.declined c.in_default-2.is)
+
+-- So was its placement.
+pub returns-clause-declined : goal.returns-clause-declined
+returns-clause-declined c = λ _.
+    declined_behind c.in_ok-document.field-0 c.in_ok-placement.field-0 c.in-Some.document c.in-Some-2.placement c.args.writer.now.tokens _ _ _
+    c.in-Some.is c.in-Some-2.is c.in_ok-document.ensures.quiet c.in_ok-placement.ensures.quiet (Refused c.in_ok-refuse_log-in-Err-default-LogFull.ensures)

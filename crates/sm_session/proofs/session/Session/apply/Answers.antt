@@ -1,6 +1,7 @@
 -- The reply is the members in braces, and the writer had written nothing before them.
 use Rattle.std.proofs.Common.{◌≡◌, ◌∙◌}
 use Rattle.sm_session.specs.declared.session.LineEffect.TheVariants.{Changed, Unchanged}
+use Rattle.sm_session.proofs.Declined.{declined_reply}
 use Rattle.sm_session.proofs.Told.{replied}
 use Rattle.sm_session.proofs.session.Session.apply.Goals as goal
 
@@ -13,3 +14,8 @@ pub returns-clause-told : goal.returns-clause-told
 returns-clause-told c =
     replied _ _ _ _ _ _ _ _ _ (c.as_slice.ensures.value ∙ c.into_text-members.ensures.text) c.into_text-members.ensures.one_line
     c.in_ok-push_object.ensures c.new-writer.ensures (λ _. c.in_ok-changed.ensures.told c.if-not-changed.false) c.in_ok-changed.ensures.answered
+
+pub returns-then-not-changed-clause-declined : goal.returns-then-not-changed-clause-declined
+returns-then-not-changed-clause-declined c = λ _.
+    declined_reply _ _ _ _ _ _ _ (c.as_slice.ensures.value ∙ c.into_text-members.ensures.text)
+    c.in_ok-push_object.ensures c.new-writer.ensures (c.in_ok-changed.ensures.declined c.if-not-changed.true)
