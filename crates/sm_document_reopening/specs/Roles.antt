@@ -1,5 +1,5 @@
 -- Roles by shard and server, and the cells that they give.
--- All of it is internal: you need not read it for the public contracts (`role_by_cell`, `cell_by_role`, `is_down_in`,
+-- All but the first is internal: you need not read it for the public contracts (`cell_by_role`, `is_down_in`,
 -- `AreOfRoles`, `is_pair_before`, `NamesRoles`).
 use Rattle.std.specs.Prelude.{◌≡◌, ℕ, ◌&&◌, ◌||◌, ◌==◌, Bool, true, false, List, [], ◌∷◌, Option, Some, None, is_some, nat_lt, slice_index_or}
 use Rattle.std.specs.List.{list_any}

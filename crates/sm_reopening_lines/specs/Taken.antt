@@ -1,19 +1,24 @@
 -- The effects of lines on a reopening.
-use Rattle.std.specs.Prelude.{◌≡◌, ℕ, true}
-use Rattle.sm_network.specs.Reopening.{Confirm, Inventory, Party, Settlement, Told, Took, entered, is_first}
+use Rattle.std.specs.Prelude.{◌≡◌, ℕ, List, Option, Some, None, option_map, true}
+use Rattle.std.specs.Borrow.{Bor}
+use Rattle.sm_placement.specs.Setup.{Setup, server_named}
+use Rattle.sm_network.specs.Reopening.{Confirm, Entries, Inventory, MapOwner, Party, Server, Settlement, Slots, Told, Took, Unknown, entered, is_first}
 use Rattle.sm_reopening.specs.Faults.{MayConfirm}
 use Rattle.sm_reopening.specs.Ongoing.{net_reopening}
 use Rattle.sm_reopening.specs.Settles.{is_due_settle}
 use Rattle.sm_document_reopening.specs.Reopening.{IsUnder, ReopeningModel}
+use Rattle.sm_commands.specs.declared.command.ToldText.{ToldText}
+use Rattle.sm_commands.specs.declared.command.ToldText.TheVariants as told
 
--- A party has told what it has, for the first time at this fence.
-pub record TakesTold (old new : ReopeningModel) : Type 0 where
-  pub party : Party
-  pub base : ℕ
-  pub inventory : Inventory
+-- A party has told what it has, for the first time at the fence with this base.
+pub record TakesToldOf (party : Party) (base : ℕ) (inventory : Inventory) (old new : ReopeningModel) : Type 0 where
   pub first : is_first (net_reopening old.ongoing) party base ≡ true
   pub taken : net_reopening new.ongoing ≡ entered (Told party base inventory) (net_reopening old.ongoing)
   pub under : IsUnder old new
+
+-- some party has told something
+abbrev pub TakesTold : ReopeningModel → ReopeningModel → Type 0
+TakesTold old new = (party : Party) × (base : ℕ) × (inventory : Inventory) × TakesToldOf party base inventory old new
 
 -- A settlement is confirmed that may be.
 pub record TakesConfirm (old new : ReopeningModel) : Type 0 where
@@ -22,10 +27,52 @@ pub record TakesConfirm (old new : ReopeningModel) : Type 0 where
   pub taken : net_reopening new.ongoing ≡ entered (Confirm settlement) (net_reopening old.ongoing)
   pub under : IsUnder old new
 
--- A party has taken its settle, and has said so for the first time.
-pub record TakesSettled (old new : ReopeningModel) : Type 0 where
-  pub party : Party
-  pub base : ℕ
+-- A party has taken its settle with this base, and has said so for the first time.
+pub record TakesSettledOf (party : Party) (base : ℕ) (old new : ReopeningModel) : Type 0 where
   pub due : is_due_settle (net_reopening old.ongoing) party base ≡ true
   pub taken : net_reopening new.ongoing ≡ entered (Took party base) (net_reopening old.ongoing)
   pub under : IsUnder old new
+
+-- some party has taken its settle
+abbrev pub TakesSettled : ReopeningModel → ReopeningModel → Type 0
+TakesSettled old new = (party : Party) × (base : ℕ) × TakesSettledOf party base old new
+
+-- ---- as lines ask for it
+
+-- the party that a line names: the server of the name, and without a name the map's owner
+abbrev pub party_named : Setup → Option (Bor (List ℕ)) → Option Party
+party_named numbering (Some name) = option_map Server (server_named numbering name.now)
+party_named numbering None = Some MapOwner
+
+-- an inventory has slots
+abbrev pub ListsSlots : Inventory → Type 0
+ListsSlots (Slots _ _) = Unit {0}
+ListsSlots (Unknown _) = ⊥
+ListsSlots Entries = ⊥
+
+-- the inventory of a server is what a line tells: slots, or the nonce under which it asks for them
+abbrev pub IsToldAs : ToldText → Inventory → Type 0
+IsToldAs (told.Unknown nonce) inventory = inventory ≡ Unknown nonce
+IsToldAs (told.Slots _) inventory = ListsSlots inventory
+IsToldAs told.Map inventory = ListsSlots inventory
+
+-- that of the map's owner is the map
+abbrev pub IsInventoryOf : Party → ToldText → Inventory → Type 0
+IsInventoryOf (Server _) told inventory = IsToldAs told inventory
+IsInventoryOf MapOwner told inventory = inventory ≡ Entries
+
+-- a party has told what a line tells
+abbrev pub TakesToldBy : Party → ℕ → ToldText → ReopeningModel → ReopeningModel → Type 0
+TakesToldBy party base told old new = (inventory : Inventory) × IsInventoryOf party told inventory × TakesToldOf party base inventory old new
+
+-- the party that a line names has told what it tells
+abbrev pub TakesFenced : Option (Bor (List ℕ)) → ℕ → ToldText → ReopeningModel → ReopeningModel → Type 0
+TakesFenced server base told old new = (party : Party) × (party_named old.numbering server ≡ Some party) × TakesToldBy party base told old new
+
+-- a settlement is confirmed of the reopening with this base
+abbrev pub ConfirmsAt : ℕ → ReopeningModel → ReopeningModel → Type 0
+ConfirmsAt base old new = (base ≡ (net_reopening old.ongoing).base) × TakesConfirm old new
+
+-- the party that a line names has taken its settle with this base
+abbrev pub TakesSettledBy : Option (Bor (List ℕ)) → ℕ → ReopeningModel → ReopeningModel → Type 0
+TakesSettledBy server base old new = (party : Party) × (party_named old.numbering server ≡ Some party) × TakesSettledOf party base old new

@@ -2,6 +2,7 @@
 ghost use Rattle.std.specs.Prelude.{◌≡◌, ◌++◌, OnOk};
 ghost use Rattle.std.specs.List.{flat_map};
 ghost use Rattle.sm_reopening_lines.specs.Parties.{party_text, waiting_member};
+ghost use Rattle.sm_reopening_lines.specs.Settles.{given_cell_text};
 
 use sm_commands::{Writer, server_name, shard_name, write_number, write_text};
 use sm_document_reopening::{DocumentReopening, Proposal, ShortFloor, Stage};
@@ -54,7 +55,9 @@ pub fn write_waiting(
 }
 
 /// Returns the word for a role.
-fn role_word(role: Role) -> &'static str {
+pub(crate) fn role_word(role: Role) -> &'static str
+    ensures { result.now ≡ given_cell_text role }
+{
     match role {
         Role::Primary => "primary",
         Role::Secondary => "secondary",

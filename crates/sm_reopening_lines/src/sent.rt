@@ -1,13 +1,19 @@
 //! Fences and settles as they go out.
-ghost use Rattle.std.specs.Prelude.{◌≡◌, ◌++◌, OnOk, option_map};
-ghost use Rattle.std.specs.List.{flat_map};
+ghost use Rattle.std.specs.Prelude.{◌≡◌, ◌<◌, ◌++◌, None, OnOk, codes, false, length, option_map, slice_index_or};
+ghost use Rattle.std.specs.Fmt.{digits};
+ghost use Rattle.std.specs.List.{flat_map, range_with_len};
+ghost use Rattle.sm_placement.specs.Layout.{place_of};
+ghost use Rattle.sm_commands.specs.Members.{name_member, object, server_text};
+ghost use Rattle.sm_document_reopening.specs.Roles.{role_by_cell};
 ghost use Rattle.sm_reopening_lines.specs.Parties.{addressed_members, fence_text, fences_member, party_name};
+ghost use Rattle.sm_reopening_lines.specs.Settles.{brought_members, entries_member, entry_members, settle_to, settles_member, given_slot_members, given_slot_text, given_slots_member};
 
+use crate::proposed::role_word;
 use sm_commands::{Writer, server_name, shard_name, write_name, write_number, write_text};
 use sm_document_reopening::DocumentReopening;
-use sm_placement::Placement;
+use sm_placement::{Config, Placement};
 use sm_reopening::{Party, Settle};
-use sm_server::{Cell, ServerId, ShardId};
+use sm_server::{Cell, Role, ServerId, ShardId};
 use std::alloc::{AllocError, Global};
 
 /// Returns the name of a party; the map's owner has none.
@@ -82,90 +88,186 @@ pub fn write_fences(
     Ok(())
 }
 
-/// Returns the word for a cell of a settlement, if it holds something.
-fn settled_word(cell: &Cell) -> Option<&'static str> {
+/// Returns the role that a cell of a settlement gives, if it holds something.
+fn settled_role(cell: &Cell) -> Option<Role>
+    ensures { result ≡ role_by_cell cell.now }
+{
     match cell {
-        Cell::Primary => Some("primary"),
-        Cell::Secondary => Some("secondary"),
+        Cell::Primary => Some(Role::Primary),
+        Cell::Secondary => Some(Role::Secondary),
         _ => None,
     }
+}
+
+/// Returns the cell that a settlement has of a shard and a server.
+fn settled_cell(settlement: &Placement, shard: ShardId, server: ServerId) -> Cell
+    ensures { result ≡ (place_of settlement.now).cells shard server }
+{
+    let config = settlement.config();
+    if shard.number() >= config.shard_count() || server.number() >= config.server_count() {
+        return Cell::Absent;
+    }
+    settlement.cell(shard, server)
+}
+
+/// Writes the members of a slot of a server that has this role.
+fn write_slot_members(
+    writer: &mut Writer,
+    config: &Config,
+    shard: ShardId,
+    role: Role,
+) -> Result<(), AllocError>
+    requires { shard < length config.now.shards }
+    ensures { OnOk result (writer.new.tokens ≡ writer.old.tokens ++ given_slot_members config.now shard role) }
+{
+    write_text(writer, "shard", shard_name(config, shard))?;
+    write_text(writer, "cell", role_word(role))?;
+    write_number(writer, "load", config.load(shard))?;
+    Ok(())
 }
 
 /// Writes a slot of a server, if it holds something.
 fn write_slot(
     writer: &mut Writer,
     settlement: &Placement,
-    shard: ShardId,
     server: ServerId,
-) -> Result<(), AllocError> {
-    let config = settlement.config();
-    if shard.number() >= config.shard_count() || server.number() >= config.server_count() {
-        return Ok(());
+    shard: ShardId,
+) -> Result<(), AllocError>
+    requires { shard < length settlement.now.setup.shards }
+    ensures { OnOk result (writer.new.tokens ≡ writer.old.tokens ++ given_slot_text settlement.now.setup (place_of settlement.now) server shard) }
+{
+    if let Some(role) = settled_role(&settled_cell(settlement, shard, server)) {
+        writer.begin_object()?;
+        write_slot_members(writer, settlement.config(), shard, role)?;
+        writer.end_object()?;
     }
-    let cell = settlement.cell(shard, server);
-    let Some(word) = settled_word(&cell) else {
-        return Ok(());
-    };
-    writer.begin_object()?;
-    write_text(writer, "shard", shard_name(config, shard))?;
-    write_text(writer, "cell", word)?;
-    write_number(writer, "load", config.load(shard))?;
-    writer.end_object()
+    Ok(())
 }
 
-/// Writes the slots that a server has from now on.
+/// Writes the slots that hold something, by the numbers of their shards.
+fn write_each_slot(
+    writer: &mut Writer,
+    settlement: &Placement,
+    server: ServerId,
+) -> Result<(), AllocError>
+    ensures { OnOk result (writer.new.tokens ≡ writer.old.tokens
+        ++ flat_map (given_slot_text settlement.now.setup (place_of settlement.now) server) (range_with_len 0 (length settlement.now.setup.shards))) }
+{
+    for number in 0..settlement.config().shard_count() {
+        write_slot(writer, settlement, server, ShardId::new(number))?;
+    }
+    Ok(())
+}
+
+/// Writes, as a member, the slots that a server has from now on.
 fn write_slots(
     writer: &mut Writer,
     settlement: &Placement,
     server: ServerId,
-) -> Result<(), AllocError> {
+) -> Result<(), AllocError>
+    ensures { OnOk result (writer.new.tokens ≡ writer.old.tokens ++ given_slots_member settlement.now.setup (place_of settlement.now) server) }
+{
     writer.key("slots")?;
     writer.begin_array()?;
-    for number in 0..settlement.config().shard_count() {
-        write_slot(writer, settlement, ShardId::new(number), server)?;
+    write_each_slot(writer, settlement, server)?;
+    writer.end_array()?;
+    Ok(())
+}
+
+/// Returns the server that a list has at a shard, if it has one.
+fn listed_at(listed: &[Option<ServerId>], shard: ShardId) -> Option<ServerId>
+    ensures { result ≡ slice_index_or listed.now shard None }
+{
+    match listed.get(shard.number() as usize) {
+        Some(server) => *server,
+        None => None,
     }
-    writer.end_array()
+}
+
+/// Returns the server that the map lists for a shard, if it lists one.
+fn listed(settlement: &Placement, shard: ShardId) -> Option<ServerId>
+    ensures { result ≡ (place_of settlement.now).listed shard }
+{
+    listed_at(settlement.listed_servers(), shard)
+}
+
+/// Returns the name of the server that the map lists for a shard, if it lists one.
+fn listed_name<'s>(settlement: &'s Placement, shard: ShardId) -> Option<&'s str>
+    ensures { option_map (λ name. name.now) result ≡ option_map (server_text settlement.now.setup) ((place_of settlement.now).listed shard) }
+{
+    match listed(settlement, shard) {
+        Some(server) => Some(server_name(settlement.config(), server)),
+        None => None,
+    }
+}
+
+/// Writes the members of an entry of the map.
+fn write_entry_members(
+    writer: &mut Writer,
+    settlement: &Placement,
+    version: u64,
+    shard: ShardId,
+) -> Result<(), AllocError>
+    ensures { OnOk result (writer.new.tokens ≡ writer.old.tokens ++ entry_members settlement.now.setup (place_of settlement.now) version shard) }
+{
+    write_text(writer, "shard", shard_name(settlement.config(), shard))?;
+    write_name(writer, "to", listed_name(settlement, shard))?;
+    write_number(writer, "version", version)?;
+    Ok(())
 }
 
 /// Writes an entry of the map.
 fn write_entry(
     writer: &mut Writer,
     settlement: &Placement,
-    shard: ShardId,
     version: u64,
-) -> Result<(), AllocError> {
-    let config = settlement.config();
-    if shard.number() >= config.shard_count() {
-        return Ok(());
-    }
-    let to = settlement.listed(shard);
+    shard: ShardId,
+) -> Result<(), AllocError>
+    ensures { OnOk result (writer.new.tokens ≡ writer.old.tokens ++ object (entry_members settlement.now.setup (place_of settlement.now) version shard)) }
+{
     writer.begin_object()?;
-    write_text(writer, "shard", shard_name(config, shard))?;
-    match to {
-        Some(server) => write_text(writer, "to", server_name(config, server))?,
-        None => write_name(writer, "to", None)?,
-    }
-    write_number(writer, "version", version)?;
-    writer.end_object()
+    write_entry_members(writer, settlement, version, shard)?;
+    writer.end_object()?;
+    Ok(())
 }
 
-/// Writes the entries that the map has from now on.
+/// Writes entries of the map.
+fn write_each_entry(
+    writer: &mut Writer,
+    settlement: &Placement,
+    version: u64,
+    shards: &[ShardId],
+) -> Result<(), AllocError>
+    ensures { OnOk result (writer.new.tokens ≡ writer.old.tokens
+        ++ flat_map (λ s. object (entry_members settlement.now.setup (place_of settlement.now) version s)) shards.now) }
+{
+    for shard in shards {
+        write_entry(writer, settlement, version, *shard)?;
+    }
+    Ok(())
+}
+
+/// Writes, as a member, the entries that the map has from now on.
 fn write_entries(
     writer: &mut Writer,
     alloc: Global,
     reopening: &DocumentReopening,
     settlement: &Placement,
-) -> Result<(), AllocError> {
+) -> Result<(), AllocError>
+    ensures { OnOk result (writer.new.tokens ≡ writer.old.tokens ++ entries_member reopening.now settlement.now.setup (place_of settlement.now)) }
+{
+    let shards = reopening.shards_in_order(alloc)?;
     writer.key("entries")?;
     writer.begin_array()?;
-    for shard in reopening.shards_in_order(alloc)? {
-        write_entry(writer, settlement, shard, reopening.base())?;
-    }
-    writer.end_array()
+    write_each_entry(writer, settlement, reopening.base(), shards.as_slice())?;
+    writer.end_array()?;
+    Ok(())
 }
 
 /// Writes a nonce, or that there is none.
-fn write_nonce(writer: &mut Writer, alloc: Global, nonce: Option<u64>) -> Result<(), AllocError> {
+fn write_nonce(writer: &mut Writer, alloc: Global, nonce: Option<u64>) -> Result<(), AllocError>
+    ensures { OnOk result (writer.new.tokens ≡ writer.old.tokens ++ name_member (codes "nonce") (option_map (digits 16 false) nonce)) }
+{
     match nonce {
         Some(nonce) => {
             let text = format!(in alloc; "{nonce:x}")?;
@@ -175,55 +277,98 @@ fn write_nonce(writer: &mut Writer, alloc: Global, nonce: Option<u64>) -> Result
     }
 }
 
-/// Writes what a settle brings: to the map's owner all entries, to a server its slots.
+/// Writes what a settle brings to a party: to the map's owner all entries, to a server its slots, for the nonce that its answer had.
 fn write_brought(
     writer: &mut Writer,
     alloc: Global,
     reopening: &DocumentReopening,
     settlement: &Placement,
+    party: &Party,
     settle: &Settle,
-) -> Result<(), AllocError> {
-    match &settle.party {
+) -> Result<(), AllocError>
+    ensures { OnOk result (writer.new.tokens ≡ writer.old.tokens
+        ++ brought_members reopening.now settlement.now.setup (place_of settlement.now) party.now settle.now.nonce) }
+{
+    match party {
         Party::MapOwner => write_entries(writer, alloc, reopening, settlement),
         Party::Server(server) => {
             write_nonce(writer, alloc, settle.nonce)?;
-            write_slots(writer, settlement, *server)
+            write_slots(writer, settlement, *server)?;
+            Ok(())
         }
     }
 }
 
-/// Writes a settle.
+/// Writes the settle of this settlement to a party, for the nonce that its answer had.
 fn write_settle(
     writer: &mut Writer,
     alloc: Global,
     reopening: &DocumentReopening,
     journal: &str,
-    settle: Settle,
-) -> Result<(), AllocError> {
+    settlement: &Placement,
+    party: &Party,
+    settle: &Settle,
+) -> Result<(), AllocError>
+    ensures { OnOk result (writer.new.tokens ≡ writer.old.tokens ++ object (addressed_members journal.now reopening.now party.now
+        ++ brought_members reopening.now settlement.now.setup (place_of settlement.now) party.now settle.now.nonce)) }
+{
+    writer.begin_object()?;
+    write_head(writer, reopening, journal, *party)?;
+    write_brought(writer, alloc, reopening, settlement, party, settle)?;
+    writer.end_object()?;
+    Ok(())
+}
+
+/// Writes the settle to a party, once a settlement is confirmed.
+fn write_settle_to(
+    writer: &mut Writer,
+    alloc: Global,
+    reopening: &DocumentReopening,
+    journal: &str,
+    party: Party,
+) -> Result<(), AllocError>
+    ensures { OnOk result (writer.new.tokens ≡ writer.old.tokens ++ settle_to journal.now reopening.now party) }
+{
     let Some(settlement) = reopening.settlement() else {
         return Ok(());
     };
-    writer.begin_object()?;
-    write_head(writer, reopening, journal, settle.party)?;
-    write_brought(writer, alloc, reopening, settlement, &settle)?;
-    writer.end_object()
+    let Some(settle) = reopening.settle(party) else {
+        return Ok(());
+    };
+    write_settle(
+        writer, alloc, reopening, journal, settlement, &party, &settle,
+    )
 }
 
-/// Writes, as a member, the settles that are not answered.
+/// Writes the settles to parties.
+fn write_each_settle(
+    writer: &mut Writer,
+    alloc: Global,
+    reopening: &DocumentReopening,
+    journal: &str,
+    parties: &[Party],
+) -> Result<(), AllocError>
+    ensures { OnOk result (writer.new.tokens ≡ writer.old.tokens ++ flat_map (settle_to journal.now reopening.now) parties.now) }
+{
+    for party in parties {
+        write_settle_to(writer, alloc, reopening, journal, *party)?;
+    }
+    Ok(())
+}
+
+/// Writes, as a member, the settles that are not answered: none before a settlement is confirmed.
 pub fn write_settles(
     writer: &mut Writer,
     alloc: Global,
     reopening: &DocumentReopening,
     journal: &str,
-) -> Result<(), AllocError> {
+) -> Result<(), AllocError>
+    ensures { OnOk result (writer.new.tokens ≡ writer.old.tokens ++ settles_member journal.now reopening.now) }
+{
+    let parties = reopening.unsettled(alloc)?;
     writer.key("settle")?;
     writer.begin_array()?;
-    if reopening.is_confirmed() {
-        for party in reopening.unsettled(alloc)? {
-            if let Some(settle) = reopening.settle(party) {
-                write_settle(writer, alloc, reopening, journal, settle)?;
-            }
-        }
-    }
-    writer.end_array()
+    write_each_settle(writer, alloc, reopening, journal, parties.as_slice())?;
+    writer.end_array()?;
+    Ok(())
 }

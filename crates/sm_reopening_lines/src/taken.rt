@@ -1,9 +1,14 @@
 //! The lines that a reopening takes once it has begun.
-ghost use Rattle.std.specs.Prelude.{◌≡◌, ◌⊎◌, IfOk, IfSome, OnOk, Some, false, is_some, true};
+ghost use Rattle.std.specs.Prelude.{◌≡◌, ◌++◌, ◌⊎◌, IfOk, IfSome, OnOk, Some, false, is_some, option_map, true};
+ghost use Rattle.sm_network.specs.Reopening.{Entries, MapOwner, Server};
 ghost use Rattle.sm_network.specs.ReopeningLaws.{AllTook};
-ghost use Rattle.sm_reopening.specs.States.{fits_told};
+ghost use Rattle.sm_reopening.specs.States.{fits_told, net_inventory};
 ghost use Rattle.sm_reopening.specs.Ongoing.{net_reopening, shards_of};
-ghost use Rattle.sm_reopening_lines.specs.Taken.{TakesConfirm, TakesSettled, TakesTold};
+ghost use Rattle.sm_reopening.specs.Settles.{net_party};
+ghost use Rattle.sm_document_reopening.specs.Waiting.{unsettled_parties};
+ghost use Rattle.sm_reopening_lines.specs.Parties.{TellsAwaited, waiting_member};
+ghost use Rattle.sm_reopening_lines.specs.Settles.{settles_member};
+ghost use Rattle.sm_reopening_lines.specs.Taken.{ConfirmsAt, IsToldAs, TakesConfirm, TakesFenced, TakesSettledBy, TakesToldBy, TakesToldOf, party_named};
 
 use crate::proposed::{write_proposal, write_waiting};
 use crate::refused::refuse_confirm;
@@ -27,7 +32,9 @@ fn ignore(writer: &mut Writer) -> Result<bool, AllocError>
 }
 
 /// Returns the party that a line names, if it has a number.
-fn party_named(reopening: &DocumentReopening, server: Option<&str>) -> Option<Party> {
+fn party_named(reopening: &DocumentReopening, server: Option<&str>) -> Option<Party>
+    ensures { option_map net_party result ≡ party_named reopening.now.numbering server.entry }
+{
     match server {
         Some(name) => match reopening.numbering().server_named(name) {
             Some(server) => Some(Party::Server(server)),
@@ -44,7 +51,9 @@ fn read_told(
     reopening: &DocumentReopening,
     told: ToldText<'_, '_>,
 ) -> Result<Option<Told>, AllocError>
-    ensures { IfOk result (λ found. IfSome found (λ told. fits_told (shards_of reopening.now.ongoing) (Some told.inventory) ≡ true)) }
+    ensures fits { IfOk result (λ found. IfSome found (λ told. fits_told (shards_of reopening.now.ongoing) (Some told.inventory) ≡ true)) }
+    ensures said { IfOk result (λ found. IfSome found (λ t. IsToldAs told.entry (net_inventory t.inventory))) }
+    ensures quiet { IfOk result (λ found. IfSome found (λ _. writer.new.tokens ≡ writer.old.tokens)) }
 {
     match told {
         ToldText::Unknown { nonce } => Ok(Some(told_unknown(alloc, nonce))),
@@ -67,7 +76,9 @@ fn write_next(
     alloc: Global,
     writer: &mut Writer,
     reopening: &DocumentReopening,
-) -> Result<(), AllocError> {
+) -> Result<(), AllocError>
+    ensures { OnOk result (TellsAwaited reopening.now writer.old.tokens writer.new.tokens) }
+{
     let parties = reopening.waits_for(alloc)?;
     if parties.is_empty() {
         write_proposal(writer, alloc, reopening)
@@ -86,8 +97,9 @@ fn take_told(
     base: u64,
     told: ToldText<'_, '_>,
 ) -> Result<bool, AllocError>
-    ensures taken { IfOk result (λ changed. changed ≡ true → TakesTold reopening.old reopening.new) }
+    ensures taken { IfOk result (λ changed. changed ≡ true → TakesToldBy (Server server) base told.entry reopening.old reopening.new) }
     ensures unchanged { IfOk result (λ changed. changed ≡ false → reopening.new ≡ reopening.old) }
+    ensures told { IfOk result (λ changed. changed ≡ true → TellsAwaited reopening.new writer.old.tokens writer.new.tokens) }
 {
     let Some(told) = read_told(alloc, writer, reopening, told)? else {
         return Ok(false);
@@ -115,8 +127,9 @@ fn take_first(
     base: u64,
     told: ToldText<'_, '_>,
 ) -> Result<bool, AllocError>
-    ensures taken { IfOk result (λ changed. changed ≡ true → TakesTold reopening.old reopening.new) }
+    ensures taken { IfOk result (λ changed. changed ≡ true → TakesToldBy (Server server) base told.entry reopening.old reopening.new) }
     ensures unchanged { IfOk result (λ changed. changed ≡ false → reopening.new ≡ reopening.old) }
+    ensures told { IfOk result (λ changed. changed ≡ true → TellsAwaited reopening.new writer.old.tokens writer.new.tokens) }
 {
     if !reopening.is_first(&Party::Server(server), base) {
         return ignore(writer);
@@ -131,8 +144,9 @@ fn take_map(
     writer: &mut Writer,
     base: u64,
 ) -> Result<bool, AllocError>
-    ensures taken { IfOk result (λ changed. changed ≡ true → TakesTold reopening.old reopening.new) }
+    ensures taken { IfOk result (λ changed. changed ≡ true → TakesToldOf MapOwner base Entries reopening.old reopening.new) }
     ensures unchanged { IfOk result (λ changed. changed ≡ false → reopening.new ≡ reopening.old) }
+    ensures told { IfOk result (λ changed. changed ≡ true → TellsAwaited reopening.new writer.old.tokens writer.new.tokens) }
 {
     match reopening.map_fenced(base) {
         FencedEffect::Old => ignore(writer),
@@ -152,8 +166,9 @@ fn take_of(
     base: u64,
     told: ToldText<'_, '_>,
 ) -> Result<bool, AllocError>
-    ensures taken { IfOk result (λ changed. changed ≡ true → TakesTold reopening.old reopening.new) }
+    ensures taken { IfOk result (λ changed. changed ≡ true → TakesToldBy (net_party party.now) base told.entry reopening.old reopening.new) }
     ensures unchanged { IfOk result (λ changed. changed ≡ false → reopening.new ≡ reopening.old) }
+    ensures told { IfOk result (λ changed. changed ≡ true → TellsAwaited reopening.new writer.old.tokens writer.new.tokens) }
 {
     match party {
         Party::MapOwner => take_map(reopening, alloc, writer, base),
@@ -170,8 +185,9 @@ pub fn take_fenced(
     base: u64,
     told: ToldText<'_, '_>,
 ) -> Result<bool, AllocError>
-    ensures taken { IfOk result (λ changed. changed ≡ true → TakesTold reopening.old reopening.new) }
+    ensures taken { IfOk result (λ changed. changed ≡ true → TakesFenced server.entry base told.entry reopening.old reopening.new) }
     ensures unchanged { IfOk result (λ changed. changed ≡ false → reopening.new ≡ reopening.old) }
+    ensures told { IfOk result (λ changed. changed ≡ true → TellsAwaited reopening.new writer.old.tokens writer.new.tokens) }
 {
     match party_named(reopening, server) {
         Some(party) => take_of(reopening, alloc, writer, &party, base, told),
@@ -205,6 +221,7 @@ fn confirm(
 ) -> Result<bool, AllocError>
     ensures taken { IfOk result (λ changed. changed ≡ true → TakesConfirm reopening.old reopening.new) }
     ensures unchanged { IfOk result (λ changed. changed ≡ false → reopening.new ≡ reopening.old) }
+    ensures told { IfOk result (λ changed. changed ≡ true → writer.new.tokens ≡ writer.old.tokens ++ settles_member journal.now reopening.new) }
 {
     let chosen = choices_of(alloc, shards)?;
     match reopening.confirm(alloc, chosen.as_slice()) {
@@ -228,8 +245,9 @@ pub fn take_confirm(
     base: u64,
     cells: &[Tree<'_>],
 ) -> Result<bool, AllocError>
-    ensures taken { IfOk result (λ changed. changed ≡ true → TakesConfirm reopening.old reopening.new) }
+    ensures taken { IfOk result (λ changed. changed ≡ true → ConfirmsAt base reopening.old reopening.new) }
     ensures unchanged { IfOk result (λ changed. changed ≡ false → reopening.new ≡ reopening.old) }
+    ensures told { IfOk result (λ changed. changed ≡ true → writer.new.tokens ≡ writer.old.tokens ++ settles_member journal.now reopening.new) }
 {
     if base != reopening.base() || reopening.is_confirmed() {
         return ignore(writer);
@@ -245,7 +263,7 @@ pub fn take_confirm(
 
 /// Takes the answer to a settle from a server of this name, or from the map's owner.
 fn settle_named(reopening: &mut DocumentReopening, server: Option<&str>, base: u64) -> SettledEffect
-    ensures taken { (result ≡ SettledEffect.Old) ⊎ TakesSettled reopening.old reopening.new }
+    ensures taken { (result ≡ SettledEffect.Old) ⊎ TakesSettledBy server.entry base reopening.old reopening.new }
     ensures confirmed { result ≡ SettledEffect.Complete → is_some (net_reopening reopening.new.ongoing).settlement ≡ true }
     ensures complete { result ≡ SettledEffect.Complete → AllTook (net_reopening reopening.new.ongoing) }
     ensures unchanged { result ≡ SettledEffect.Old → reopening.new ≡ reopening.old }
@@ -263,7 +281,9 @@ fn write_settled(
     reopening: &DocumentReopening,
     effect: SettledEffect,
 ) -> Result<(), AllocError>
-    ensures { OnOk result (effect ≡ SettledEffect.Complete → writer.new.tokens ≡ writer.old.tokens) }
+    ensures quiet { OnOk result (effect ≡ SettledEffect.Complete → writer.new.tokens ≡ writer.old.tokens) }
+    ensures waiting { OnOk result (effect ≡ SettledEffect.Waiting → writer.new.tokens
+        ≡ writer.old.tokens ++ waiting_member reopening.now.numbering (unsettled_parties (net_reopening reopening.now.ongoing))) }
 {
     match effect {
         SettledEffect::Old => write_text(writer, "ignored", "old"),
@@ -283,11 +303,13 @@ pub fn take_settled(
     server: Option<&str>,
     base: u64,
 ) -> Result<SettledEffect, AllocError>
-    ensures taken { IfOk result (λ effect. (effect ≡ SettledEffect.Old) ⊎ TakesSettled reopening.old reopening.new) }
+    ensures taken { IfOk result (λ effect. (effect ≡ SettledEffect.Old) ⊎ TakesSettledBy server.entry base reopening.old reopening.new) }
     ensures confirmed { IfOk result (λ effect. effect ≡ SettledEffect.Complete → is_some (net_reopening reopening.new.ongoing).settlement ≡ true) }
     ensures complete { IfOk result (λ effect. effect ≡ SettledEffect.Complete → AllTook (net_reopening reopening.new.ongoing)) }
     ensures unchanged { IfOk result (λ effect. effect ≡ SettledEffect.Old → reopening.new ≡ reopening.old) }
     ensures quiet { IfOk result (λ effect. effect ≡ SettledEffect.Complete → writer.new.tokens ≡ writer.old.tokens) }
+    ensures waiting { IfOk result (λ effect. effect ≡ SettledEffect.Waiting → writer.new.tokens
+        ≡ writer.old.tokens ++ waiting_member reopening.new.numbering (unsettled_parties (net_reopening reopening.new.ongoing))) }
 {
     let effect = settle_named(reopening, server, base);
     write_settled(alloc, writer, reopening, effect)?;

@@ -1,6 +1,8 @@
 //! A server's account of its slots, as a reopening takes it.
 ghost use Rattle.std.specs.Prelude.{◌≡◌, ℕ, IfOk, Some, length, true};
-ghost use Rattle.sm_reopening.specs.States.{fits_told};
+ghost use Rattle.sm_network.specs.Reopening.{Unknown};
+ghost use Rattle.sm_reopening.specs.States.{fits_told, net_inventory};
+ghost use Rattle.sm_reopening_lines.specs.Taken.{ListsSlots};
 
 use sm_commands::{CellKind, PartyText, SlotText};
 use sm_placement::Config;
@@ -82,7 +84,8 @@ pub(crate) fn told_by_slots(
     numbering: &Config,
     slots: &[SlotText<'_>],
 ) -> Result<Told, AllocError>
-    ensures { IfOk result (λ told. fits_told (length numbering.now.shards) (Some told.inventory) ≡ true) }
+    ensures fits { IfOk result (λ told. fits_told (length numbering.now.shards) (Some told.inventory) ≡ true) }
+    ensures slots { IfOk result (λ told. ListsSlots (net_inventory told.inventory)) }
 {
     let mut found = no_slots(alloc, numbering)?;
     let mut strays = Vec::new(alloc);
@@ -101,7 +104,8 @@ pub(crate) fn told_by_slots(
 
 /// Returns what a server tells that has lost its slots.
 pub(crate) fn told_unknown(alloc: Global, nonce: u64) -> Told
-    ensures { (shards : ℕ) → fits_told shards (Some result.inventory) ≡ true }
+    ensures fits { (shards : ℕ) → fits_told shards (Some result.inventory) ≡ true }
+    ensures nonce { net_inventory result.inventory ≡ Unknown nonce }
 {
     Told {
         inventory: Inventory::Unknown { nonce },

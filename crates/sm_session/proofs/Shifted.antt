@@ -1,11 +1,14 @@
 -- What is told with nothing before it is told behind anything.
-use Rattle.std.proofs.Common.{◌≡◌, ◌++◌, [], Bool, ℕ, List, Option, Some, None, ap, bytes_eq, false, string_bytes, true}
+use Rattle.std.proofs.Common.{◌≡◌, ◌++◌, ◌∷◌, [], Bool, ℕ, List, Option, Some, None, ap, bytes_eq, false, string_bytes, true}
 use Rattle.std.specs.Prelude.{IfSome, is_some}
 use Rattle.json.specs.Token.{Token}
-use Rattle.sm_placement.specs.Setup.{server_named}
+use Rattle.sm_placement.specs.Setup.{Setup, server_named}
 use Rattle.sm_names.specs.Names.{value_of}
 use Rattle.sm_driver.specs.Driver.{DriverModel}
 use Rattle.sm_driver.specs.Restores.{was_told}
+use Rattle.sm_reopening.specs.declared.party.Party.{Party}
+use Rattle.sm_document_reopening.specs.Proposal.{parties_waited_for}
+use Rattle.sm_document_reopening.specs.Reopening.{ReopeningModel}
 use Rattle.sm_commands.specs.declared.command.LineCommand.{LineCommand}
 use Rattle.sm_commands.specs.declared.command.LineCommand.TheVariants as line
 use Rattle.sm_open_journal.specs.declared.given_permits.GivenAt.{GivenAt}
@@ -13,10 +16,11 @@ use Rattle.sm_open_journal.specs.declared.given_permits.GivenPermit.{GivenPermit
 use Rattle.sm_open_journal.specs.declared.opened.Opened.{Opened}
 use Rattle.sm_open_journal.specs.Given.{given_at}
 use Rattle.sm_open_journal.specs.Restores.{TellsKept}
+use Rattle.sm_reopening_lines.specs.Parties.{TellsWaiting}
 use Rattle.sm_session.specs.declared.reopening.UnderWay.{UnderWay}
 use Rattle.sm_session.specs.declared.session.Session.{Session}
 use Rattle.sm_session.specs.Answers.{Answers, AnswersAgain, TellsGiven, TellsGivenAt}
-use Rattle.sm_session.specs.Replies.{Approved, Begun, Drives, Follows, Moved, Next, Opens, Reopens, Restored, SessionTells, TellsChange, TellsChanges, TellsDriven, TellsFences, TellsOpened, Up}
+use Rattle.sm_session.specs.Replies.{Approved, Begun, Confirmed, Drives, Fenced, Follows, Moved, Next, Opens, Reopens, Restored, SessionTells, Settled, TellsChange, TellsChanges, TellsDriven, TellsFences, TellsGoneOn, TellsOn, TellsOpened, Up}
 
 -- of nothing that is there, nothing is told
 told_of : {A : Type 0} (found : Option A) (P Q : A → Type 0) → ((x : A) → P x → Q x) → IfSome found P → IfSome found Q
@@ -51,11 +55,25 @@ module _ (front after : List Token) where
   fences (Some u) told = behind told
   fences None told = told
 
+  waiting : (numbering : Setup) (parties : List Party) → TellsWaiting numbering parties [] after → TellsWaiting numbering parties front (front ++ after)
+  waiting numbering [] told = told
+  waiting numbering (p ∷ ps) told = behind told
+
+  on : (old new : ReopeningModel) → TellsOn old new [] after → TellsOn old new front (front ++ after)
+  on old new (Fenced taken told) = Fenced taken (waiting new.numbering (parties_waited_for new) told)
+  on old new (Confirmed taken told) = Confirmed taken (behind told)
+  on old new (Settled taken told) = Settled taken (behind told)
+
+  gone_on : (under after_it : Option UnderWay) → TellsGoneOn under after_it [] after → TellsGoneOn under after_it front (front ++ after)
+  gone_on (Some old) (Some new) told = on old.reopening new.reopening told
+  gone_on (Some old) None told = told
+  gone_on None after_it told = told
+
   changes : (opened : Option Opened) (under : Option UnderWay) (new : Option Opened) (after_it : Option UnderWay) →
       TellsChanges opened under new after_it [] after → TellsChanges opened under new after_it front (front ++ after)
   changes opened under new after_it (Drives was is told) = Drives was is (driven opened new told)
   changes opened under new after_it (Reopens did told) = Reopens did (fences after_it told)
-  changes opened under new after_it (Follows did) = Follows did
+  changes opened under new after_it (Follows told) = Follows (gone_on under after_it told)
   changes opened under new after_it (Opens did told) = Opens did (opening new told)
 
   -- so it is with what has changed

@@ -1,15 +1,19 @@
 -- The effect of a line on a session, as its command asks for it.
-use Rattle.std.specs.Prelude.{◌≡◌, ◌⊎◌, ℕ, Bool, true, false, List, [], Option, Some, None, Ok, length, option_map, replicate}
+use Rattle.std.specs.Prelude.{◌≡◌, ◌⊎◌, ℕ, Bool, true, false, List, [], ◌∷◌, Option, Some, None, Ok, length, option_map, replicate}
+use Rattle.std.specs.List.{flat_map}
+use Rattle.std.specs.Option.{option_map_or}
 use Rattle.std.specs.Borrow.{Bor}
 use Rattle.serde_json.specs.Data.{Data}
+use Rattle.serde_json.specs.Find.{as_str}
 use Rattle.json_tree.specs.View.{view}
+use Rattle.json_tree.specs.declared.tree.Tree.{Tree}
 use Rattle.sm_placement.specs.Opening.{opened_place}
 use Rattle.sm_placement.specs.Setup.{Setup, names_of_servers, names_of_shards, server_named, sizes_of}
 use Rattle.sm_reservation.specs.declared.stream_id.StreamId.{StreamId}
 use Rattle.sm_plan_code.specs.Plan.{PlanModel}
 use Rattle.sm_plan_text.specs.Documents.{DocumentModel}
 use Rattle.sm_plan_text.specs.Opened.{opening_of}
-use Rattle.sm_plan_text.specs.Reading.{data_of, read_data, read_plan_data}
+use Rattle.sm_plan_text.specs.Reading.{data_of, read_data, read_plan_data, rows_of}
 use Rattle.sm_protocol.specs.State.{opened}
 use Rattle.sm_driver.specs.Driver.{DriverModel, HasApproved, HasBegunPlan, HasRestored, HasTakenStep, base, is_due, record_of}
 use Rattle.sm_driver.specs.Permits.{opening_permits}
@@ -19,8 +23,8 @@ use Rattle.sm_commands.specs.declared.command.LineCommand.{LineCommand}
 use Rattle.sm_commands.specs.declared.command.LineCommand.TheVariants as line
 use Rattle.sm_open_journal.specs.declared.opened.Opened.{Opened}
 use Rattle.sm_document_reopening.specs.Reopening.{ReopeningModel}
-use Rattle.sm_reopening_lines.specs.Taken.{TakesConfirm, TakesSettled, TakesTold}
-use Rattle.sm_session.specs.Changes.{ComesInForce, EndsRestart, HasReopened, OpensNext}
+use Rattle.sm_reopening_lines.specs.Taken.{ConfirmsAt, TakesFenced, TakesSettledBy}
+use Rattle.sm_session.specs.Changes.{ComesInForceBy, EndsRestart, OpensNext, ReopensWithout}
 use Rattle.sm_session.specs.declared.reopening.UnderWay.{UnderWay}
 use Rattle.sm_session.specs.declared.session.Session.{Session}
 
@@ -88,14 +92,30 @@ abbrev pub StaysUnderWay : (ReopeningModel → ReopeningModel → Type 0) → Op
 StaysUnderWay P (Some old) (Some new) = P old.reopening new.reopening
 StaysUnderWay P old new = ⊥
 
+-- the texts among values
+abbrev pub texts_among : List Tree → List (List ℕ)
+texts_among values = flat_map (λ value. option_map_or (λ text. text ∷ []) (as_str (view value)) []) values
+
+-- the reopening under way is under the document that a value says
+abbrev pub IsUnderDocument : Data → Option UnderWay → Type 0
+IsUnderDocument value (Some u) = read_data (Some value) ≡ Ok (rows_of u.reopening.document)
+IsUnderDocument value None = ⊥
+
+-- a reopening over nothing opens this epoch of this journal
+abbrev pub OpensAsNamed : Option ℕ → Option ℕ → Option Opened → Option UnderWay → Option UnderWay → Type 0
+OpensAsNamed journal epoch None None (Some u) = (journal ≡ Some u.reopening.journal) × (epoch ≡ Some u.reopening.epoch)
+OpensAsNamed journal epoch opened under after = Unit {0}
+
 -- The effect of a command that changed something. A command of a reopening begins one. Otherwise the one under way takes an answer to a fence, a
 -- confirmation or an answer to a settle. With the last such answer it comes in force.
 abbrev pub Does : LineCommand → Option Opened → Option UnderWay → Option Opened → Option UnderWay → Type 0
 Does (line.Open document journal epoch) opened under new after = OpensOver (view document.now) journal epoch opened new
-Does (line.Reopen _ _ _ _) opened under new after = HasReopened opened under after
-Does (line.Fenced _ _ _) opened under new after = StaysUnderWay TakesTold under after
-Does (line.Confirm _ _) opened under new after = StaysUnderWay TakesConfirm under after
-Does (line.Settled _ _) opened under new after = StaysUnderWay TakesSettled under after ⊎ ComesInForce under after new
+Does (line.Reopen document lost journal epoch) opened under new after =
+    ReopensWithout (texts_among lost.now) opened under after × IsUnderDocument (view document.now) after × OpensAsNamed journal epoch opened under after
+Does (line.Fenced server base told) opened under new after = StaysUnderWay (TakesFenced server base told) under after
+Does (line.Confirm base _) opened under new after = StaysUnderWay (ConfirmsAt base) under after
+Does (line.Settled server base) opened under new after =
+    StaysUnderWay (TakesSettledBy server base) under after ⊎ ComesInForceBy (TakesSettledBy server base) under after new
 Does command opened under new after = StaysOpen (DoesToDriver command) opened new
 
 -- the effect of a command on a session

@@ -74,9 +74,9 @@ HasDriven old None = ⊥
 abbrev pub reopening_under_way : Option UnderWay → Option ReopeningModel
 reopening_under_way = option_map (λ (u : UnderWay). u.reopening)
 
--- a reopening has begun under a document, over what had numbers
-abbrev pub IsBegunOver : Reopening → Setup → ReopeningModel → Type 0
-IsBegunOver before numbered r = (lost : List (List ℕ)) × BeginsUnder before numbered r.document.config r.numbering lost r.epoch r.ongoing
+-- a reopening has begun under a document, over what had numbers, without the servers that are lost
+abbrev pub IsBegunOver : Reopening → Setup → List (List ℕ) → ReopeningModel → Type 0
+IsBegunOver before numbered lost r = BeginsUnder before numbered r.document.config r.numbering lost r.epoch r.ongoing
 
 -- it is of this journal, in a later epoch than this one, over this recorded placement and with these permits of servers that are down
 pub record KeepsRecord (journal epoch : ℕ) (place : Place) (permits : List (Option ℕ)) (r : ReopeningModel) : Type 0 where
@@ -86,30 +86,34 @@ pub record KeepsRecord (journal epoch : ℕ) (place : Place) (permits : List (Op
   pub same_permits : r.permits ≡ permits
 
 -- a reopening has begun over what a driver has recorded
-pub record BeginsOver (d : DriverModel) (new : ReopeningModel) : Type 0 where
-  pub under : IsBegunOver (no_reopening (length d.machine.placement.setup.servers)) d.machine.placement.setup new
+pub record BeginsOver (lost : List (List ℕ)) (d : DriverModel) (new : ReopeningModel) : Type 0 where
+  pub under : IsBegunOver (no_reopening (length d.machine.placement.setup.servers)) d.machine.placement.setup lost new
   pub record_is : KeepsRecord d.journal d.epoch (record_of d).place d.permits new
 
 -- a reopening has begun in place of another
-pub record Replaces (before new : ReopeningModel) : Type 0 where
-  pub under : IsBegunOver (net_reopening before.ongoing) before.numbering new
+pub record Replaces (lost : List (List ℕ)) (before new : ReopeningModel) : Type 0 where
+  pub under : IsBegunOver (net_reopening before.ongoing) before.numbering lost new
   pub record_is : KeepsRecord before.journal before.epoch (recorded_place before.ongoing) before.permits new
 
 -- a reopening has begun over nothing that is recorded
-pub record BeginsAnew (new : ReopeningModel) : Type 0 where
-  pub under : IsBegunOver (no_reopening 0) (setup_of [] []) new
+pub record BeginsAnew (lost : List (List ℕ)) (new : ReopeningModel) : Type 0 where
+  pub under : IsBegunOver (no_reopening 0) (setup_of [] []) lost new
   pub permits : new.permits ≡ []
 
--- a reopening has begun: in place of the one under way, over what the driver has recorded, or over nothing
-abbrev pub BeginsReopening : Option DriverModel → Option ReopeningModel → Option ReopeningModel → Type 0
-BeginsReopening driver (Some before) (Some new) = Replaces before new
-BeginsReopening (Some d) None (Some new) = BeginsOver d new
-BeginsReopening None None (Some new) = BeginsAnew new
-BeginsReopening driver before None = ⊥
+-- a reopening has begun without these servers: in place of the one under way, over what the driver has recorded, or over nothing
+abbrev pub BeginsReopening : List (List ℕ) → Option DriverModel → Option ReopeningModel → Option ReopeningModel → Type 0
+BeginsReopening lost driver (Some before) (Some new) = Replaces lost before new
+BeginsReopening lost (Some d) None (Some new) = BeginsOver lost d new
+BeginsReopening lost None None (Some new) = BeginsAnew lost new
+BeginsReopening lost driver before None = ⊥
+
+-- a line has begun a reopening without these servers
+abbrev pub ReopensWithout : List (List ℕ) → Option Opened → Option UnderWay → Option UnderWay → Type 0
+ReopensWithout lost opened old new = BeginsReopening lost (driver_of opened) (reopening_under_way old) (reopening_under_way new)
 
 -- a line has begun a reopening
 abbrev pub HasReopened : Option Opened → Option UnderWay → Option UnderWay → Type 0
-HasReopened opened old new = BeginsReopening (driver_of opened) (reopening_under_way old) (reopening_under_way new)
+HasReopened opened old new = (lost : List (List ℕ)) × ReopensWithout lost opened old new
 
 -- the reopening under way has taken an answer, or was confirmed
 abbrev pub ReopeningGoesOn : Option ReopeningModel → Option ReopeningModel → Type 0
@@ -125,15 +129,19 @@ abbrev pub OpensOf : ReopeningModel → Option Opened → Type 0
 OpensOf r (Some o) = (s : Settlement) → (net_reopening r.ongoing).settlement ≡ Some s → IsInForce r s o.driver
 OpensOf r None = ⊥
 
--- a party of the reopening under way has taken its settle
-abbrev pub SettlesTo : Option ReopeningModel → ReopeningModel → Type 0
-SettlesTo (Some r) last = TakesSettled r last
-SettlesTo None last = ⊥
+-- this became of the reopening under way
+abbrev pub BecomesLast : (ReopeningModel → ReopeningModel → Type 0) → Option ReopeningModel → ReopeningModel → Type 0
+BecomesLast P (Some r) last = P r last
+BecomesLast P None last = ⊥
 
 -- the last party has taken its settle, so all have, and the settlement is in force
+abbrev pub ComesInForceBy : (ReopeningModel → ReopeningModel → Type 0) → Option UnderWay → Option UnderWay → Option Opened → Type 0
+ComesInForceBy P under after new =
+    (last : ReopeningModel) × BecomesLast P (reopening_under_way under) last × AllTook (net_reopening last.ongoing) × (after ≡ None) × OpensOf last new
+
+-- the same, whichever party it is
 abbrev pub ComesInForce : Option UnderWay → Option UnderWay → Option Opened → Type 0
-ComesInForce under after new =
-    (last : ReopeningModel) × SettlesTo (reopening_under_way under) last × AllTook (net_reopening last.ongoing) × (after ≡ None) × OpensOf last new
+ComesInForce = ComesInForceBy TakesSettled
 
 -- The effect of a command that changed something on the open journal, and on the reopening under way. While one is under way the driver stays as
 -- it is.

@@ -16,9 +16,14 @@ use Rattle.sm_open_journal.specs.Bits.{hexadecimal}
 use Rattle.sm_open_journal.specs.Permits.{opened_member, permit_member}
 use Rattle.sm_open_journal.specs.Replies.{sinces_of, taken_members}
 use Rattle.sm_open_journal.specs.Restores.{TellsKept}
-use Rattle.sm_reopening_lines.specs.Parties.{fences_member}
+use Rattle.sm_reopening.specs.Ongoing.{net_reopening}
+use Rattle.sm_document_reopening.specs.Reopening.{ReopeningModel}
+use Rattle.sm_document_reopening.specs.Waiting.{unsettled_parties}
+use Rattle.sm_reopening_lines.specs.Parties.{TellsAwaited, fences_member, waiting_member}
+use Rattle.sm_reopening_lines.specs.Settles.{settles_member}
+use Rattle.sm_reopening_lines.specs.Taken.{TakesConfirm, TakesSettled, TakesTold}
 use Rattle.sm_session.specs.Answers.{AnswersLine}
-use Rattle.sm_session.specs.Changes.{ComesInForce, HasGoneOn, HasReopened, OpensNext}
+use Rattle.sm_session.specs.Changes.{ComesInForce, HasReopened, OpensNext}
 use Rattle.sm_session.specs.declared.reopening.UnderWay.{UnderWay}
 use Rattle.sm_session.specs.declared.session.LineEffect.{LineEffect}
 use Rattle.sm_session.specs.declared.session.LineEffect.TheVariants.{Changed}
@@ -81,11 +86,23 @@ abbrev pub TellsFences : Option UnderWay → List Token → List Token → Type 
 TellsFences (Some u) before after = after ≡ before ++ fences_member (hexadecimal u.reopening.journal) u.reopening
 TellsFences None before after = ⊥
 
--- The reply to a line that changed something. Of an answer to a fence, of a confirmation and of any but the last settle no text is said.
+-- The reply to a line on a reopening. An answer to a fence tells who has to answer, a confirmation the settles, and an answer to a settle who has not
+-- taken its own. Of what is proposed once nobody has to answer no text is said.
+pub data TellsOn (old new : ReopeningModel) (before after : List Token) : Type 0 where
+  Fenced : TakesTold old new → TellsAwaited new before after → TellsOn old new before after
+  Confirmed : TakesConfirm old new → after ≡ before ++ settles_member (hexadecimal new.journal) new → TellsOn old new before after
+  Settled : TakesSettled old new → after ≡ before ++ waiting_member new.numbering (unsettled_parties (net_reopening new.ongoing)) → TellsOn old new before after
+
+-- the reopening under way has gone on, and that is told
+abbrev pub TellsGoneOn : Option UnderWay → Option UnderWay → List Token → List Token → Type 0
+TellsGoneOn (Some old) (Some new) before after = TellsOn old.reopening new.reopening before after
+TellsGoneOn old new before after = ⊥
+
+-- The reply to a line that changed something.
 pub data TellsChanges (opened : Option Opened) (under : Option UnderWay) (new : Option Opened) (after_it : Option UnderWay) (before after : List Token) : Type 0 where
   Drives : under ≡ None → after_it ≡ None → TellsDriven opened new before after → TellsChanges opened under new after_it before after
   Reopens : HasReopened opened under after_it → TellsFences after_it before after → TellsChanges opened under new after_it before after
-  Follows : HasGoneOn under after_it → TellsChanges opened under new after_it before after
+  Follows : TellsGoneOn under after_it before after → TellsChanges opened under new after_it before after
   Opens : ComesInForce under after_it new → TellsOpened new before after → TellsChanges opened under new after_it before after
 
 -- what a line that changed something made of a session, and told of it

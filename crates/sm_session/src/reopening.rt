@@ -1,12 +1,14 @@
 //! Reopenings.
-ghost use Rattle.std.specs.Prelude.{◌≡◌, ◌<◌, ◌⊎◌, IfOk, IfSome, OnOk, Some, None, false, is_some, option_map, string_bytes, true};
+ghost use Rattle.std.specs.Prelude.{◌≡◌, ◌<◌, ◌⊎◌, ◌++◌, IfOk, IfSome, Ok, OnOk, Some, None, false, is_some, map, option_map, string_bytes, true};
 ghost use Rattle.std.specs.Option.{ForSome};
+ghost use Rattle.json_tree.specs.View.{view};
+ghost use Rattle.sm_plan_text.specs.Reading.{read_data, rows_of};
 ghost use Rattle.sm_reopening.specs.Ongoing.{net_reopening};
 ghost use Rattle.sm_open_journal.specs.Bits.{hexadecimal};
-ghost use Rattle.sm_reopening_lines.specs.Taken.{TakesConfirm, TakesSettled, TakesTold};
-ghost use Rattle.sm_session.specs.Asked.{StaysUnderWay};
-ghost use Rattle.sm_session.specs.Changes.{BeginsReopening, ComesInForce, HasGoneOn, HasReopened, OpensOf, driver_of, reopening_under_way};
-ghost use Rattle.sm_session.specs.Replies.{TellsFences, TellsOpened};
+ghost use Rattle.sm_reopening_lines.specs.Taken.{ConfirmsAt, TakesFenced, TakesSettledBy};
+ghost use Rattle.sm_session.specs.Asked.{IsUnderDocument, OpensAsNamed, StaysUnderWay, texts_among};
+ghost use Rattle.sm_session.specs.Changes.{BeginsReopening, ComesInForce, ComesInForceBy, HasGoneOn, HasReopened, OpensOf, ReopensWithout, driver_of, reopening_under_way};
+ghost use Rattle.sm_session.specs.Replies.{TellsFences, TellsGoneOn, TellsOpened};
 
 use crate::answering::write_ignored;
 use crate::opening::read_document;
@@ -69,6 +71,7 @@ fn last_epoch(opened: &Option<Opened>, under_way: &Option<UnderWay>) -> Option<N
     ensures some { IfSome under_way.now (λ u. is_some result ≡ true) }
     ensures recorded { under_way.now ≡ None → IfSome opened.now (λ o. IfSome result (λ last. last.epoch ≡ o.driver.epoch)) }
     ensures opened { under_way.now ≡ None → IfSome opened.now (λ o. is_some result ≡ true) }
+    ensures nothing { under_way.now ≡ None → opened.now ≡ None → result ≡ None }
 {
     match (under_way, opened) {
         (Some(current), _) => Some(NextEpoch {
@@ -92,6 +95,7 @@ fn next_epoch(
     epoch: Option<u32>,
 ) -> Result<Option<NextEpoch>, AllocError>
     ensures later { IfOk result (λ found. IfSome found (λ next. ForSome last (λ l. l.epoch < next.epoch))) }
+    ensures named { last ≡ None → IfOk result (λ found. IfSome found (λ next. (journal ≡ Some next.journal) × (epoch ≡ Some next.epoch))) }
     ensures quiet { IfOk result (λ found. IfSome found (λ next. writer.new.tokens ≡ writer.old.tokens)) }
 {
     match (last, journal, epoch) {
@@ -112,7 +116,9 @@ fn next_epoch(
 }
 
 /// Returns the names of a list.
-fn names_in<'a>(alloc: Global, entries: &[Tree<'a>]) -> Result<Vec<&'a str>, AllocError> {
+fn names_in<'a>(alloc: Global, entries: &[Tree<'a>]) -> Result<Vec<&'a str>, AllocError>
+    ensures { IfOk result (λ names. map (λ name. name.now) names.items ≡ texts_among entries.now) }
+{
     let mut names = Vec::new(alloc);
     for entry in entries {
         if let Some(name) = entry.as_str() {
@@ -131,7 +137,9 @@ fn begun_over(
     next: NextEpoch,
 ) -> Result<DocumentReopening, (Document, ReopenFault)>
     requires { IfSome opened.now (λ o. o.driver.epoch < next.epoch) }
-    ensures { IfOk result (λ r. BeginsReopening (driver_of opened.now) None (Some r)) }
+    ensures begun { IfOk result (λ r. BeginsReopening (map (λ name. name.now) lost.now) (driver_of opened.now) None (Some r)) }
+    ensures under { IfOk result (λ r. r.document ≡ document) }
+    ensures named { opened.now ≡ None → IfOk result (λ r. (r.journal ≡ next.journal) × (r.epoch ≡ next.epoch)) }
 {
     match opened {
         Some(opened) => {
@@ -153,7 +161,10 @@ fn begun_under(
 ) -> Result<DocumentReopening, (Document, ReopenFault)>
     requires replaced { IfSome under_way.now (λ u. u.reopening.epoch < next.epoch) }
     requires recorded { under_way.now ≡ None → IfSome opened.now (λ o. o.driver.epoch < next.epoch) }
-    ensures { IfOk result (λ r. BeginsReopening (driver_of opened.now) (reopening_under_way under_way.now) (Some r)) }
+    ensures begun { IfOk result (λ r.
+        BeginsReopening (map (λ name. name.now) lost.now) (driver_of opened.now) (reopening_under_way under_way.now) (Some r)) }
+    ensures under { IfOk result (λ r. r.document ≡ document) }
+    ensures named { under_way.now ≡ None → opened.now ≡ None → IfOk result (λ r. (r.journal ≡ next.journal) × (r.epoch ≡ next.epoch)) }
 {
     match under_way {
         Some(current) => current.reopening.replace(alloc, document, lost, next.epoch),
@@ -173,7 +184,10 @@ fn begin_under(
 ) -> Result<bool, AllocError>
     requires replaced { IfSome under_way.old (λ u. u.reopening.epoch < next.epoch) }
     requires recorded { under_way.old ≡ None → IfSome opened.now (λ o. o.driver.epoch < next.epoch) }
-    ensures begun { IfOk result (λ begun. begun ≡ true → HasReopened opened.now under_way.old under_way.new) }
+    ensures begun { IfOk result (λ begun. begun ≡ true → ReopensWithout (map (λ name. name.now) lost.now) opened.now under_way.old under_way.new) }
+    ensures under { IfOk result (λ begun. begun ≡ true → IfSome under_way.new (λ u. u.reopening.document ≡ document)) }
+    ensures named { under_way.old ≡ None → opened.now ≡ None → IfOk result (λ begun. begun ≡ true
+        → IfSome under_way.new (λ u. (u.reopening.journal ≡ next.journal) × (u.reopening.epoch ≡ next.epoch))) }
     ensures unchanged { IfOk result (λ begun. begun ≡ false → under_way.new ≡ under_way.old) }
     ensures told { IfOk result (λ begun. begun ≡ true → TellsFences under_way.new writer.old.tokens writer.new.tokens) }
 {
@@ -204,6 +218,9 @@ pub(crate) fn reopen(
     epoch: Option<u32>,
 ) -> Result<bool, AllocError>
     ensures begun { IfOk result (λ begun. begun ≡ true → HasReopened opened.now under_way.old under_way.new) }
+    ensures without { IfOk result (λ begun. begun ≡ true → ReopensWithout (texts_among lost.now) opened.now under_way.old under_way.new) }
+    ensures under { IfOk result (λ begun. begun ≡ true → IsUnderDocument (view document.now) under_way.new) }
+    ensures named { IfOk result (λ begun. begun ≡ true → OpensAsNamed journal epoch opened.now under_way.old under_way.new) }
     ensures unchanged { IfOk result (λ begun. begun ≡ false → under_way.new ≡ under_way.old) }
     ensures told { IfOk result (λ begun. begun ≡ true → TellsFences under_way.new writer.old.tokens writer.new.tokens) }
 {
@@ -236,8 +253,9 @@ pub(crate) fn fenced(
     told: ToldText<'_, '_>,
 ) -> Result<bool, AllocError>
     ensures taken { IfOk result (λ taken. taken ≡ true → HasGoneOn under_way.old under_way.new) }
-    ensures asked { IfOk result (λ taken. taken ≡ true → StaysUnderWay TakesTold under_way.old under_way.new) }
+    ensures asked { IfOk result (λ taken. taken ≡ true → StaysUnderWay (TakesFenced server.entry base told.entry) under_way.old under_way.new) }
     ensures unchanged { IfOk result (λ taken. taken ≡ false → under_way.new ≡ under_way.old) }
+    ensures told { IfOk result (λ taken. taken ≡ true → TellsGoneOn under_way.old under_way.new writer.old.tokens writer.new.tokens) }
 {
     match under_way {
         Some(current) => take_fenced(&mut current.reopening, alloc, writer, server, base, told),
@@ -257,8 +275,9 @@ pub(crate) fn confirm(
     cells: &[Tree<'_>],
 ) -> Result<bool, AllocError>
     ensures taken { IfOk result (λ taken. taken ≡ true → HasGoneOn under_way.old under_way.new) }
-    ensures asked { IfOk result (λ taken. taken ≡ true → StaysUnderWay TakesConfirm under_way.old under_way.new) }
+    ensures asked { IfOk result (λ taken. taken ≡ true → StaysUnderWay (ConfirmsAt base) under_way.old under_way.new) }
     ensures unchanged { IfOk result (λ taken. taken ≡ false → under_way.new ≡ under_way.old) }
+    ensures told { IfOk result (λ taken. taken ≡ true → TellsGoneOn under_way.old under_way.new writer.old.tokens writer.new.tokens) }
 {
     match under_way {
         Some(current) => {
@@ -318,8 +337,13 @@ pub(crate) fn settled(
     ensures unchanged { IfOk result (λ effect. effect ≡ SettledEffect.Old → under_way.new ≡ under_way.old) }
     ensures stays { IfOk result (λ effect. effect ≡ SettledEffect.Waiting → opened.new ≡ opened.old) }
     ensures waiting { IfOk result (λ effect. effect ≡ SettledEffect.Waiting → HasGoneOn under_way.old under_way.new) }
-    ensures asked { IfOk result (λ effect. effect ≡ SettledEffect.Waiting → StaysUnderWay TakesSettled under_way.old under_way.new) }
+    ensures asked { IfOk result (λ effect. effect ≡ SettledEffect.Waiting
+        → StaysUnderWay (TakesSettledBy server.entry base) under_way.old under_way.new) }
+    ensures waits { IfOk result (λ effect. effect ≡ SettledEffect.Waiting
+        → TellsGoneOn under_way.old under_way.new writer.old.tokens writer.new.tokens) }
     ensures complete { IfOk result (λ effect. effect ≡ SettledEffect.Complete → ComesInForce under_way.old under_way.new opened.new) }
+    ensures completes { IfOk result (λ effect. effect ≡ SettledEffect.Complete
+        → ComesInForceBy (TakesSettledBy server.entry base) under_way.old under_way.new opened.new) }
     ensures told { IfOk result (λ effect. effect ≡ SettledEffect.Complete → TellsOpened opened.new writer.old.tokens writer.new.tokens) }
 {
     let Some(mut current) = under_way.take() else {

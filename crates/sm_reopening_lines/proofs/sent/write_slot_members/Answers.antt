@@ -1,0 +1,10 @@
+use Rattle.sm_commands.proofs.Written.{next}
+use Rattle.sm_reopening_lines.proofs.sent.write_slot_members.Goals as goal
+
+pub returns : goal.returns
+returns c =
+    let o = c.args.writer.now.tokens in
+    let shard = rw c.shard_name.ensures at c.in_ok-write_text.ensures in
+    let cell = rw c.role_word.ensures at c.in_ok-write_text-2.ensures in
+    let load = rw c.load.ensures.load at c.in_ok-write_number.ensures in
+    next o _ _ (next o _ _ shard cell) load

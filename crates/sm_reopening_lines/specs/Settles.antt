@@ -1,0 +1,71 @@
+-- Settles in replies: what each party has from now on.
+use Rattle.std.specs.Prelude.{ℕ, List, [], ◌++◌, Option, codes, false, length, option_map}
+use Rattle.std.specs.Fmt.{digits}
+use Rattle.std.specs.List.{flat_map, range_with_len}
+use Rattle.std.specs.Option.{option_map_or}
+use Rattle.json.specs.Token.{Token}
+use Rattle.sm_server.specs.declared.call.Role.{Role}
+use Rattle.sm_server.specs.declared.call.Role.TheVariants as role
+use Rattle.sm_placement.specs.Place.{Place}
+use Rattle.sm_placement.specs.Setup.{Setup, sizes_of}
+use Rattle.sm_network.specs.Reopening.{Message, Settle}
+use Rattle.sm_reopening.specs.Ongoing.{net_reopening}
+use Rattle.sm_reopening.specs.Settles.{net_party, settle_sent}
+use Rattle.sm_reopening.specs.declared.party.Party.{Party}
+use Rattle.sm_reopening.specs.declared.party.Party.TheVariants.{MapOwner, Server}
+use Rattle.sm_document_reopening.specs.Proposal.{document_shards}
+use Rattle.sm_document_reopening.specs.Reopening.{ReopeningModel}
+use Rattle.sm_document_reopening.specs.Roles.{role_by_cell}
+use Rattle.sm_document_reopening.specs.Waiting.{unsettled_parties}
+use Rattle.sm_commands.specs.Members.{list_member, name_member, number_member, object, server_text, shard_text, text_member}
+use Rattle.sm_reopening_lines.specs.Parties.{addressed_members}
+
+-- the word for a role
+abbrev pub given_cell_text : Role → List ℕ
+given_cell_text role.Primary = codes "primary"
+given_cell_text role.Secondary = codes "secondary"
+
+-- a slot that a server has from now on: its shard, the cell, and the shard's load
+abbrev pub given_slot_members : Setup → ℕ → Role → List Token
+given_slot_members setup s given =
+    text_member (codes "shard") (shard_text setup s)
+    ++ text_member (codes "cell") (given_cell_text given)
+    ++ number_member (codes "load") ((sizes_of setup).load s)
+
+-- the same of a server and a shard, unless it has nothing of the shard
+abbrev pub given_slot_text : Setup → Place → ℕ → ℕ → List Token
+given_slot_text setup place v s = option_map_or (λ given. object (given_slot_members setup s given)) (role_by_cell (place.cells s v)) []
+
+-- the slots of a server, as a member
+abbrev pub given_slots_member : Setup → Place → ℕ → List Token
+given_slots_member setup place v = list_member (codes "slots") (flat_map (given_slot_text setup place v) (range_with_len 0 (length setup.shards)))
+
+-- an entry of the map: the shard, its server or none, and the version
+abbrev pub entry_members : Setup → Place → ℕ → ℕ → List Token
+entry_members setup place version s =
+    text_member (codes "shard") (shard_text setup s)
+    ++ name_member (codes "to") (option_map (server_text setup) (place.listed s))
+    ++ number_member (codes "version") version
+
+-- the entries of the document's shards, as a member
+abbrev pub entries_member : ReopeningModel → Setup → Place → List Token
+entries_member r setup place =
+    list_member (codes "entries") (flat_map (λ s. object (entry_members setup place (net_reopening r.ongoing).base s)) (document_shards r))
+
+-- what a settle brings: to the map's owner the entries, to a server its slots for the nonce under which it asked, if it did
+abbrev pub brought_members : ReopeningModel → Setup → Place → Party → Option ℕ → List Token
+brought_members r setup place MapOwner asked = entries_member r setup place
+brought_members r setup place (Server v) asked = name_member (codes "nonce") (option_map (digits 16 false) asked) ++ given_slots_member setup place v
+
+-- the network's settle to a party; no other message is told so
+abbrev pub settle_text : List ℕ → ReopeningModel → Party → Message → List Token
+settle_text journal r p (Settle _ _ asked s) = object (addressed_members journal r p ++ brought_members r s.setup s.place p asked)
+settle_text journal r p _ = []
+
+-- the settle that the controller sends to a party, if there is one
+abbrev pub settle_to : List ℕ → ReopeningModel → Party → List Token
+settle_to journal r p = flat_map (settle_text journal r p) (settle_sent (net_reopening r.ongoing) (net_party p))
+
+-- those to the parties that have not taken them, as a member
+abbrev pub settles_member : List ℕ → ReopeningModel → List Token
+settles_member journal r = list_member (codes "settle") (flat_map (settle_to journal r) (unsettled_parties (net_reopening r.ongoing)))
