@@ -10,7 +10,7 @@ def counted(count: int, noun: str, plural: Optional[str] = None) -> str:
 
 
 def down_in_words(count: int) -> str:
-    """Returns that so many servers are down."""
+    """Returns a text that says how many servers are down."""
     return f"{counted(count, 'server')} {'is' if count == 1 else 'are'} down"
 
 

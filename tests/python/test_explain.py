@@ -48,7 +48,7 @@ class Reasons(unittest.TestCase):
                 self.assertNotIn("The program's word counts", done.out)
 
     def test_members_of_which_one_is_too_much(self):
-        """They are told of without a command, too, if a command reads both."""
+        """`explain` tells of them without a command, too, if a command reads both."""
         document = load(example("drain-berlin-1"))
         with_both = {"drain": document | {"moves": []}, "plans": load(example("play-two-plans")) | {"plan": load(example("plan-handover"))["plan"]}}
         for member, both in with_both.items():

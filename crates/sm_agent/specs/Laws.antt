@@ -37,7 +37,7 @@ abbrev pub OldHasNoEffect : Type 0
 OldHasNoEffect = (base : Base) (slot : Slot) (order : Order) (at : ℕ) →
     ((order.stamp.number ≤ slot.last) ⊎ (order.stamp.number ≤ base.number)) → committed base slot order at ≡ None
 
--- An order that is committed is answered again until the next one is, and has no effect again.
+-- A server answers a committed order again until it commits the next one. The order has no effect again.
 abbrev pub CommitsOnce : Type 0
 CommitsOnce = (base : Base) (slot : Slot) (order : Order) (at : ℕ) (next : Slot) →
     committed base slot order at ≡ Some next →

@@ -18,7 +18,7 @@ pub fn old_has_no_effect()
     ensures { OldHasNoEffect }
 {}
 
-/// States that a committed order is answered again until the next one is, and has no effect again.
+/// States that a server answers a committed order again until it commits the next one, and that the order has no effect again.
 pub fn commits_once()
     ensures { CommitsOnce }
 {}

@@ -1,4 +1,4 @@
--- What declines a command does so wherever the writing began.
+-- A reply declines a command, whatever was written before the reply.
 use Rattle.std.proofs.Common.{◌≡◌, ◌∙◌, ◌++◌, ◌∷◌, [], Bool, false, ℕ, List, Option, Some, Result, Ok, Err, IfOk, ap, inl, inr, refl, subst, sym}
 use Rattle.std.specs.Prelude.{IfSome}
 use Rattle.json.specs.Token.{Token}

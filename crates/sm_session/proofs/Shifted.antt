@@ -1,4 +1,4 @@
--- What is told with nothing before it is told behind anything.
+-- A reply tells behind any text what it tells at the start of one.
 use Rattle.std.proofs.Common.{◌≡◌, ◌++◌, ◌∷◌, [], Bool, ℕ, List, Option, Some, None, ap, bytes_eq, false, string_bytes, true}
 use Rattle.std.specs.Prelude.{IfSome, is_some}
 use Rattle.json.specs.Token.{Token}

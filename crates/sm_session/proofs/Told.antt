@@ -55,7 +55,7 @@ told_behind (Ok x) value id old new before mid after same e told =
     λ is. subst (λ (ts : List Token). SessionTells old new ts after) (e ∙ ap (λ (ts : List Token). before ++ ts) same) (told is)
 told_behind (Err x) value id old new before mid after same e told = tt
 
--- a known command is answered behind it
+-- a reply answers a known command behind the line's id
 pub answered_behind : {A E : Type 0} (r : Result A E) (value : Data) (command : LineCommand) (id : Option Id) (s : Session)
     (before mid after : List Token) → id_members id ≡ line_id value → mid ≡ before ++ id_members id → Says value command → IsKnownOver (setup_in_force s) command →
     OnOk r (Answers command s mid after) → OnOk r (AnswersObject value s (before ++ line_id value) after)

@@ -98,7 +98,8 @@ pub data AnswersObject (value : Data) (s : Session) (before after : List Token) 
   IsCommand : (command : LineCommand) → Says value command → IsKnownOver (setup_in_force s) command → Answers command s before after
       → AnswersObject value s before after
 
--- A line that is too long, that is no JSON on one line, or whose value is no object is told as bad. Any other is answered behind its id.
+-- The reply tells that a line is bad if it is too long, is no JSON on one line, or has a value that is no object. Otherwise it answers the line
+-- behind its id.
 pub data AnswersLine (text : List ℕ) (s : Session) (before after : List Token) : Type 0 where
   TooLong : MOST_BYTES < length text → after ≡ before ++ told_bad bad.TooLong → AnswersLine text s before after
   NotJson : (data_of text ≡ None) ⊎ (IsObject text → ⊥) → after ≡ before ++ told_bad bad.NotJson → AnswersLine text s before after
