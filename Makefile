@@ -2,7 +2,7 @@
 SHELL := bash
 .SHELLFLAGS := -e -o pipefail -c
 .DEFAULT_GOAL := help
-.PHONY: help run try build agent vectors test edits page-test storm bench install uninstall dist cluster cluster-storm check-caught check-program check-tests
+.PHONY: help run try build agent vectors test edits page-test storm bench install uninstall dist deb cluster cluster-storm check-caught check-program check-tests
 
 PREFIX ?= /usr/local
 
@@ -22,18 +22,21 @@ try: ## builds build/smplan-unproved and build/smpland-unproved without any proo
 build: ## proves and builds build/smplan and build/smpland, in up to an hour
 	@mkdir -p build
 	p=$$(scripts/build-smplan) && cp "$$p" build/smplan
-	cd crates/smpland && rt run -- --help >../../build/smpland.log </dev/null
+	cd crates/smpland && rt run -- --help 2>&1 >/dev/null </dev/null | tee ../../build/smpland.log
 	cp crates/smpland/out/smpland build/smpland
-	@scripts/keep-verdict build/rt.log
+	@scripts/keep-verdict build/rt.log build/smpland.log
 
-install: ## installs build/smplan, build/smpland, the tools and the docs below PREFIX (/usr/local), in the folder DESTDIR if it is given
+install: ## installs build/smplan, build/smpland, the tools, manual pages and docs below PREFIX (/usr/local), in the folder DESTDIR if it is given
 	scripts/install-tree "$(DESTDIR)" "$(PREFIX)"
 
 uninstall: ## removes what install has put there
 	scripts/install-tree --remove "$(DESTDIR)" "$(PREFIX)"
 
-dist: ## packs build/smplan with its checksum, its verdict, the tools and the docs into an archive in build/
+dist: ## packs both programs with their checksums and verdicts, the tools and the docs into an archive in build/
 	scripts/make-dist
+
+deb: ## packs them for Debian, with manual pages, completions and units: build/smplan_VERSION_amd64.deb; after make agent also libsm-agent-dev
+	scripts/make-deb
 
 ## To connect your servers (docs/YOUR-SERVERS.md)
 
@@ -43,7 +46,7 @@ agent: ## proves and builds a server's side as a library for C: build/libsm_agen
 	cp crates/sm_agent_c/out/libsm_agent_c.a build/libsm_agent.a
 	gcc -shared -Wl,--whole-archive build/libsm_agent.a -Wl,--no-whole-archive -o build/libsm_agent.so
 
-vectors: ## writes build/agent-vectors.txt, by which a port to another language is tested (docs/AGENT-VECTORS.md)
+vectors: ## writes build/agent-vectors.txt, by which a port to another language is tested (tests/agent/README.md)
 	@mkdir -p build
 	cd crates/agent_vectors && rt run -- 20000 > ../../build/agent-vectors.txt
 
@@ -64,6 +67,7 @@ test: ## the gate, in more than an hour: all proofs from nothing, all tests, wro
 	cp crates/smplan/out/smplan build/smplan
 	cp crates/smpland/out/smpland build/smpland
 	scripts/keep-verdict build/rt.log
+	scripts/check-tests
 	scripts/check-try-edits
 	scripts/try-edits --always tests/must-fail --until 0
 	$(MAKE) --jobs=2 --output-sync=line check-caught check-program check-tests
@@ -90,6 +94,7 @@ check-program:
 	scripts/check-command-line
 	scripts/check-python
 	scripts/check-dist
+	scripts/check-deb
 	scripts/page-test --or-leave-out
 	python3 tests/cluster/checker_cases.py
 	scripts/check-cluster
@@ -101,7 +106,7 @@ check-program:
 check-tests:
 	$(MAKE) agent vectors
 	scripts/check-agent
-	scripts/check-memory-tests sm_tests_json sm_tests_placement sm_tests_rights sm_tests_text sm_tests sm_tests_machine sm_tests_plans sm_tests_play sm_tests_board sm_tests_planner sm_tests_driver sm_map
+	scripts/check-memory-tests
 	scripts/check-refused-programs
 
 edits: ## tries all wrong versions, over what make test has proved: hours of a processor

@@ -11,9 +11,9 @@ PARTS = ("src", "specs", "proofs")
 DEFINITION = re.compile(r"(?:(?:abbrev|unfoldable|opaque) (?:pub )?|pub (?!mod |use )|(?=record |data ))(?:record |data )?([^\s:({]+)|(\S+) :(?: |$)")
 
 
-def read_crates(folder=ROOT):
-    """The libraries that each crate of crates.txt uses."""
-    with open(f"{folder}/crates.txt", encoding="utf-8") as lines:
+def read_crates(folder=ROOT, file="crates.txt"):
+    """The libraries that each crate of crates.txt uses, or of another file."""
+    with open(f"{folder}/{file}", encoding="utf-8") as lines:
         lines = [line.split("#")[0] for line in lines]
     return {line.split(":")[0].split()[0]: line.split(":")[1].split() for line in lines if ":" in line}
 
