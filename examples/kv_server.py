@@ -9,7 +9,7 @@ from dataclasses import astuple, replace
 
 sys.path.insert(0, os.path.join(os.path.dirname(os.path.abspath(__file__)), "../python"))
 from smplan import agent  # noqa: E402  (the path comes first)
-from smplan.agent import Answer, Base, Call, Cell, Request, Slot  # noqa: E402
+from smplan.agent import Answer, Base, Call, Cell, Request, Restoration, Settlement, Slot  # noqa: E402
 
 TABLES = """
 CREATE TABLE IF NOT EXISTS base (one INTEGER PRIMARY KEY, journal, number, nonce, known, fenced);
@@ -39,10 +39,10 @@ class Server:
     # -- what is stored
 
     def base(self):
-        return Base(*self.db.execute("SELECT journal, number, nonce, known, fenced FROM base").fetchone())
+        return Base(*map(int, self.db.execute("SELECT journal, number, nonce, known, fenced FROM base").fetchone()))
 
     def store_base(self, base):
-        self.db.execute("REPLACE INTO base VALUES (1, ?, ?, ?, ?, ?)", astuple(base))
+        self.db.execute("REPLACE INTO base VALUES (1, ?, ?, ?, ?, ?)", [str(int(it)) for it in astuple(base)])  # (64 bits are too many for its numbers)
 
     def slot(self, shard):
         row = self.db.execute("SELECT cell, party, handover, last, at_work, load, cut, has_cut FROM slots WHERE shard = ?", (shard,)).fetchone()
@@ -185,20 +185,18 @@ class Server:
 
     def settle(self, journal, number, nonce, slots):
         """Takes the slots that end a reopening, by shard. Whether it is to be answered."""
-        with self.db:
-            answer, base = agent.settle(self.base(), journal, number, nonce is not None, nonce or 0)
-            self.take(answer, base, slots)
-        return answer in (Answer.TAKEN, Answer.AGAIN)
+        return self.take(Settlement(journal, number, nonce), slots) in (Answer.TAKEN, Answer.AGAIN)
 
     def restore(self, journal, fence, number, nonce, slots):
         """Takes the slots that it asked for under a nonce."""
-        with self.db:
-            answer, base = agent.restore(self.base(), journal, fence, number, nonce)
-            self.take(answer, base, slots)
-        return answer == Answer.TAKEN
+        return self.take(Restoration(journal, fence, number, nonce), slots) == Answer.TAKEN
 
-    def take(self, answer, base, slots):
-        self.store_base(base)
-        if answer == Answer.TAKEN:
-            for shard, brought in slots.items():
-                self.store_slot(shard, agent.place(self.slot(shard), brought))
+    def take(self, told, brought):
+        """Takes a settle or a restore as a whole: each slot that it does not bring is absent afterwards, and has no data."""
+        with self.db:
+            answer, base, slots = agent.take(self.base(), told, {it: self.slot(it) for it in self.shards()}, brought)
+            if answer == Answer.TAKEN:
+                self.store_base(base)
+                for shard, slot in slots.items():
+                    self.store_slot(shard, slot)
+        return answer

@@ -4,13 +4,14 @@
  * restores. They take no memory, keep nothing, and read and write only the structs that they are given. They are proved to do what the
  * definitions of crates/sm_agent and crates/sm_agent_c say. docs/YOUR-SERVERS.md tells what a server has to do with the answers.
  *
- * Each pointer points to one whole struct of its type, aligned for it, and no two pointers of one call to the same struct. Any values
- * may stand there: if a kind or a flag is out of range, the answer is SM_BAD, and nothing is changed. All functions may be called by
+ * Each pointer points to one whole struct of its type (that of sm_take to `n` shards, and never to NULL), aligned for it, and no two pointers of
+ * one call to the same struct. Any values may stand there: if a kind or a flag is out of range, the answer is SM_BAD, and nothing is changed. All functions may be called by
  * any thread; a struct is given to one call at a time. `reserved` members are written as 0 and not read.
  */
 #ifndef SM_AGENT_H
 #define SM_AGENT_H
 
+#include <stddef.h>
 #include <stdint.h>
 
 #ifdef __cplusplus
@@ -38,7 +39,8 @@ enum sm_answer {
   SM_TAKEN = 16,        /* message: it is taken, and the base is changed */
   SM_IGNORED = 17,      /* message: it changes nothing, and is not answered */
   SM_DONE = 18,         /* the slot is changed; or what was asked is so */
-  SM_NOT_DONE = 19      /* the slot is as it was; or what was asked is not so */
+  SM_NOT_DONE = 19,     /* the slot is as it was; or what was asked is not so */
+  SM_INCOMPLETE = 20    /* message: the shards given are not those of all slots that it brings; nothing is changed */
 };
 
 /* Kinds of cells: what a server has of a shard. */
@@ -120,22 +122,28 @@ typedef struct {
   uint64_t number;
 } sm_reopening;
 
-/* A settle: the end of a reopening at one server. It brings all slots. */
-typedef struct {
-  uint64_t journal;
-  uint64_t number;
-  uint64_t nonce;       /* if has_nonce: the nonce that the server's answer to the fence had */
-  uint32_t has_nonce;   /* 1, or 0 if that answer had slots */
-  uint32_t reserved;
-} sm_settlement;
+/* Kinds of messages that bring a server all its slots. */
+enum sm_assignment_kind {
+  SM_SETTLE = 1,        /* the end of a reopening at one server */
+  SM_RESTORE = 2        /* the answer to a server that has lost its slots */
+};
 
-/* A restore: the slots of a server that has lost them. */
+/* A settle or a restore, but for the slots that it brings. */
 typedef struct {
   uint64_t journal;
-  uint64_t fence;       /* the number of the journal's last reopening */
-  uint64_t number;      /* becomes the base's number */
-  uint64_t nonce;       /* the nonce under which the server asked */
-} sm_restoration;
+  uint64_t fence;       /* of SM_RESTORE: the number of the journal's last reopening */
+  uint64_t number;      /* of SM_SETTLE the reopening's; of SM_RESTORE it becomes the base's */
+  uint64_t nonce;       /* of SM_SETTLE, if has_nonce, the one that the answer to the fence had; of SM_RESTORE the one under which the server asked */
+  uint64_t slots;       /* how many slots it brings */
+  uint32_t has_nonce;   /* of SM_SETTLE: 1, or 0 if the answer to the fence had slots */
+  uint32_t kind;        /* enum sm_assignment_kind */
+} sm_assignment;
+
+/* A shard of a server that takes a settle or a restore. */
+typedef struct {
+  sm_slot slot;         /* the server's slot, or zeros if it has none; afterwards what it has become */
+  sm_slot brought;      /* the slot that is brought: `cell`, `party`, `handover` and `load` are read; zeros if none is brought */
+} sm_shard;
 
 /* ---- Orders ---- */
 
@@ -190,14 +198,11 @@ void sm_forget(sm_base *base, uint64_t nonce);
  * taken, call sm_abandon for every slot. A server that is Unknown asks under `nonce`, fresh and not 0, from then on. */
 uint32_t sm_fence(sm_base *base, const sm_reopening *reopening, uint64_t nonce);
 
-/* Decides what becomes of a settle: SM_TAKEN, SM_AGAIN or SM_IGNORED. If it is taken, call sm_place for every slot that it brings. */
-uint32_t sm_settle(sm_base *base, const sm_settlement *settlement);
-
-/* Decides what becomes of a restore: SM_TAKEN or SM_IGNORED. If it is taken, call sm_place for every slot that it brings. */
-uint32_t sm_restore(sm_base *base, const sm_restoration *restoration);
-
-/* Makes the slot what a settle or a restore brings: the cell, its handover and the load of `brought`. Answers SM_DONE. */
-uint32_t sm_place(sm_slot *slot, const sm_slot *brought);
+/* Takes a settle or a restore, or nothing of it: SM_TAKEN, SM_AGAIN (answer a settle again) or SM_IGNORED; or SM_INCOMPLETE, if another number of
+ * the shards than `slots` says has a slot that is brought. `shards` are the `n` shards of which the server has a slot or is brought one. If it is
+ * taken, each slot becomes what is brought of its shard; a slot of which nothing is brought becomes SM_ABSENT: delete the shard's data. Store base
+ * and slots in one act. The owner of the published map has no shards. */
+uint32_t sm_take(sm_base *base, const sm_assignment *assignment, sm_shard *shards, size_t n);
 
 /* Heeds the last reopening that a message names. Answers SM_TAKEN if the server was not settled at it: the server is Unknown from then on, and asks
  * under `nonce`, fresh and not 0; delete the slots, and keep the data. Otherwise SM_IGNORED. Call it before sm_judge with each order's journal and

@@ -1,5 +1,5 @@
 // Package main: a server's side of moving shards, in plain Go: a port of the library of include/sm_agent.h, which says what each function
-// answers. The proved functions write vectors (`make vectors`, docs/AGENT-VECTORS.md), which this port passes. Copy the file into a package
+// answers. The proved functions write vectors (`make vectors`, tests/agent/README.md), which this port passes. Copy the file into a package
 // of your own.
 package main
 
@@ -52,13 +52,13 @@ type Call struct {
 	Number   uint64
 }
 
-// Base is what a server keeps beside its slots. Of one that is Unknown, HasNonce is true, and Nonce is what it asks for its slots by, 0
-// before it has made one.
+// Base is what a server keeps beside its slots. The zero Base is that of an Unknown server. Nonce is what an Unknown server asks for its
+// slots by, 0 before it has made one; once it has them it is Known.
 type Base struct {
 	Journal, Number uint64
-	Fenced          bool
-	HasNonce        bool
 	Nonce           uint64
+	Known           bool
+	Fenced          bool
 }
 
 // Slot is what a server keeps of a shard. AtWork is the number of the order that it works at, or 0.
@@ -68,6 +68,30 @@ type Slot struct {
 	Load         uint64
 	HasCut       bool
 	Cut          uint64
+}
+
+// AssignmentKind says which message brings a server all its slots.
+type AssignmentKind int
+
+// A settle ends a reopening; a restore answers a server that has lost its slots.
+const (
+	Settle AssignmentKind = iota
+	Restore
+)
+
+// Assignment is a settle or a restore. Of a settle, HasNonce says whether the server's answer to the fence had a nonce, and not slots; a
+// restore has one always. Fence is of a restore alone.
+type Assignment struct {
+	Kind                   AssignmentKind
+	Journal, Fence, Number uint64
+	HasNonce               bool
+	Nonce                  uint64
+}
+
+// Part is what an assignment brings of one shard.
+type Part struct {
+	Cell Cell
+	Load uint64
 }
 
 // Stamp names the journal of a message, the reopening that it knows of, and its number.
@@ -161,7 +185,7 @@ func next(call Call, cell Cell) (Cell, bool) {
 // turnedAway returns whether a message is turned away, and how.
 func turnedAway(base Base, it Stamp) (Verdict, bool) {
 	switch {
-	case base.HasNonce:
+	case !base.Known:
 		return NotReady, true
 	case it.Journal != base.Journal:
 		return Foreign, true
@@ -242,14 +266,6 @@ func Seal(slot Slot, handover, cut uint64) Slot {
 	return slot
 }
 
-// Place returns the slot that a restore or a settle brings.
-func Place(slot Slot, cell Cell, load uint64) Slot {
-	if cell.Kind == Absent {
-		load = 0
-	}
-	return Slot{Cell: cell, Last: slot.Last, Load: load}
-}
-
 // MayDelete returns whether the slot may be deleted.
 func MayDelete(base Base, slot Slot) bool {
 	return slot.Cell.Kind == Absent && slot.AtWork == 0 && slot.Last <= base.Number
@@ -257,7 +273,7 @@ func MayDelete(base Base, slot Slot) bool {
 
 // RouteRequest says where a request is executed; passed is nil unless another server has passed it on.
 func RouteRequest(base Base, slot Slot, applied uint64, passed *Pass) (Route, Pass) {
-	if base.HasNonce {
+	if !base.Known {
 		return NotHere, Pass{}
 	}
 	cell := slot.Cell
@@ -280,15 +296,15 @@ func RouteRequest(base Base, slot Slot, applied uint64, passed *Pass) (Route, Pa
 }
 
 // Forget returns the base of a server that has lost its slots, and asks for them under a nonce.
-func Forget(nonce uint64) Base { return Base{HasNonce: true, Nonce: nonce} }
+func Forget(nonce uint64) Base { return Base{Nonce: nonce} }
 
 // Fence takes a fence; a server that is Unknown makes the nonce for it.
 func Fence(base Base, journal, number, nonce uint64) (Reception, Base) {
 	switch {
 	case base.Number < number:
-		after := Base{Journal: journal, Number: number, Fenced: true}
-		if base.HasNonce {
-			after.HasNonce, after.Nonce = true, nonce
+		after := Base{Journal: journal, Number: number, Known: base.Known, Fenced: true}
+		if !base.Known {
+			after.Nonce = nonce
 		}
 		return Taken, after
 	case base.Fenced && base.Journal == journal && base.Number == number:
@@ -297,33 +313,65 @@ func Fence(base Base, journal, number, nonce uint64) (Reception, Base) {
 	return Ignored, base
 }
 
-// Settle takes a settle; nonce is nil if it names none.
-func Settle(base Base, journal, number uint64, nonce *uint64) (Reception, Base) {
-	if base.Journal != journal || base.Number != number {
+// settled returns what becomes of a settle, and the base afterwards.
+func settled(base Base, it Assignment) (Reception, Base) {
+	if base.Journal != it.Journal || base.Number != it.Number {
 		return Ignored, base
 	}
-	isMeant := base.HasNonce == (nonce != nil) && (nonce == nil || *nonce == base.Nonce && *nonce != 0)
+	isMeant := base.Known != it.HasNonce && (base.Known || it.Nonce == base.Nonce && it.Nonce != 0)
 	switch {
 	case base.Fenced && isMeant:
-		return Taken, Base{Journal: journal, Number: number}
-	case base.Fenced || base.HasNonce:
+		return Taken, Base{Journal: it.Journal, Number: it.Number, Known: true}
+	case base.Fenced || !base.Known:
 		return Ignored, base
 	}
 	return SaidAgain, base
 }
 
-// Restore takes a restore, which an Unknown server has asked for.
-func Restore(base Base, journal, lastFence, number, nonce uint64) (Reception, Base) {
-	if !base.HasNonce || base.Nonce != nonce || nonce == 0 || base.Fenced && lastFence < base.Number {
+// restored returns what becomes of a restore, and the base afterwards.
+func restored(base Base, it Assignment) (Reception, Base) {
+	if base.Known || base.Nonce != it.Nonce || it.Nonce == 0 || base.Fenced && it.Fence < base.Number {
 		return Ignored, base
 	}
-	return Taken, Base{Journal: journal, Number: number}
+	return Taken, Base{Journal: it.Journal, Number: it.Number, Known: true}
+}
+
+// replaced returns the slot that an assignment makes of a server's.
+func replaced(base Base, slot Slot, brought Part) Slot {
+	after := Slot{Cell: brought.Cell, Load: brought.Load}
+	if base.Known {
+		after.Last = slot.Last
+	}
+	if brought.Cell.Kind == Absent {
+		after.Load = 0
+	}
+	return after
+}
+
+// Take takes a settle or a restore, or nothing of it. slots has all slots of the server and brought all that it is brought, by shard. It
+// returns all slots afterwards: each shard of either map has what is brought, and is Absent if nothing is.
+func Take[Shard comparable](base Base, it Assignment, slots map[Shard]Slot, brought map[Shard]Part) (Reception, Base, map[Shard]Slot) {
+	reception, next := settled(base, it)
+	if it.Kind == Restore {
+		reception, next = restored(base, it)
+	}
+	if reception != Taken {
+		return reception, next, slots
+	}
+	after := make(map[Shard]Slot, len(slots)+len(brought))
+	for shard, slot := range slots {
+		after[shard] = replaced(base, slot, brought[shard])
+	}
+	for shard, part := range brought {
+		after[shard] = replaced(base, slots[shard], part)
+	}
+	return reception, next, after
 }
 
 // Heed returns the base once a message has told of a reopening: a server that was left behind it is Unknown.
 func Heed(base Base, journal, number, nonce uint64) Base {
 	isOvertaken := base.Number < number || base.Fenced && base.Number == number
-	if !base.HasNonce && base.Journal == journal && isOvertaken {
+	if base.Known && base.Journal == journal && isOvertaken {
 		return Forget(nonce)
 	}
 	return base

@@ -1,8 +1,11 @@
 //! A server's side of moving shards, in plain Rust: a port of the library of include/sm_agent.h, which says what each function answers.
-//! The proved functions write vectors (`make vectors`, docs/AGENT-VECTORS.md), which this port passes.
+//! The proved functions write vectors (`make vectors`, tests/agent/README.md), which this port passes.
 
-#[derive(Clone, Copy, Debug, PartialEq, Eq)]
+use std::collections::BTreeMap;
+
+#[derive(Clone, Copy, Debug, Default, PartialEq, Eq)]
 pub enum Cell {
+    #[default]
     Absent,
     Prepared { from: u32, number: u64 },
     Secondary,
@@ -53,6 +56,28 @@ pub struct Slot {
 /// The slot of a shard that the server has never had.
 pub const VACANT: Slot = Slot { cell: Cell::Absent, last: 0, at_work: None, load: 0, cut: None };
 
+impl Default for Slot {
+    fn default() -> Self {
+        VACANT
+    }
+}
+
+/// A message that brings a server all its slots.
+#[derive(Clone, Copy, Debug)]
+pub enum Assignment {
+    /// It ends a reopening; the nonce is the one that the server's answer to the fence had, none if that had slots.
+    Settle { journal: u64, number: u64, nonce: Option<u64> },
+    /// It answers a server that has lost its slots.
+    Restore { journal: u64, fence: u64, number: u64, nonce: u64 },
+}
+
+/// What an assignment brings of one shard; nothing, by default.
+#[derive(Clone, Copy, Debug, Default)]
+pub struct Part {
+    pub cell: Cell,
+    pub load: u64,
+}
+
 #[derive(Clone, Copy, Debug)]
 pub struct Stamp {
     pub journal: u64,
@@ -97,7 +122,7 @@ pub enum Routing {
     NotYet,
 }
 
-#[derive(Clone, Copy, Debug)]
+#[derive(Clone, Copy, Debug, PartialEq, Eq)]
 pub enum Reception {
     Taken(Base),
     Again,
@@ -190,10 +215,6 @@ pub fn seal(slot: &Slot, handover: u64, cut: u64) -> Slot {
     }
 }
 
-pub fn place(slot: &Slot, cell: Cell, load: u64) -> Slot {
-    Slot { cell, last: slot.last, at_work: None, load: if cell == Cell::Absent { 0 } else { load }, cut: None }
-}
-
 pub fn may_delete(base: &Base, slot: &Slot) -> bool {
     slot.cell == Cell::Absent && slot.at_work.is_none() && slot.last <= base.number
 }
@@ -230,7 +251,7 @@ pub fn fence(base: &Base, journal: u64, number: u64, nonce: u64) -> Reception {
     }
 }
 
-pub fn settle(base: &Base, journal: u64, number: u64, nonce: Option<u64>) -> Reception {
+fn settled(base: &Base, journal: u64, number: u64, nonce: Option<u64>) -> Reception {
     if (base.journal, base.number) != (journal, number) {
         return Reception::Ignored;
     }
@@ -240,11 +261,38 @@ pub fn settle(base: &Base, journal: u64, number: u64, nonce: Option<u64>) -> Rec
     if base.fenced || base.nonce.is_some() { Reception::Ignored } else { Reception::Again }
 }
 
-pub fn restore(base: &Base, journal: u64, last_fence: u64, number: u64, nonce: u64) -> Reception {
-    if base.nonce != Some(nonce) || nonce == 0 || (base.fenced && last_fence < base.number) {
+fn restored(base: &Base, journal: u64, fence: u64, number: u64, nonce: u64) -> Reception {
+    if base.nonce != Some(nonce) || nonce == 0 || (base.fenced && fence < base.number) {
         return Reception::Ignored;
     }
     Reception::Taken(Base { journal, number, fenced: false, nonce: None })
+}
+
+/// The slot that an assignment makes of a server's.
+fn replaced(slot: &Slot, brought: Option<&Part>) -> Slot {
+    let Part { cell, load } = brought.copied().unwrap_or_default();
+    Slot { cell, last: slot.last, at_work: None, load: if cell == Cell::Absent { 0 } else { load }, cut: None }
+}
+
+/// Takes a settle or a restore, or nothing of it. `slots` has all slots of the server and `brought` all that it is brought, by shard. If it is
+/// taken, each shard of either map has what is brought, and is absent if nothing is.
+pub fn take<S: Ord + Clone>(base: &Base, assignment: &Assignment, slots: &mut BTreeMap<S, Slot>, brought: &BTreeMap<S, Part>) -> Reception {
+    let reception = match *assignment {
+        Assignment::Settle { journal, number, nonce } => settled(base, journal, number, nonce),
+        Assignment::Restore { journal, fence, number, nonce } => restored(base, journal, fence, number, nonce),
+    };
+    if let Reception::Taken(_) = reception {
+        if base.nonce.is_some() {
+            slots.values_mut().for_each(|slot| *slot = VACANT);
+        }
+        for shard in brought.keys() {
+            slots.entry(shard.clone()).or_insert(VACANT);
+        }
+        for (shard, slot) in slots {
+            *slot = replaced(slot, brought.get(shard));
+        }
+    }
+    reception
 }
 
 pub fn heed(base: &Base, journal: u64, number: u64, nonce: u64) -> Base {

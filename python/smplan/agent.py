@@ -1,16 +1,17 @@
 """A server's side of moving shards, in plain Python: a port of the library of include/sm_agent.h, which says what each function answers.
 
-The proved functions write vectors (`make vectors`, docs/AGENT-VECTORS.md), which this port passes. Values are never changed: a function gives
+The proved functions write vectors (`make vectors`, tests/agent/README.md), which this port passes. Values are never changed: a function gives
 the new base or slot beside its answer. A slot of zeros, `Slot()`, is that of an Unknown server.
 """
 from dataclasses import dataclass, replace
 from enum import IntEnum
+from typing import Any, Dict, Mapping, Optional, Tuple, Union
 
 
 class Answer(IntEnum):
     """What a function answers: SM_BEGIN and so on."""
     BEGIN, WORKING, AGAIN, OLD, FOREIGN, NOT_READY, DOWN, ALREADY_HELD, NOT_HELD, WRONG_ROLE, NO_ROOM = range(1, 12)
-    EXECUTE, PASS_ON, NOT_HERE, NOT_YET, TAKEN, IGNORED, DONE, NOT_DONE = range(12, 20)
+    EXECUTE, PASS_ON, NOT_HERE, NOT_YET, TAKEN, IGNORED, DONE, NOT_DONE, INCOMPLETE = range(12, 21)
 
 
 class Cell(IntEnum):
@@ -75,6 +76,24 @@ class Request:
     is_passed: int = 0
 
 
+@dataclass(frozen=True)
+class Settlement:
+    """A settle: the slots of a server at the end of a reopening."""
+    journal: int
+    number: int
+    nonce: Optional[int] = None
+    """The nonce that the server's answer to the fence had, None if that had slots."""
+
+
+@dataclass(frozen=True)
+class Restoration:
+    """A restore: the slots of a server that has lost them."""
+    journal: int
+    fence: int
+    number: int
+    nonce: int
+
+
 # The cell that a call leads to: call, role, new role and cell before. What is not here is refused.
 TABLE = {
     (Call.ADD, Role.PRIMARY, Role.NONE, Cell.ABSENT): Cell.PRIMARY,
@@ -131,7 +150,7 @@ def judge(base, slot, used, order):
 
 def begin(slot, order):
     """The slot once an order's work has begun."""
-    return replace(slot, at_work=order.number)
+    return slot if slot.cell == Cell.UNKNOWN else replace(slot, at_work=order.number)
 
 
 def abandon(slot):
@@ -161,12 +180,6 @@ def commit(base, slot, order, at):
 def seal(slot, handover, cut):
     """The slot once a new owner knows the old one's cut."""
     return replace(slot, cut=cut, has_cut=1) if slot.cell == Cell.PREPARED and slot.handover == handover else slot
-
-
-def place(slot, brought):
-    """The slot as a settle or a restore brings it."""
-    load = 0 if brought.cell == Cell.ABSENT else brought.load
-    return Slot(cell=brought.cell, party=brought.party, handover=brought.handover, last=slot.last, load=load)
 
 
 def may_delete(base, slot):
@@ -203,21 +216,39 @@ def fence(base, journal, number, nonce):
     return Answer.AGAIN if base.fenced and same else Answer.IGNORED, base
 
 
-def settle(base, journal, number, has_nonce, nonce):
+def settled(base, told):
     """What becomes of a settle, and the base afterwards."""
-    if (base.journal, base.number) != (journal, number):
+    if (base.journal, base.number) != (told.journal, told.number):
         return Answer.IGNORED, base
-    meant = not has_nonce if base.known else has_nonce and nonce == base.nonce != 0
+    meant = told.nonce is None if base.known else told.nonce == base.nonce != 0
     if base.fenced and meant:
         return Answer.TAKEN, replace(base, fenced=0, nonce=0, known=1)
     return Answer.IGNORED if base.fenced or not base.known else Answer.AGAIN, base
 
 
-def restore(base, journal, last_fence, number, nonce):
+def restored(base, told):
     """What becomes of a restore, and the base afterwards."""
-    if base.known or nonce != base.nonce or nonce == 0 or (base.fenced and last_fence < base.number):
+    if base.known or told.nonce != base.nonce or told.nonce == 0 or (base.fenced and told.fence < base.number):
         return Answer.IGNORED, base
-    return Answer.TAKEN, Base(journal, number, known=1)
+    return Answer.TAKEN, Base(told.journal, told.number, known=1)
+
+
+def replaced(slot, brought):
+    """The slot as an assignment leaves it, which brings this one for it."""
+    load = 0 if brought.cell == Cell.ABSENT else brought.load
+    return Slot(cell=brought.cell, party=brought.party, handover=brought.handover, last=slot.last, load=load)
+
+
+def take(
+    base: Base, told: Union[Settlement, Restoration], slots: Mapping[Any, Slot], brought: Mapping[Any, Slot],
+) -> Tuple[Answer, Base, Dict[Any, Slot]]:
+    """What becomes of a settle or a restore, and the base and the slots afterwards: each shard of which the server has a slot, or is brought
+    one, has what is brought, and is absent if nothing is. `slots` are all of the server's and `brought` all that it is brought, by shard."""
+    answer, after = settled(base, told) if isinstance(told, Settlement) else restored(base, told)
+    if answer != Answer.TAKEN:
+        return answer, after, dict(slots)
+    kept = slots if base.known else {}
+    return answer, after, {it: replaced(kept.get(it, VACANT), brought.get(it, VACANT)) for it in {**slots, **brought}}
 
 
 def heed(base, journal, number, nonce):

@@ -73,6 +73,39 @@ def crash_amid_copy(kind):
     want((len(b.copy_of(SHARD)[0]), b.applied(SHARD)), (1, 1))
 
 
+# -- 1: a settle is taken as a whole
+
+class KeepsTheRest(Server):
+    """Keeps the slots, and the data, of shards that a settle does not name."""
+    def take(self, told, brought):
+        kept = [(it, self.slot(it), self.copy_of(it)) for it in self.shards() if it not in brought]
+        answer = super().take(told, brought)
+        if answer == Answer.TAKEN:
+            with self.db:
+                for shard, slot, copy in kept:
+                    self.store_slot(shard, slot)
+                    self.store_copy(shard, copy)
+        return answer
+
+
+def late_after_settle(kind):
+    a, b = pair(kind)
+    c = kind(3, a.peers)
+    c.restore(JOURNAL, 0, 0, c.base().nonce, {SHARD: Slot(cell=Cell.SECONDARY, load=1)})
+    push(a, "r1", "x")
+    want(answered(b, HANDOVER[0]), True)
+    b.seal = lambda *cut: None  # (the message is lost)
+    want(answered(a, HANDOVER[1]), True)
+    late = Request(handover=1, cut=a.slot(SHARD).cut, party=1, is_passed=1)
+    for server in (a, b, c):
+        server.fence(JOURNAL, 100)
+    for server, cells in ((a, [Cell.PRIMARY]), (b, []), (c, [Cell.SECONDARY])):
+        want(server.settle(JOURNAL, 100, None, {SHARD: Slot(cell=it, load=1) for it in cells}), True)
+    push(a, "r2", "y")
+    want(push(b, "r3", "z", late), Answer.NOT_HERE)
+    want((read(a), c.value(SHARD, "k"), b.slot(SHARD)), ("xy", "xy", Slot(cell=Cell.ABSENT, last=1)))
+
+
 # -- 2: routed and executed in one act; identities move with the shard
 
 class ForgetsRequests(Server):
@@ -228,7 +261,7 @@ def lost_for_good(kind):
     want(read(b), "x")
 
 
-RULES = ((CommitsFirst, crash_amid_copy), (ForgetsRequests, repeat_after_handover), (AnswersAtOnce, crash_at_work),
+RULES = ((CommitsFirst, crash_amid_copy), (KeepsTheRest, late_after_settle), (ForgetsRequests, repeat_after_handover), (AnswersAtOnce, crash_at_work),
          (IgnoresTheCut, write_under_way), (KeepsWork, crash_and_repeat), (DeletesAtDrop, late_order), (ComesBackEmpty, lost_state),
          (KeepsItsNonce, given_up), (AcknowledgesAlone, lost_for_good))
 

@@ -1,5 +1,6 @@
-/* Runs the library on the conformance vectors of standard input, whose format docs/AGENT-VECTORS.md has.
- * With the argument `kinds` it shows instead that zeros are of an Unknown server, and that kinds out of range are SM_BAD and change nothing.
+/* Runs the library on the conformance vectors of standard input, whose format tests/agent/README.md has.
+ * With the argument `kinds` it shows instead that zeros are of an Unknown server, that kinds out of range are SM_BAD and change nothing, and that a settle is
+ * taken as a whole.
  * With `time` it measures one call. */
 #define _POSIX_C_SOURCE 199309L
 #include <inttypes.h>
@@ -11,7 +12,7 @@
 #include "sm_agent.h"
 
 /* The numbers of a line, in front of its sign and behind it. */
-enum { MOST = 40 };
+enum { MOST = 64, MOST_SHARDS = 4 };
 static uint64_t given[MOST], wanted[MOST], made[MOST];
 static int given_count, wanted_count, made_count, taken;
 
@@ -79,7 +80,7 @@ static void call_orders(const char *name) {
 }
 static void call_slots(const char *name) {
   sm_base base;
-  sm_slot slot, brought;
+  sm_slot slot;
   uint64_t handover, number;
   if (!strcmp(name, "abandon")) {
     slot = take_slot();
@@ -87,9 +88,6 @@ static void call_slots(const char *name) {
   } else if (!strcmp(name, "seal")) {
     slot = take_slot(), handover = take(), number = take();
     if (sm_seal(&slot, handover, number) == SM_DONE) give_slot(&slot);
-  } else if (!strcmp(name, "place")) {
-    slot = take_slot(), brought = take_slot();
-    if (sm_place(&slot, &brought) == SM_DONE) give_slot(&slot);
   } else if (!strcmp(name, "may_delete")) {
     base = take_base(), slot = take_slot();
     give(sm_may_delete(&base, &slot));
@@ -106,6 +104,22 @@ static void call_route(void) {
   give(sm_route(&base, &slot, applied, &request, &onward));
   give(onward.handover), give(onward.cut), give(onward.party), give(onward.is_passed);
 }
+static void call_take(void) {
+  sm_base base = take_base();
+  sm_assignment assignment = {0};
+  sm_shard shards[MOST_SHARDS] = {{{0}, {0}}};
+  assignment.kind = (uint32_t)take(), assignment.journal = take(), assignment.fence = take(), assignment.number = take();
+  assignment.has_nonce = (uint32_t)take(), assignment.nonce = take();
+  size_t count = (size_t)take();
+  for (size_t i = 0; i < count && i < MOST_SHARDS; i++) {
+    sm_slot *brought = &shards[i].brought;
+    shards[i].slot = take_slot();
+    brought->cell = (uint32_t)take(), brought->party = (uint32_t)take(), brought->handover = take(), brought->load = take();
+    assignment.slots += brought->cell != SM_UNKNOWN;
+  }
+  give(sm_take(&base, &assignment, shards, count)), give_base(&base);
+  for (size_t i = 0; i < count && i < MOST_SHARDS; i++) give_slot(&shards[i].slot);
+}
 static void call_messages(const char *name) {
   sm_base base = take_base();
   sm_reopening reopening;
@@ -116,14 +130,6 @@ static void call_messages(const char *name) {
   } else if (!strcmp(name, "heed")) {
     reopening = take_reopening(), number = take();
     sm_heed(&base, &reopening, number), give_base(&base);
-  } else if (!strcmp(name, "settle")) {
-    sm_settlement settlement = {0};
-    settlement.journal = take(), settlement.number = take(), settlement.has_nonce = (uint32_t)take(), settlement.nonce = take();
-    give(sm_settle(&base, &settlement)), give_base(&base);
-  } else if (!strcmp(name, "restore")) {
-    sm_restoration restoration = {0};
-    restoration.journal = take(), restoration.fence = take(), restoration.number = take(), restoration.nonce = take();
-    give(sm_restore(&base, &restoration)), give_base(&base);
   } else if (!strcmp(name, "publish")) {
     sm_publication publication = {0};
     number = take();
@@ -150,7 +156,7 @@ static const char *read_line(char *line) {
 }
 
 static int run_vectors(void) {
-  static const char *const messages[] = {"fence", "heed", "settle", "restore", "publish"};
+  static const char *const messages[] = {"fence", "heed", "publish"};
   char line[1024], copy[1024];
   long count = 0;
   while (fgets(line, sizeof line, stdin)) {
@@ -160,6 +166,7 @@ static int run_vectors(void) {
     for (size_t i = 0; i < sizeof messages / sizeof *messages; i++) is_message |= !strcmp(name, messages[i]);
     if (is_message) call_messages(name);
     else if (!strcmp(name, "route")) call_route();
+    else if (!strcmp(name, "take")) call_take();
     else call_orders(name), call_slots(name);
     if (!made_count || made_count != wanted_count || memcmp(made, wanted, sizeof *made * (size_t)made_count)) fail("another answer", copy);
     if (taken != given_count) fail("another number of words", copy);
@@ -178,16 +185,20 @@ static void want_zeros(void) {
   sm_slot slot = {0}, zeros = {0};
   sm_order order = {.journal = 1, .number = 5, .room = 9, .call = SM_ADD, .role = SM_AS_PRIMARY};
   sm_request direct = {0}, onward = {0};
-  sm_restoration restoration = {.journal = 1, .number = 3};
+  sm_reopening reopening = {0};
+  sm_publication publication = {0};
+  sm_assignment restore = {.kind = SM_RESTORE, .journal = 1, .number = 3, .slots = 1, .has_nonce = 1}, nothing = {0};
+  sm_shard shards[2] = {{.slot = {0}, .brought = {.cell = SM_PRIMARY, .load = 4}}, {{0}, {0}}};
   WANT(sm_judge(&base, &slot, 0, &order) == SM_NOT_READY && sm_judge(&known, &slot, 0, &order) == SM_NOT_READY);
   WANT(sm_commit(&known, &slot, &order, 0) == SM_NOT_READY && sm_route(&known, &slot, 0, &direct, &onward) == SM_NOT_HERE);
   WANT(sm_begin(&slot, &order) == SM_NOT_READY && sm_abandon(&slot) == SM_NOT_READY && sm_seal(&slot, 1, 1) == SM_NOT_READY);
   WANT(!memcmp(&slot, &zeros, sizeof slot));
-  WANT(sm_restore(&base, &restoration) == SM_IGNORED);
-  sm_forget(&base, 77), restoration.nonce = 77;
-  WANT(sm_restore(&base, &restoration) == SM_TAKEN && base.known == 1 && base.number == 3);
-  sm_slot brought = {.cell = SM_PRIMARY, .load = 4};
-  WANT(sm_place(&slot, &brought) == SM_DONE && sm_route(&base, &slot, 0, &direct, &onward) == SM_EXECUTE);
+  WANT(sm_fence(&base, &reopening, 0) == SM_IGNORED && sm_heed(&base, &reopening, 0) == SM_IGNORED && sm_publish(&base, 0, &publication) == SM_NOT_READY);
+  WANT(sm_has_reached_cut(&slot, 0) == SM_NOT_READY && sm_may_delete(&base, &slot) == SM_NOT_READY && !memcmp(&base, &(sm_base){0}, sizeof base));
+  WANT(sm_take(&base, &nothing, shards, 2) == SM_BAD && sm_take(&base, &restore, shards, 2) == SM_IGNORED && shards[0].slot.cell == SM_UNKNOWN);
+  sm_forget(&base, 77), restore.nonce = 77;
+  WANT(sm_take(&base, &restore, shards, 2) == SM_TAKEN && base.known == 1 && base.number == 3);
+  WANT(sm_route(&base, &shards[0].slot, 0, &direct, &onward) == SM_EXECUTE && shards[0].slot.load == 4 && shards[1].slot.cell == SM_ABSENT);
   sm_vacant(&slot);
   WANT(slot.cell == SM_ABSENT && sm_judge(&base, &slot, 0, &order) == SM_BEGIN && sm_may_delete(&base, &slot) == SM_DONE);
 }
@@ -200,8 +211,9 @@ static void want_bad(void) {
     sm_order order = {.journal = 1, .number = 5, .call = SM_DROP}, call = {.call = 4 + flags[i]}, role = {.call = SM_ADD, .role = 1 + flags[i]};
     sm_request direct = {0}, flagged = {.is_passed = flags[i]}, onward = {0};
     sm_reopening reopening = {1, 9};
-    sm_settlement settlement = {.has_nonce = flags[i]};
-    sm_restoration restoration = {0};
+    sm_assignment flag = {.kind = SM_SETTLE, .has_nonce = flags[i]}, kind = {.kind = 1 + flags[i]}, settle = {.kind = SM_SETTLE, .journal = 1, .slots = 1};
+    sm_base stands = {.journal = 1, .known = 1, .fenced = 1}, stood = stands;
+    sm_shard one = {.slot = {.cell = SM_PRIMARY}, .brought = {.cell = SM_PRIMARY}}, bad = one, brings = one, cuts = one;
     sm_publication publication = {1, 0, 7};
     if (slot.cell <= SM_FORWARDING) slot.cell = was.cell = 6;
     if (call.call <= SM_PREPARE_DROP) call.call = 0;
@@ -209,12 +221,40 @@ static void want_bad(void) {
     WANT(!sm_judge(&base, &known, 0, &order) && !sm_judge(&good, &slot, 0, &order) && !sm_judge(&good, &cut, 0, &order));
     WANT(!sm_judge(&good, &known, 0, &call) && !sm_judge(&good, &known, 0, &role) && !sm_judge(&fenced, &known, 0, &order));
     WANT(!sm_commit(&good, &slot, &order, 0) && !sm_begin(&slot, &order) && !sm_begin(&known, &call) && !sm_abandon(&slot));
-    WANT(!sm_seal(&slot, 0, 0) && !sm_place(&slot, &known) && !sm_place(&known, &slot) && !sm_has_reached_cut(&slot, 0));
+    WANT(!sm_seal(&slot, 0, 0) && !sm_has_reached_cut(&slot, 0));
     WANT(!sm_may_delete(&good, &slot) && !sm_may_delete(&base, &known) && !memcmp(&slot, &was, sizeof slot));
     WANT(!sm_route(&good, &slot, 0, &direct, &onward) && !sm_route(&good, &known, 0, &flagged, &onward));
-    WANT(!sm_fence(&base, &reopening, 1) && !sm_settle(&good, &settlement) && !sm_restore(&fenced, &restoration));
+    bad.slot = brings.brought = slot, cuts.slot = cut;
+    WANT(!sm_fence(&base, &reopening, 1) && !sm_take(&fenced, &settle, &one, 1) && !sm_take(&stands, &flag, &one, 1) && !sm_take(&stands, &kind, &one, 1));
+    WANT(!sm_take(&stands, &settle, &bad, 1) && !sm_take(&stands, &settle, &brings, 1) && !sm_take(&stands, &settle, &cuts, 1));
+    WANT(!memcmp(&stands, &stood, sizeof stands) && one.slot.cell == SM_PRIMARY && !memcmp(&bad.slot, &slot, sizeof slot));
     WANT(!sm_heed(&base, &reopening, 1) && !sm_publish(&base, 0, &publication) && base.known == flags[i]);
   }
+}
+
+/* A settle is taken as a whole: nothing of one that is not given whole, and what it does not bring is absent. */
+static void want_whole(void) {
+  sm_base base = {.journal = 1, .number = 7, .known = 1, .fenced = 1}, was = base;
+  sm_assignment settle = {.kind = SM_SETTLE, .journal = 1, .number = 7, .slots = 2};
+  sm_request late = {.handover = 3, .party = 2, .is_passed = 1}, onward = {0};
+  sm_shard shards[3] = {
+    {.slot = {.cell = SM_PREPARED, .party = 2, .handover = 3, .last = 5, .at_work = 6, .load = 4}, .brought = {0}},
+    {.slot = {.cell = SM_SECONDARY, .last = 4, .load = 2}, .brought = {.cell = SM_PRIMARY, .load = 3, .last = 9, .at_work = 9, .cut = 9, .has_cut = 1}},
+    {.slot = {0}, .brought = {.cell = SM_ABSENT, .load = 3}},
+  }, before[3];
+  memcpy(before, shards, sizeof shards);
+  WANT(sm_take(&base, &settle, shards, 2) == SM_INCOMPLETE && sm_take(&base, &settle, shards + 1, 1) == SM_INCOMPLETE);
+  settle.slots = 1;
+  WANT(sm_take(&base, &settle, shards, 3) == SM_INCOMPLETE && !memcmp(&base, &was, sizeof base) && !memcmp(before, shards, sizeof shards));
+  settle.slots = 2;
+  WANT(sm_take(&base, &settle, shards, 3) == SM_TAKEN && base.fenced == 0 && base.number == 7);
+  WANT(shards[0].slot.cell == SM_ABSENT && shards[0].slot.last == 5 && shards[0].slot.at_work == 0 && shards[0].slot.load == 0);
+  WANT(sm_route(&base, &shards[0].slot, 9, &late, &onward) == SM_NOT_HERE);
+  WANT(shards[1].slot.cell == SM_PRIMARY && shards[1].slot.last == 4 && shards[1].slot.load == 3 && !shards[1].slot.at_work && !shards[1].slot.has_cut);
+  WANT(shards[2].slot.cell == SM_ABSENT && shards[2].slot.last == 0 && shards[2].slot.load == 0);
+  memcpy(before, shards, sizeof shards);
+  shards[1].slot.cell = before[1].slot.cell = SM_SECONDARY;
+  WANT(sm_take(&base, &settle, shards, 3) == SM_AGAIN && sm_take(&base, &settle, shards, 0) == SM_AGAIN && !memcmp(before, shards, sizeof shards));
 }
 
 /* The processor's time, in nanoseconds. */
@@ -249,7 +289,7 @@ static int measure(void) {
 int main(int count, char **words) {
   if (count == 2 && !strcmp(words[1], "time")) return measure();
   if (count == 2 && !strcmp(words[1], "kinds")) {
-    want_zeros(), want_bad(), puts("zeros and kinds as they should be");
+    want_zeros(), want_bad(), want_whole(), puts("zeros and kinds as they should be");
     return 0;
   }
   return run_vectors();

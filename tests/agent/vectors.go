@@ -1,4 +1,4 @@
-// Runs the port ports/go/agent.go on the conformance vectors of standard input, whose format docs/AGENT-VECTORS.md has.
+// Runs the port ports/go/agent.go on the conformance vectors of standard input, whose format tests/agent/README.md has.
 package main
 
 import (
@@ -22,7 +22,7 @@ func (n *numbers) next() uint64 {
 func (n *numbers) flag() bool { return n.next() == 1 }
 
 func (n *numbers) base() (it Base) {
-	it.Journal, it.Number, it.Nonce, it.HasNonce, it.Fenced = n.next(), n.next(), n.next(), !n.flag(), n.flag()
+	it.Journal, it.Number, it.Nonce, it.Known, it.Fenced = n.next(), n.next(), n.next(), n.flag(), n.flag()
 	return it
 }
 
@@ -65,7 +65,7 @@ func bit(fact bool) uint64 {
 }
 
 func ofBase(it Base) numbers {
-	return numbers{it.Journal, it.Number, it.Nonce, bit(!it.HasNonce), bit(it.Fenced)}
+	return numbers{it.Journal, it.Number, it.Nonce, bit(it.Known), bit(it.Fenced)}
 }
 
 func ofSlot(it Slot) numbers {
@@ -89,6 +89,27 @@ func ofRoute(it Route, pass Pass) numbers {
 
 func doneIf(fact bool) numbers { return numbers{19 - bit(fact)} }
 
+// ofTake takes an assignment: each shard has its place in the line as its name.
+func ofTake(base Base, n *numbers) numbers {
+	it := Assignment{Kind: AssignmentKind(n.next() - 1), Journal: n.next(), Fence: n.next(), Number: n.next(), HasNonce: n.flag(), Nonce: n.next()}
+	slots, brought, count := map[int]Slot{}, map[int]Part{}, int(n.next())
+	for shard := 0; shard < count; shard++ {
+		if slot := n.slot(); slot.Cell.Kind >= 0 {
+			slots[shard] = slot
+		}
+		kind, party, handover, load := CellKind(n.next()-1), uint32(n.next()), n.next(), n.next()
+		if kind >= 0 {
+			brought[shard] = Part{Cell{kind, party, handover}, load}
+		}
+	}
+	reception, next, after := Take(base, it, slots, brought)
+	made := ofReception(reception, next)
+	for shard := 0; shard < count; shard++ {
+		made = append(made, ofSlot(after[shard])...)
+	}
+	return made
+}
+
 func ofCall(name string, n *numbers) numbers {
 	switch name {
 	case "begin":
@@ -99,9 +120,6 @@ func ofCall(name string, n *numbers) numbers {
 		return ofSlot(Seal(n.slot(), n.next(), n.next()))
 	case "has_reached_cut":
 		return doneIf(HasReachedCut(n.slot(), n.next()))
-	case "place":
-		slot, brought := n.slot(), n.slot()
-		return ofSlot(Place(slot, brought.Cell, brought.Load))
 	}
 	base := n.base()
 	switch name {
@@ -120,14 +138,8 @@ func ofCall(name string, n *numbers) numbers {
 		return ofReception(Fence(base, n.next(), n.next(), n.next()))
 	case "heed":
 		return ofBase(Heed(base, n.next(), n.next(), n.next()))
-	case "settle":
-		journal, number, names, nonce := n.next(), n.next(), n.flag(), n.next()
-		if !names {
-			return ofReception(Settle(base, journal, number, nil))
-		}
-		return ofReception(Settle(base, journal, number, &nonce))
-	case "restore":
-		return ofReception(Restore(base, n.next(), n.next(), n.next(), n.next()))
+	case "take":
+		return ofTake(base, n)
 	case "publish":
 		return ofVerdict(Publish(base, n.next(), n.stamp()))
 	}
@@ -145,7 +157,42 @@ func read(text string) (found numbers) {
 	return found
 }
 
+// want fails if a fact is not so.
+func want(what string, is bool) {
+	if !is {
+		fmt.Fprintln(os.Stderr, "at zeros:", what)
+		os.Exit(1)
+	}
+}
+
+// wantZeros calls each function with zeros: the zero Base is that of an Unknown server, the zero Slot that of a shard of which it has nothing.
+func wantZeros() {
+	var base Base
+	var slot, primary = Slot{}, Slot{Cell: Cell{Kind: Primary}}
+	later := Order{Stamp: Stamp{Number: 5}, Call: Call{Kind: Add, To: PrimaryRole}}
+	want("Judge", Judge(base, slot, 0, Order{}) == NotReady && Judge(base, primary, 0, later) == NotReady)
+	_, done := Commit(base, StartWork(slot, later), later, 0)
+	want("Commit", !done && StartWork(slot, Order{}) == slot)
+	route, onward := RouteRequest(base, primary, 0, nil)
+	passed, _ := RouteRequest(base, Slot{Cell: Cell{Kind: Prepared}}, 0, &Pass{})
+	want("RouteRequest", route == NotHere && passed == NotHere && onward == Pass{})
+	want("Abandon, Seal", Abandon(slot) == slot && Seal(slot, 0, 0) == slot)
+	want("HasReachedCut, MayDelete", !HasReachedCut(slot, 0) && MayDelete(base, slot))
+	want("Forget, Heed", Forget(0) == base && Heed(base, 0, 0, 0) == base && Heed(base, 0, 5, 9) == base)
+	ignored, _ := Fence(base, 0, 0, 0)
+	taken, asks := Fence(base, 1, 5, 9)
+	want("Fence", ignored == Ignored && taken == Taken && asks == Base{Journal: 1, Number: 5, Nonce: 9, Fenced: true})
+	for _, it := range []Assignment{{}, {HasNonce: true}, {Kind: Restore}, {Kind: Restore, HasNonce: true}} {
+		answer, next, after := Take(base, it, map[string]Slot{"s": primary}, map[string]Part{})
+		want("Take", answer == Ignored && next == base && after["s"] == primary)
+	}
+	answer, next, after := Take(Forget(9), Assignment{Kind: Restore, Journal: 1, Number: 3, Nonce: 9}, map[string]Slot{"s": primary}, map[string]Part{"t": {}})
+	want("Take of zeros", answer == Taken && next == Base{Journal: 1, Number: 3, Known: true} && len(after) == 2 && after["s"] == slot && after["t"] == slot)
+	want("Publish", Publish(base, 0, Stamp{}) == NotReady)
+}
+
 func main() {
+	wantZeros()
 	count, lines := 0, bufio.NewScanner(os.Stdin)
 	for ; lines.Scan(); count++ {
 		given, wanted, _ := strings.Cut(lines.Text(), " =")

@@ -1,4 +1,4 @@
-"""Runs the port python/smplan/agent.py on the conformance vectors of standard input, whose format docs/AGENT-VECTORS.md has."""
+"""Runs the port python/smplan/agent.py on the conformance vectors of standard input, whose format tests/agent/README.md has."""
 import os
 import sys
 from dataclasses import astuple
@@ -10,8 +10,8 @@ from smplan import agent  # noqa: E402  (the path comes first)
 PARTS = {"B": (5, agent.Base), "S": (8, agent.Slot), "O": (10, agent.Order), "R": (4, agent.Request), "n": (1, int)}
 
 # What goes into each function.
-TAKES = {"judge": "BSnO", "commit": "BSOn", "route": "BSnR", "begin": "SO", "abandon": "S", "seal": "Snn", "place": "SS", "may_delete": "BS",
-         "has_reached_cut": "Sn", "fence": "Bnnn", "heed": "Bnnn", "settle": "Bnnnn", "restore": "Bnnnn", "publish": "Bnnnn"}
+TAKES = {"judge": "BSnO", "commit": "BSOn", "route": "BSnR", "begin": "SO", "abandon": "S", "seal": "Snn", "may_delete": "BS",
+         "has_reached_cut": "Sn", "fence": "Bnnn", "heed": "Bnnn", "publish": "Bnnnn"}
 
 
 def values_of(kinds, numbers):
@@ -26,6 +26,47 @@ def values_of(kinds, numbers):
     return values
 
 
+def assignment_of(kind, journal, fence, number, has_nonce, nonce):
+    """The settle or restore that the numbers of a line stand for."""
+    if kind == 1:
+        return agent.Settlement(journal, number, nonce if has_nonce else None)
+    return agent.Restoration(journal, fence, number, nonce)
+
+
+def shards_of(numbers):
+    """The slots of a server and those that it is brought, by their places in the line. Who has never had a shard has no slot of it."""
+    slots, brought = {}, {}
+    for place in range(0, len(numbers) // 12):
+        row = numbers[12 * place:12 * place + 12]
+        slots[place] = agent.Slot(*row[:8])
+        if row[8]:
+            cell, party, handover, load = row[8:]
+            brought[place] = agent.Slot(cell=cell, party=party, handover=handover, load=load)
+    return {place: slot for place, slot in slots.items() if slot != agent.VACANT}, brought
+
+
+def taken(port, numbers):
+    """What `take` answers to a line, as its numbers."""
+    count = numbers[11]
+    if len(numbers) != 12 + 12 * count:
+        raise ValueError("another count of shards")
+    slots, brought = shards_of(numbers[12:])
+    answer, base, after = port.take(agent.Base(*numbers[:5]), assignment_of(*numbers[5:11]), slots, brought)
+    if not {*after} <= {*slots, *brought}:
+        raise ValueError("a slot of no shard")
+    made = [answer, *astuple(base)]
+    for place in range(count):
+        made += astuple(after.get(place, agent.VACANT))
+    return [int(it) for it in made]
+
+
+def answer_of(port, name, numbers):
+    """What a function of the port answers to a line, as its numbers."""
+    if name == "take":
+        return taken(port, numbers)
+    return numbers_of(name, getattr(port, name)(*values_of(TAKES[name], numbers)))
+
+
 def numbers_of(name, made):
     """A function's answer as the numbers of a line: those of a value, or an answer and a value."""
     if name == "commit":
@@ -38,15 +79,45 @@ def numbers_of(name, made):
     return numbers
 
 
+def want(made, wanted):
+    """Fails if an answer is another one."""
+    if made != wanted:
+        sys.exit(f"at zeros: {made}, and not {wanted}")
+
+
+def want_zeros():
+    """Zeros are those of an Unknown server, at each function."""
+    base, slot, order, known = agent.Base(), agent.Slot(), agent.Order(*[0] * 10), agent.Base(known=1)
+    later = agent.Order(0, 0, 5, 0, 0, 0, agent.Call.ADD, agent.Role.PRIMARY, 0, 0)
+    for it in (base, known):
+        want([agent.judge(it, slot, 0, order), agent.judge(it, slot, 0, later)], [agent.Answer.NOT_READY] * 2)
+        want([agent.commit(it, slot, order, 0), agent.commit(it, slot, later, 0)], [None, None])
+        want(agent.route(it, slot, 0, agent.Request()), (agent.Answer.NOT_HERE, agent.Request()))
+        want(agent.may_delete(it, slot), False)
+    want(agent.judge(base, agent.VACANT, 0, later), agent.Answer.NOT_READY)
+    want(agent.route(base, agent.Slot(cell=agent.Cell.PRIMARY), 0, agent.Request())[0], agent.Answer.NOT_HERE)
+    want([agent.begin(slot, order), agent.begin(slot, later), agent.abandon(slot), agent.seal(slot, 0, 0)], [slot] * 4)
+    want(agent.has_reached_cut(slot, 0), False)
+    want([agent.forget(0), agent.heed(base, 0, 0, 0), agent.heed(base, 0, 5, 9)], [base] * 3)
+    want([agent.fence(base, 0, 0, 0), agent.fence(base, 1, 5, 9)], [(agent.Answer.IGNORED, base), (agent.Answer.TAKEN, agent.Base(1, 5, 9, 0, 1))])
+    for told in (agent.Settlement(0, 0), agent.Settlement(0, 0, 0), agent.Restoration(0, 0, 0, 0)):
+        want(agent.take(base, told, {}, {}), (agent.Answer.IGNORED, base, {}))
+    primary = agent.Slot(cell=agent.Cell.PRIMARY, load=4)
+    want(agent.take(agent.forget(9), agent.Restoration(1, 0, 3, 9), {"s": slot}, {"t": primary}),
+         (agent.Answer.TAKEN, agent.Base(1, 3, known=1), {"s": agent.VACANT, "t": primary}))
+    want(agent.publish(base, 0, 0, 0, 0), agent.Answer.NOT_READY)
+
+
 def main():
     count = 0
     for line in sys.stdin:
         before, after = line.split(" =")
         name, *words = before.split()
-        made = numbers_of(name, getattr(agent, name)(*values_of(TAKES[name], [int(it) for it in words])))
+        made = answer_of(agent, name, [int(it) for it in words])
         if made != [int(it) for it in after.split()]:
             sys.exit(f"another answer: {line.strip()}: {made}")
         count += 1
+    want_zeros()
     print(count, "vectors")
     return 0 if count else 1
 

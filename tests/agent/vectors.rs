@@ -1,9 +1,10 @@
-//! Runs the port ports/rust/agent.rs on the conformance vectors of standard input, whose format docs/AGENT-VECTORS.md has.
+//! Runs the port ports/rust/agent.rs on the conformance vectors of standard input, whose format tests/agent/README.md has.
 #![allow(dead_code)]
 
 mod agent;
 
 use agent::*;
+use std::collections::BTreeMap;
 use std::io::{self, BufRead};
 
 /// The numbers of a line that are left.
@@ -20,18 +21,35 @@ impl Numbers {
         let (journal, number, nonce, known, fenced) = (self.next(), self.next(), self.next(), self.next(), self.next());
         Base { journal, number, fenced: fenced == 1, nonce: (known == 0).then_some(nonce) }
     }
-    fn slot(&mut self) -> Slot {
+    fn cell(&mut self) -> Option<Cell> {
         let (kind, party, number) = (self.next(), self.short(), self.next());
-        let cell = match kind {
-            1 => Cell::Absent,
-            2 => Cell::Prepared { from: party, number },
-            3 => Cell::Secondary,
-            4 => Cell::Primary,
-            5 => Cell::Forwarding { to: party, number },
+        match kind {
+            0 => None,
+            1 => Some(Cell::Absent),
+            2 => Some(Cell::Prepared { from: party, number }),
+            3 => Some(Cell::Secondary),
+            4 => Some(Cell::Primary),
+            5 => Some(Cell::Forwarding { to: party, number }),
             _ => panic!("a cell of kind {kind}"),
-        };
+        }
+    }
+    fn slot(&mut self) -> Slot {
+        let cell = self.cell().expect("a slot of zeros");
         let (last, at_work, load, cut, has_cut) = (self.next(), self.next(), self.next(), self.next(), self.next());
         Slot { cell, last, at_work: (at_work != 0).then_some(at_work), load, cut: (has_cut == 1).then_some(cut) }
+    }
+    fn assignment(&mut self) -> Assignment {
+        let (kind, journal, fence, number) = (self.next(), self.next(), self.next(), self.next());
+        let (has_nonce, nonce) = (self.next(), self.next());
+        match kind {
+            1 => Assignment::Settle { journal, number, nonce: (has_nonce == 1).then_some(nonce) },
+            2 => Assignment::Restore { journal, fence, number, nonce },
+            _ => panic!("an assignment of kind {kind}"),
+        }
+    }
+    fn part(&mut self) -> Option<Part> {
+        let (cell, load) = (self.cell(), self.next());
+        cell.map(|cell| Part { cell, load })
     }
     fn stamp(&mut self) -> Stamp {
         Stamp { journal: self.next(), fence: self.next(), number: self.next() }
@@ -101,16 +119,25 @@ fn done_if(fact: bool) -> Vec<u64> {
     vec![if fact { 18 } else { 19 }]
 }
 
+/// Takes an assignment: each shard has its place in the line as its name.
+fn of_take(base: &Base, it: &mut Numbers) -> Vec<u64> {
+    let assignment = it.assignment();
+    let (mut slots, mut brought, count) = (BTreeMap::new(), BTreeMap::new(), it.next());
+    for shard in 0..count {
+        slots.extend(Some(it.slot()).filter(|slot| *slot != VACANT).map(|slot| (shard, slot)));
+        brought.extend(it.part().map(|part| (shard, part)));
+    }
+    let reception = take(base, &assignment, &mut slots, &brought);
+    let after = (0..count).flat_map(|shard| of_slot(slots.get(&shard).unwrap_or(&VACANT)));
+    of_reception(reception, base).into_iter().chain(after).collect()
+}
+
 fn of_call(name: &str, it: &mut Numbers) -> Vec<u64> {
     match name {
         "begin" => return of_slot(&begin(&it.slot(), &it.order())),
         "abandon" => return of_slot(&abandon(&it.slot())),
         "seal" => return of_slot(&seal(&it.slot(), it.next(), it.next())),
         "has_reached_cut" => return done_if(has_reached_cut(&it.slot(), it.next())),
-        "place" => {
-            let (before, brought) = (it.slot(), it.slot());
-            return of_slot(&place(&before, brought.cell, brought.load));
-        }
         _ => (),
     }
     let base = it.base();
@@ -124,14 +151,40 @@ fn of_call(name: &str, it: &mut Numbers) -> Vec<u64> {
         "may_delete" => done_if(may_delete(&base, &it.slot())),
         "fence" => of_reception(fence(&base, it.next(), it.next(), it.next()), &base),
         "heed" => of_base(&heed(&base, it.next(), it.next(), it.next())),
-        "settle" => {
-            let (journal, number, has_nonce, nonce) = (it.next(), it.next(), it.next(), it.next());
-            of_reception(settle(&base, journal, number, (has_nonce == 1).then_some(nonce)), &base)
-        }
-        "restore" => of_reception(restore(&base, it.next(), it.next(), it.next(), it.next()), &base),
+        "take" => of_take(&base, it),
         "publish" => of_verdict(publish(&base, it.next(), &it.stamp())),
         _ => panic!("no function {name}"),
     }
+}
+
+/// Calls each function with defaults: the default base is that of an Unknown server, the default slot that of a shard of which it has nothing.
+fn want_zeros() {
+    let (base, slot, primary) = (Base::default(), Slot::default(), Slot { cell: Cell::Primary, ..VACANT });
+    let stamp = Stamp { journal: 0, fence: 0, number: 0 };
+    let order = Order { stamp, call: Call::Drop, load: 0, room: 0 };
+    let later = Order { stamp: Stamp { number: 5, ..stamp }, call: Call::Add(Role::Primary), ..order };
+    assert_eq!([judge(&base, &slot, 0, &order), judge(&base, &primary, 0, &later)], [Verdict::NotReady; 2]);
+    assert_eq!(commit(&base, &begin(&slot, &later), &later, 0), None);
+    assert!(matches!(route(&base, &primary, 0, None), Routing::NotHere));
+    assert!(matches!(route(&base, &slot, 0, Some(Pass { party: 0, handover: 0, cut: 0 })), Routing::NotHere));
+    assert_eq!([abandon(&slot), seal(&slot, 0, 0)], [slot; 2]);
+    assert!(!has_reached_cut(&slot, 0) && may_delete(&base, &slot));
+    assert_eq!([forget(0), heed(&base, 0, 0, 0), heed(&base, 0, 5, 9)], [base; 3]);
+    assert_eq!(fence(&base, 0, 0, 0), Reception::Ignored);
+    assert_eq!(fence(&base, 1, 5, 9), Reception::Taken(Base { journal: 1, number: 5, fenced: true, nonce: Some(9) }));
+    let settles = [None, Some(0)].map(|nonce| Assignment::Settle { journal: 0, number: 0, nonce });
+    let restore = Assignment::Restore { journal: 0, fence: 0, number: 0, nonce: 0 };
+    for assignment in settles.into_iter().chain([restore]) {
+        let mut slots = BTreeMap::from([("s", primary)]);
+        assert_eq!(take(&base, &assignment, &mut slots, &BTreeMap::new()), Reception::Ignored);
+        assert_eq!(slots["s"], primary);
+    }
+    let (mut slots, brought) = (BTreeMap::from([("s", primary)]), BTreeMap::from([("t", Part::default())]));
+    let restore = Assignment::Restore { journal: 1, fence: 0, number: 3, nonce: 9 };
+    let known = Base { journal: 1, number: 3, fenced: false, nonce: None };
+    assert_eq!(take(&forget(9), &restore, &mut slots, &brought), Reception::Taken(known));
+    assert_eq!(slots, BTreeMap::from([("s", slot), ("t", slot)]));
+    assert_eq!(publish(&base, 0, &stamp), Verdict::NotReady);
 }
 
 fn numbers(text: &str) -> Vec<u64> {
@@ -139,6 +192,7 @@ fn numbers(text: &str) -> Vec<u64> {
 }
 
 fn main() {
+    want_zeros();
     let mut count = 0;
     for line in io::stdin().lock().lines() {
         let line = line.expect("a line");

@@ -1,5 +1,5 @@
 """Runs cluster/servers/native.py, which calls the proved library build/libsm_agent.so, on the vectors of standard
-input (docs/AGENT-VECTORS.md)."""
+input (tests/agent/README.md)."""
 from __future__ import annotations
 
 import sys
@@ -7,7 +7,7 @@ from pathlib import Path
 
 ROOT = Path(__file__).resolve().parents[2]
 sys.path[:0] = [str(ROOT), str(ROOT / "python"), str(ROOT / "tests/agent")]
-from vectors import TAKES, numbers_of, values_of  # noqa: E402  (the paths come first)
+from vectors import answer_of  # noqa: E402  (the paths come first)
 
 from cluster.servers.native import Agent  # noqa: E402
 
@@ -20,7 +20,7 @@ def main() -> int:
         name, *words = before.split()
         if name == "publish":
             continue
-        made = numbers_of(name, getattr(agent, name)(*values_of(TAKES[name], [int(it) for it in words])))
+        made = answer_of(agent, name, [int(it) for it in words])
         if made != [int(it) for it in after.split()]:
             sys.exit(f"another answer: {line.strip()}: {made}")
         count += 1

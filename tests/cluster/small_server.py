@@ -72,24 +72,22 @@ class SmallServer:
     def settle(self, told: dict[str, Any]) -> Message:
         """Takes a settle."""
         nonce = told.get("nonce")
-        answer, self.base = agent.settle(self.base, int(told["journal"], 16), told["base"], nonce is not None, int(nonce or "0", 16))
+        answer = self.take(agent.Settlement(int(told["journal"], 16), told["base"], nonce and int(nonce, 16)), told["slots"])
         if answer == Answer.IGNORED:
             raise Failed("Ignored")
-        if answer == Answer.TAKEN:
-            self.take(told["slots"])
         return {"settled": {"server": self.name, "base": told["base"]}}
 
-    def take(self, slots: list[dict[str, Any]]) -> None:
-        """Makes the slots those that are brought."""
+    def take(self, told: agent.Settlement | agent.Restoration, slots: list[dict[str, Any]]) -> Answer:
+        """Takes a settle or a restore: its slots become those of the server."""
         brought = {it["shard"]: Slot(cell=Cell[it["state"].upper()], load=it.get("load", 0)) for it in slots}
-        self.slots = {it: agent.place(self.slots.get(it, VACANT), brought.get(it, VACANT)) for it in {*self.slots, *brought}}
+        answer, self.base, self.slots = agent.take(self.base, told, self.slots, brought)
+        return answer
 
     def restore(self, told: dict[str, Any]) -> Message:
         """Takes a restore."""
-        answer, self.base = agent.restore(self.base, int(told["journal"], 16), told["fence"], told["base"], int(told["nonce"], 16))
-        if answer != Answer.TAKEN:
+        restoration = agent.Restoration(int(told["journal"], 16), told["fence"], told["base"], int(told["nonce"], 16))
+        if self.take(restoration, told["slots"]) != Answer.TAKEN:
             raise Failed("Ignored")
-        self.take(told["slots"])
         return {"restored": {"server": self.name, "nonce": told["nonce"]}}
 
     def notice(self, told: dict[str, Any]) -> Message:

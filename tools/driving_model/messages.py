@@ -76,13 +76,15 @@ class Fence:
 
 @dataclass(frozen=True, slots=True)
 class Settle:
-    """All slots of a server as confirmed; it names the nonce of an answer without slots, or none."""
+    """All slots of a server as confirmed; it names the nonce of an answer without slots, or none. `given_up` are the
+    shards of which the server told that it has something, and has nothing from now on."""
 
     server: int
     base: int
     journal: int
     slots: tuple[SlotTold, ...]
     nonce: int | None
+    given_up: frozenset[int] = frozenset()
 
 
 @dataclass(frozen=True, slots=True)

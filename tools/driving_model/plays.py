@@ -306,6 +306,20 @@ def pass_behind_a_fence(rules: Rules) -> None:
     play.request(1, late.write, late.passed)
 
 
+def pass_behind_a_settle(rules: Rules) -> None:
+    """A request that was passed on comes when the new owner has taken a settle by which it gives the shard up."""
+    play = Play(rules, (PRIMARY, ABSENT, ABSENT), want=1)
+    play.hand(0, 1)
+    play.turn()
+    play.turn()
+    play.request(0, Write(0, 7))
+    late = play.world.writes.passed[-1]
+    play.fence_all()
+    play.confirm(PRIMARY, ABSENT, ABSENT)
+    play.turn()
+    play.request(1, late.write, late.passed)
+
+
 def new_owner_has_less(rules: Rules) -> None:
     """In a handover to server 0 the old owner alone has all that was acknowledged."""
     play = Play(rules, (ABSENT, PRIMARY, ABSENT), want=1)
@@ -405,6 +419,7 @@ PLAYS = (
     Worked(primary_is_moved_by_a_reopening, "primary_stays"),
     Worked(work_behind_a_fence, "fence_ends_work"),
     Worked(pass_behind_a_fence, "frozen_handovers"),
+    Worked(pass_behind_a_settle, "settle_whole"),
     Worked(new_owner_has_less, "survivor_position"),
     Worked(old_owner_is_left_out, "leaver_is_empty"),
     Worked(server_of_a_replaced_document, "replaced_fenced"),

@@ -240,9 +240,15 @@ class Reopening:
                 continue
             nonce = found.nonce if isinstance(found, Unknown) and self.rules.settle_nonce else None
             slots = tuple(SlotTold(row[server], load) for row, load in zip(cells, loads))
-            settles.append(Settle(server, self.base, self.journal, slots, nonce))
+            settles.append(Settle(server, self.base, self.journal, slots, nonce, self.given_up(found, slots)))
         self.settles = tuple(settles)
         assert isinstance(self.inventories[MAP], Inventory)
+
+    def given_up(self, found: Found, slots: tuple[SlotTold, ...]) -> frozenset[int]:
+        """The shards of which a server has told that it has something, and of which it has nothing from now on."""
+        told = found.slots if isinstance(found, Inventory) else ()
+        pairs = enumerate(zip(told, slots))
+        return frozenset(it for it, (old, new) in pairs if old.cell != ABSENT and new.cell == ABSENT)
 
     @property
     def unsettled(self) -> list[int]:

@@ -76,6 +76,9 @@ class Rules:
     frozen_handovers: bool = rule("At a fenced server a slot in a handover executes and passes on nothing.")
     map_fenced: bool = rule("The map's owner is fenced and settled like a server.")
     settle_once: bool = rule("A settle is taken once, by a server that is fenced at its base.")
+    settle_whole: bool = rule(
+        "A settle is taken as a whole: of a shard of which it brings nothing the server has nothing from then on."
+    )
     settle_nonce: bool = rule(
         "An Unknown server makes a new nonce at a fence, and takes the settle for that nonce alone."
     )

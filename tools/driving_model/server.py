@@ -258,9 +258,14 @@ class Server:
         return Inventory(tuple(map(SlotFound, (it.cell for it in self.slots), positions, reached)))
 
     def take(self, told: tuple[SlotTold, ...]) -> None:
-        """Takes slots from the controller; last numbers stay."""
-        self.slots = [Slot(new.cell, last=old.last, load=new.load) for new, old in zip(told, self.slots)]
+        """Takes all slots from the controller; last numbers stay."""
+        self.slots = [self.taken(old, new) for new, old in zip(told, self.slots)]
         self.is_known = True
+
+    def taken(self, old: Slot, new: SlotTold) -> Slot:
+        """A slot as the controller brings it."""
+        is_kept = new.cell == ABSENT and not self.rules.settle_whole
+        return old if is_kept else Slot(new.cell, last=old.last, load=new.load)
 
     def settle(self, settle: Settle) -> bool:
         """Takes a settle once, while fenced at its base. Returns whether it has it, now or before."""

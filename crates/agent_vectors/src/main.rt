@@ -1,6 +1,6 @@
 //! Conformance vectors of the agent: lines of drawn values, and what the proved functions answer.
 //!
-//! `agent_vectors LINES` writes that number of lines, always the same ones; docs/AGENT-VECTORS.md has their format. A
+//! `agent_vectors LINES` writes that number of lines, always the same ones; tests/agent/README.md has their format. A
 //! port of the functions is tested by them.
 #![tactic(auto)]
 

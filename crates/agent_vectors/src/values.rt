@@ -4,14 +4,14 @@ mod shown;
 
 use crate::dice::Dice;
 use crate::line::Line;
-use drawn::{base, journal, order, request, slot};
+use drawn::{base, base_for, journal, order, request, shard, slot};
 use shown::{
-    base_numbers, order_numbers, reception_numbers, request_numbers, routing_numbers, slot_numbers,
-    verdict_number,
+    assignment_numbers, base_numbers, order_numbers, part_numbers, reception_numbers,
+    request_numbers, routing_numbers, slot_numbers, verdict_number,
 };
 use sm_agent::{
-    Reopening, Restoration, Settlement, Stamp, abandon, begin, commit, fence, has_reached_cut,
-    heed, judge, may_delete, place, publish, restore, route, seal, settle,
+    Assignment, Base, Reopening, Restoration, Settlement, Stamp, abandon, begin, commit, fence,
+    has_reached_cut, heed, judge, may_delete, publish, route, seal, take,
 };
 use std::alloc::AllocError;
 
@@ -22,8 +22,7 @@ pub fn draw_line(dice: &mut Dice, line: &mut Line, number: u32) -> Result<(), Al
         5..8 => draw_commit(dice, line),
         8..11 => draw_route(dice, line),
         11 => draw_fence(dice, line),
-        12 => draw_settle(dice, line),
-        13 => draw_restore(dice, line),
+        12..14 => draw_take(dice, line),
         14 => draw_publish(dice, line),
         _ => draw_small(dice, line),
     }
@@ -95,47 +94,72 @@ fn draw_fence(dice: &mut Dice, line: &mut Line) -> Result<(), AllocError> {
     line.push(&reception_numbers(fence(&base, &reopening, nonce), &base))
 }
 
-fn draw_settle(dice: &mut Dice, line: &mut Line) -> Result<(), AllocError> {
-    let base = base(dice);
-    let number = if dice.once_in(3) {
+/// Draws a settle that mostly ends the reopening at which the base stands.
+fn settlement(dice: &mut Dice, base: &Base) -> Settlement {
+    let number = if dice.once_in(5) {
         dice.below(5)
     } else {
         base.number
     };
-    let nonce = if dice.once_in(2) {
-        base.nonce
-    } else {
+    let nonce = if dice.once_in(3) {
         Some(dice.below(3))
+    } else {
+        base.nonce
     };
-    let settlement = Settlement {
+    Settlement {
         reopening: Reopening {
             journal: journal(dice),
             number,
         },
         nonce,
-    };
-    line.push_name("settle")?;
-    line.push(&base_numbers(&base))?;
-    line.push(&[settlement.reopening.journal, number])?;
-    line.push(&[u64::from(nonce.is_some()), nonce.unwrap_or(0)])?;
-    line.push_equals()?;
-    line.push(&reception_numbers(settle(&base, &settlement), &base))
+    }
 }
 
-fn draw_restore(dice: &mut Dice, line: &mut Line) -> Result<(), AllocError> {
-    let base = base(dice);
-    let restoration = Restoration {
+/// Draws a restore that mostly names the nonce of the base.
+fn restoration(dice: &mut Dice, base: &Base) -> Restoration {
+    Restoration {
         journal: journal(dice),
         fence: dice.below(5),
         number: dice.below(9),
         nonce: base.nonce.unwrap_or(dice.below(3)),
+    }
+}
+
+/// Draws a settle or a restore for a server of a few shards.
+fn draw_take(dice: &mut Dice, line: &mut Line) -> Result<(), AllocError> {
+    let is_settle = dice.once_in(2);
+    let base = base_for(dice, is_settle);
+    let assignment = if is_settle {
+        Assignment::Settle(settlement(dice, &base))
+    } else {
+        Assignment::Restore(restoration(dice, &base))
     };
-    line.push_name("restore")?;
+    let mut room = [shard(dice), shard(dice), shard(dice)];
+    let shards = match dice.below(4) {
+        0 => &mut room[..0],
+        1 => &mut room[..1],
+        2 => &mut room[..2],
+        _ => &mut room[..],
+    };
+    line.push_name("take")?;
     line.push(&base_numbers(&base))?;
-    line.push(&[restoration.journal, restoration.fence, restoration.number])?;
-    line.push(&[restoration.nonce])?;
+    line.push(&assignment_numbers(&assignment))?;
+    line.push(&[shards.len() as u64])?;
+    let mut brought = 0u64;
+    for shard in shards.iter() {
+        line.push(&slot_numbers(&shard.slot))?;
+        line.push(&part_numbers(&shard.brought))?;
+        brought = brought.saturating_add(u64::from(shard.brought.is_some()));
+    }
     line.push_equals()?;
-    line.push(&reception_numbers(restore(&base, &restoration), &base))
+    match take(&base, &assignment, brought, shards) {
+        Ok(reception) => line.push(&reception_numbers(reception, &base))?,
+        Err(_) => line.push(&[20])?,
+    }
+    for shard in shards.iter() {
+        line.push(&slot_numbers(&shard.slot))?;
+    }
+    Ok(())
 }
 
 fn draw_publish(dice: &mut Dice, line: &mut Line) -> Result<(), AllocError> {
@@ -157,7 +181,7 @@ fn draw_publish(dice: &mut Dice, line: &mut Line) -> Result<(), AllocError> {
 fn draw_small(dice: &mut Dice, line: &mut Line) -> Result<(), AllocError> {
     let order = order(dice);
     let slot = slot(dice, order.stamp.number);
-    match dice.below(6) {
+    match dice.below(5) {
         0 => {
             line.push_name("begin")?;
             line.push(&slot_numbers(&slot))?;
@@ -172,8 +196,7 @@ fn draw_small(dice: &mut Dice, line: &mut Line) -> Result<(), AllocError> {
             line.push(&slot_numbers(&abandon(&slot)))
         }
         2 => draw_seal(dice, line),
-        3 => draw_place(dice, line),
-        4 => {
+        3 => {
             let base = base(dice);
             line.push_name("may_delete")?;
             line.push(&base_numbers(&base))?;
@@ -205,14 +228,4 @@ fn draw_seal(dice: &mut Dice, line: &mut Line) -> Result<(), AllocError> {
     line.push(&[handover, cut])?;
     line.push_equals()?;
     line.push(&slot_numbers(&seal(&slot, handover, cut)))
-}
-
-fn draw_place(dice: &mut Dice, line: &mut Line) -> Result<(), AllocError> {
-    let before = slot(dice, 7);
-    let brought = slot(dice, 7);
-    line.push_name("place")?;
-    line.push(&slot_numbers(&before))?;
-    line.push(&slot_numbers(&brought))?;
-    line.push_equals()?;
-    line.push(&slot_numbers(&place(&before, brought.cell, brought.load)))
 }

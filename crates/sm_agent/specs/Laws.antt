@@ -1,5 +1,5 @@
 -- The laws that the definitions come to: orders have their effect once and in their order, and none at a server that is Unknown or fenced.
-use Rattle.std.specs.Prelude.{◌≡◌, ◌≢◌, ◌<◌, ◌≤◌, ◌⊎◌, ℕ, true, false, Some, None, IsSome}
+use Rattle.std.specs.Prelude.{◌≡◌, ◌≢◌, ◌<◌, ◌≤◌, ◌⊎◌, ℕ, true, false, List, Some, None, Ok, IsSome, if◌then◌else◌}
 use Rattle.sm_server.specs.declared.call.Cell.TheVariants.{Prepared, Primary, Forwarding}
 use Rattle.sm_server.specs.declared.call.Role.TheVariants as role
 use Rattle.sm_server.specs.declared.call.Call.TheVariants.{Add}
@@ -10,6 +10,9 @@ use Rattle.sm_agent.specs.declared.base.Settlement.{Settlement}
 use Rattle.sm_agent.specs.declared.base.Restoration.{Restoration}
 use Rattle.sm_agent.specs.declared.base.Reception.TheVariants.{Taken, Again, Ignored}
 use Rattle.sm_agent.specs.declared.slot.Slot.{Slot}
+use Rattle.sm_agent.specs.declared.assignment.Assignment.{Assignment}
+use Rattle.sm_agent.specs.declared.assignment.Part.{Part}
+use Rattle.sm_agent.specs.declared.assignment.ShardSlot.{ShardSlot}
 use Rattle.sm_agent.specs.declared.order.Stamp.{Stamp}
 use Rattle.sm_agent.specs.declared.order.Order.{Order}
 use Rattle.sm_agent.specs.declared.order.Verdict.TheVariants as verdict
@@ -17,8 +20,9 @@ use Rattle.sm_agent.specs.declared.request.Relay.{Relay}
 use Rattle.sm_agent.specs.declared.request.Request.{Request}
 use Rattle.sm_agent.specs.declared.request.Request.TheVariants.{Passed}
 use Rattle.sm_agent.specs.declared.request.Routing.TheVariants.{Execute, PassOn, NotHere, NotYet}
+use Rattle.sm_agent.specs.Assignment.{assigned, assigned_shard, count_brought}
 use Rattle.sm_agent.specs.Base.{lacks_slots, fenced, settled, restored, heeded}
-use Rattle.sm_agent.specs.Order.{vacant, may_delete, judged, begun_slot, abandoned, is_done, committed, published}
+use Rattle.sm_agent.specs.Order.{vacant, cell_load, may_delete, judged, begun_slot, abandoned, is_done, committed, published}
 use Rattle.sm_agent.specs.Request.{routed}
 
 -- A commit makes the call of the table.
@@ -126,3 +130,24 @@ abbrev pub DeletedSaysTheSame : Type 0
 DeletedSaysTheSame = (base : Base) (slot : Slot) → may_delete base slot ≡ true →
     ((used : ℕ) (order : Order) → judged base slot used order ≡ judged base vacant used order) ×
     ((applied : ℕ) (request : Request) → routed base slot applied request ≡ routed base vacant applied request)
+
+-- Whoever takes an assignment was given a part for each slot that it brings; afterwards it has slots, and is not fenced.
+abbrev pub TakesWhole : Type 0
+TakesWhole = (base next : Base) (assignment : Assignment) (brought : ℕ) (shards : List ShardSlot) →
+    assigned base assignment brought (count_brought shards) ≡ Ok (Taken next) →
+    (count_brought shards ≡ brought) × (lacks_slots next ≡ false) × (next.fenced ≡ false)
+
+-- The slot of which an assignment brings a part has that cell and load, and nothing at work. Its last number stays, and is 0 at a server that
+-- was Unknown.
+abbrev pub HasItsPart : Type 0
+HasItsPart = (base : Base) (shard : ShardSlot) (part : Part) → shard.brought ≡ Some part →
+    ((assigned_shard base shard).slot.cell ≡ part.cell) ×
+    ((assigned_shard base shard).slot.load ≡ cell_load part.cell part.load) ×
+    ((assigned_shard base shard).slot.last ≡ (if lacks_slots base then 0 else shard.slot.last)) ×
+    ((assigned_shard base shard).slot.at_work ≡ None) × ((assigned_shard base shard).slot.cut ≡ None)
+
+-- A server that has taken an assignment executes and passes on nothing of a shard of which it was brought nothing, however late a request comes.
+abbrev pub LeavesTheRest : Type 0
+LeavesTheRest = (base next : Base) (shard : ShardSlot) → shard.brought ≡ None →
+    ((assigned_shard base shard).slot.load ≡ 0) ×
+    ((applied : ℕ) (request : Request) → routed next (assigned_shard base shard).slot applied request ≡ NotHere)

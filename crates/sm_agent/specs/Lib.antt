@@ -1,3 +1,4 @@
+pub mod Assignment
 pub mod Base
 pub mod Laws
 pub mod Order

@@ -1,6 +1,6 @@
 //! The laws that the definitions come to, in the words of those who rely on a server.
 ghost use Rattle.sm_agent.specs.Laws.{CommitsCall, CommitsInOrder, CommitsOnce, ExecutesAtOwner, FencedCommitsNothing, MapGoesOn, OldHasNoEffect, RestoresOnce, SettlesOnce, TakesOverAtCut, UnknownDoesNothing, WorkGoesOn};
-ghost use Rattle.sm_agent.specs.Laws.{DeletedSaysTheSame, HeedsReopenings, PassesOnAtCut, RequestsWait};
+ghost use Rattle.sm_agent.specs.Laws.{DeletedSaysTheSame, HasItsPart, HeedsReopenings, LeavesTheRest, PassesOnAtCut, RequestsWait, TakesWhole};
 
 /// States that a commit makes the call of the table.
 pub fn commits_call()
@@ -84,4 +84,21 @@ pub fn heeds_reopenings()
 /// States that a slot that may be deleted says the same of orders and requests as one that is not there.
 pub fn deleted_says_the_same()
     ensures { DeletedSaysTheSame }
+{}
+
+/// States that whoever takes an assignment was given a part for each slot that it brings, and has slots afterwards.
+pub fn takes_whole()
+    ensures { TakesWhole }
+{}
+
+/// States that a slot of which an assignment brings a part has that cell and load, and nothing at work. Its last number stays, and is 0 at
+/// a server that was Unknown.
+pub fn has_its_part()
+    ensures { HasItsPart }
+{}
+
+/// States that a server that has taken an assignment executes and passes on nothing of a shard of which it was brought nothing, however late a
+/// request comes.
+pub fn leaves_the_rest()
+    ensures { LeavesTheRest }
 {}

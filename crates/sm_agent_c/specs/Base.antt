@@ -2,17 +2,13 @@
 use Rattle.std.specs.Prelude.{ℕ, ◌==◌, not, ◌&&◌, Option, Some, None, is_none, unwrap_or, option_map, if◌then◌else◌}
 use Rattle.sm_agent.specs.declared.base.Base.{Base}
 use Rattle.sm_agent.specs.declared.base.Reopening.{Reopening}
-use Rattle.sm_agent.specs.declared.base.Settlement.{Settlement}
-use Rattle.sm_agent.specs.declared.base.Restoration.{Restoration}
 use Rattle.sm_agent.specs.declared.base.Reception.{Reception}
 use Rattle.sm_agent.specs.declared.base.Reception.TheVariants.{Taken, Again, Ignored}
-use Rattle.sm_agent.specs.Base.{lacks_slots, fenced, settled, restored, heeded}
+use Rattle.sm_agent.specs.Base.{lacks_slots, fenced, heeded}
 use Rattle.sm_agent_c.specs.declared.code.TheConstants as code
 use Rattle.sm_agent_c.specs.declared.base.RawBase.{RawBase}
 use Rattle.sm_agent_c.specs.declared.base.RawReopening.{RawReopening}
-use Rattle.sm_agent_c.specs.declared.base.RawSettlement.{RawSettlement}
-use Rattle.sm_agent_c.specs.declared.base.RawRestoration.{RawRestoration}
-use Rattle.sm_agent_c.specs.Code.{is_flag, flag_of, number_if}
+use Rattle.sm_agent_c.specs.Code.{is_flag, flag_of}
 
 -- what a base of C stands for, if its flags are in range
 abbrev pub base_of : RawBase → Option Base
@@ -35,28 +31,9 @@ written_base base = record {
 abbrev pub reopening_of : RawReopening → Reopening
 reopening_of raw = record { journal = raw.journal; number = raw.number }
 
--- a settlement, if its flag is in range
-abbrev pub settlement_of : RawSettlement → Option Settlement
-settlement_of raw =
-    if not (is_flag raw.has_nonce) then None
-    else Some (record { reopening = record { journal = raw.journal; number = raw.number }; nonce = number_if raw.has_nonce raw.nonce })
-
--- a restoration
-abbrev pub restoration_of : RawRestoration → Restoration
-restoration_of raw = record { journal = raw.journal; fence = raw.fence; number = raw.number; nonce = raw.nonce }
-
 -- what becomes of a fence at a base whose flags are in range
 abbrev pub fence_of : Option Base → Reopening → ℕ → Option Reception
 fence_of base reopening nonce = option_map (λ known. fenced known reopening nonce) base
-
--- what becomes of a settlement whose flag is in range
-abbrev pub settle_of : Option Base → Option Settlement → Option Reception
-settle_of (Some base) (Some settlement) = Some (settled base settlement)
-settle_of _ _ = None
-
--- what becomes of a restoration
-abbrev pub restoring_of : Option Base → Restoration → Option Reception
-restoring_of base restoration = option_map (λ known. restored known restoration) base
 
 -- the naming of a last reopening is taken if it makes a server Unknown that had its slots
 abbrev heed_by : Base → Base → Reception

@@ -1,3 +1,4 @@
+pub mod Assignment
 pub mod Base
 pub mod Code
 pub mod Order

@@ -3,7 +3,7 @@ use Rattle.std.specs.Prelude.{ℕ, ◌==◌, not, Option, Some, None, is_some, u
 use Rattle.sm_server.specs.declared.call.Cell.{Cell}
 use Rattle.sm_server.specs.declared.call.Cell.TheVariants.{Absent, Prepared, Secondary, Primary, Forwarding}
 use Rattle.sm_agent.specs.declared.slot.Slot.{Slot}
-use Rattle.sm_agent.specs.Order.{vacant, begun_slot, abandoned, sealed, placed, is_filled}
+use Rattle.sm_agent.specs.Order.{begun_slot, abandoned, sealed, is_filled}
 use Rattle.sm_agent.specs.declared.order.Order.{Order}
 use Rattle.sm_agent_c.specs.declared.code.TheConstants.{BAD, NOT_READY, DONE, UNKNOWN, ABSENT, PREPARED, SECONDARY, PRIMARY, FORWARDING}
 use Rattle.sm_agent_c.specs.declared.slot.RawSlot.{RawSlot}
@@ -93,18 +93,6 @@ raw_abandoned raw _ = raw
 abbrev pub raw_sealed : RawSlot → Reading → ℕ → ℕ → RawSlot
 raw_sealed raw (Known slot) handover cut = written_slot (sealed slot handover cut)
 raw_sealed raw _ handover cut = raw
-
--- what a slot that a settle or a restore brings is answered
-abbrev pub placed_answer : Reading → Option Cell → ℕ
-placed_answer Bad _ = BAD
-placed_answer _ None = BAD
-placed_answer _ (Some cell) = DONE
-
--- the slot as a settle or a restore brings it
-abbrev pub raw_placed : RawSlot → Reading → Option Cell → ℕ → RawSlot
-raw_placed raw (Known slot) (Some cell) load = written_slot (placed slot cell load)
-raw_placed raw Unknown (Some cell) load = written_slot (placed vacant cell load)
-raw_placed raw _ _ load = raw
 
 -- whether a new owner has reached the cut
 abbrev pub reached_answer : Reading → ℕ → ℕ

@@ -1,12 +1,10 @@
 //! Bases as C has them, and the messages that change one.
 ghost use Rattle.std.specs.Prelude.{◌≡◌, Some};
 ghost use Rattle.sm_agent.specs.Base.{forgotten};
-ghost use Rattle.sm_agent_c.specs.Base.{base_of, written_base, reopening_of, settlement_of, restoration_of, reception_answer, received_base, fence_of, settle_of, restoring_of, heed_of};
+ghost use Rattle.sm_agent_c.specs.Base.{base_of, written_base, reopening_of, reception_answer, received_base, fence_of, heed_of};
 
 use crate::code;
-use sm_agent::{
-    Base, Reception, Reopening, Restoration, Settlement, fence, forget, heed, restore, settle,
-};
+use sm_agent::{Base, Reception, Reopening, fence, forget, heed};
 
 /// A base. Zeros are that of an Unknown server, which has yet to make a nonce.
 #[repr(C)]
@@ -25,27 +23,6 @@ pub struct RawBase {
 pub struct RawReopening {
     pub journal: u64,
     pub number: u64,
-}
-
-/// The end of a reopening at one server.
-#[repr(C)]
-#[derive(Clone, Copy)]
-pub struct RawSettlement {
-    pub journal: u64,
-    pub number: u64,
-    pub nonce: u64,
-    pub has_nonce: u32,
-    pub reserved: u32,
-}
-
-/// The answer to a server that has lost its slots.
-#[repr(C)]
-#[derive(Clone, Copy)]
-pub struct RawRestoration {
-    pub journal: u64,
-    pub fence: u64,
-    pub number: u64,
-    pub nonce: u64,
 }
 
 /// Returns what a base of C stands for, if its flags are in range.
@@ -91,36 +68,8 @@ fn read_reopening(raw: &RawReopening) -> Reopening
     }
 }
 
-/// Returns a settlement in the agent's form, if its flag is in range.
-fn read_settlement(raw: &RawSettlement) -> Option<Settlement>
-    ensures { result ≡ settlement_of raw.now }
-{
-    if !code::is_flag(raw.has_nonce) {
-        return None;
-    }
-    Some(Settlement {
-        reopening: Reopening {
-            journal: raw.journal,
-            number: raw.number,
-        },
-        nonce: code::number_if(u64::from(raw.has_nonce), raw.nonce),
-    })
-}
-
-/// Returns a restoration in the agent's form.
-fn read_restoration(raw: &RawRestoration) -> Restoration
-    ensures { result ≡ restoration_of raw.now }
-{
-    Restoration {
-        journal: raw.journal,
-        fence: raw.fence,
-        number: raw.number,
-        nonce: raw.nonce,
-    }
-}
-
 /// Stores the base of a message that is taken, and answers what became of it.
-fn receive(base: &mut RawBase, reception: Reception) -> u32
+pub(crate) fn receive(base: &mut RawBase, reception: Reception) -> u32
     ensures answer { result ≡ reception_answer (Some reception) }
     ensures base { base.new ≡ received_base base.old (Some reception) }
 {
@@ -152,30 +101,6 @@ pub extern "C" fn sm_fence(base: &mut RawBase, reopening: &RawReopening, nonce: 
         return code::BAD;
     };
     receive(base, fence(&known, &read_reopening(reopening), nonce))
-}
-
-/// Decides what becomes of a settle.
-#[unsafe(no_mangle)]
-pub extern "C" fn sm_settle(base: &mut RawBase, settlement: &RawSettlement) -> u32
-    ensures answer { result ≡ reception_answer (settle_of (base_of base.old) (settlement_of settlement.now)) }
-    ensures base { base.new ≡ received_base base.old (settle_of (base_of base.old) (settlement_of settlement.now)) }
-{
-    let (Some(known), Some(settlement)) = (read_base(base), read_settlement(settlement)) else {
-        return code::BAD;
-    };
-    receive(base, settle(&known, &settlement))
-}
-
-/// Decides what becomes of a restore.
-#[unsafe(no_mangle)]
-pub extern "C" fn sm_restore(base: &mut RawBase, restoration: &RawRestoration) -> u32
-    ensures answer { result ≡ reception_answer (restoring_of (base_of base.old) (restoration_of restoration.now)) }
-    ensures base { base.new ≡ received_base base.old (restoring_of (base_of base.old) (restoration_of restoration.now)) }
-{
-    let Some(known) = read_base(base) else {
-        return code::BAD;
-    };
-    receive(base, restore(&known, &read_restoration(restoration)))
 }
 
 /// Makes the base Unknown if a message names a last reopening that the server was not settled at.

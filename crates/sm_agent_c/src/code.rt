@@ -46,6 +46,8 @@ pub(crate) const DONE: u32 = 18;
 
 pub(crate) const NOT_DONE: u32 = 19;
 
+pub(crate) const INCOMPLETE: u32 = 20;
+
 /// The kinds of cells. Zeros are of an Unknown server.
 pub(crate) const UNKNOWN: u32 = 0;
 
@@ -74,6 +76,11 @@ pub(crate) const PREPARE_DROP: u32 = 5;
 pub(crate) const AS_PRIMARY: u32 = 1;
 
 pub(crate) const AS_SECONDARY: u32 = 2;
+
+/// The kinds of assignments.
+pub(crate) const SETTLE: u32 = 1;
+
+pub(crate) const RESTORE: u32 = 2;
 
 /// Returns the number of a verdict.
 pub(crate) fn verdict_code(verdict: Verdict) -> u32

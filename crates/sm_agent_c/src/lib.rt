@@ -1,16 +1,15 @@
-//! The agent for programs in C: structs of fixed layout, and functions on pointers to one struct each. include/sm_agent.h declares them.
+//! The agent for programs in C: structs of fixed layout, and functions on pointers to these. include/sm_agent.h declares them.
 #![tactic(auto)]
 
+mod assignment;
 mod base;
 mod code;
 mod order;
 mod request;
 mod slot;
 
-pub use base::{
-    RawBase, RawReopening, RawRestoration, RawSettlement, sm_fence, sm_forget, sm_heed, sm_restore,
-    sm_settle,
-};
+pub use assignment::{RawAssignment, RawShardSlot, sm_take};
+pub use base::{RawBase, RawReopening, sm_fence, sm_forget, sm_heed};
 pub use order::{RawOrder, RawPublication, sm_commit, sm_judge, sm_may_delete, sm_publish};
 pub use request::{RawRequest, sm_route};
-pub use slot::{RawSlot, sm_abandon, sm_begin, sm_has_reached_cut, sm_place, sm_seal, sm_vacant};
+pub use slot::{RawSlot, sm_abandon, sm_begin, sm_has_reached_cut, sm_seal, sm_vacant};

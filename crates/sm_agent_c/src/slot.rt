@@ -1,12 +1,12 @@
 //! Slots as C has them, and the functions that change one.
 ghost use Rattle.std.specs.Prelude.{◌≡◌};
-ghost use Rattle.sm_agent_c.specs.Slot.{raw_cell, cell_kind, cell_party, cell_handover, slot_of, written_slot, answer_of, begun_answer, raw_begun, raw_abandoned, raw_sealed, placed_answer, raw_placed, reached_answer};
+ghost use Rattle.sm_agent_c.specs.Slot.{raw_cell, cell_kind, cell_party, cell_handover, slot_of, written_slot, answer_of, begun_answer, raw_begun, raw_abandoned, raw_sealed, reached_answer};
 ghost use Rattle.sm_agent.specs.Order.{vacant};
 ghost use Rattle.sm_agent_c.specs.Order.{raw_order};
 
 use crate::code;
 use crate::order::{RawOrder, read_order};
-use sm_agent::{Slot, abandon, begin, has_reached_cut, place, seal, vacant};
+use sm_agent::{Slot, abandon, begin, has_reached_cut, seal, vacant};
 use sm_server::{Cell, ServerId};
 
 /// A slot. Zeros are that of an Unknown server.
@@ -35,7 +35,7 @@ pub(crate) enum Reading {
 }
 
 /// Returns the cell of a kind.
-fn read_cell(kind: u32, party: u32, handover: u64) -> Option<Cell>
+pub(crate) fn read_cell(kind: u32, party: u32, handover: u64) -> Option<Cell>
     ensures { result ≡ raw_cell kind party handover }
 {
     match kind {
@@ -186,24 +186,6 @@ pub extern "C" fn sm_seal(slot: &mut RawSlot, handover: u64, cut: u64) -> u32
         *slot = write_slot(&seal(known, handover, cut));
     }
     answer_to(&reading)
-}
-
-/// Makes the slot what a settle or a restore brings: the cell, its handover and the load of `brought`.
-#[unsafe(no_mangle)]
-pub extern "C" fn sm_place(slot: &mut RawSlot, brought: &RawSlot) -> u32
-    ensures answer { result ≡ placed_answer (slot_of slot.old) (raw_cell brought.now.cell brought.now.party brought.now.handover) }
-    ensures slot { slot.new ≡ raw_placed slot.old (slot_of slot.old) (raw_cell brought.now.cell brought.now.party brought.now.handover) brought.now.load }
-{
-    let Some(cell) = read_cell(brought.cell, brought.party, brought.handover) else {
-        return code::BAD;
-    };
-    let known = match read_slot(slot) {
-        Reading::Bad => return code::BAD,
-        Reading::Unknown => vacant(),
-        Reading::Known(known) => known,
-    };
-    *slot = write_slot(&place(&known, cell, brought.load));
-    code::DONE
 }
 
 /// Tells whether a new owner has applied all writes up to the old one's cut.

@@ -1,6 +1,6 @@
 //! Values that are drawn so that each case of the functions comes often.
 use crate::dice::Dice;
-use sm_agent::{Base, Order, Relay, Request, Slot, Stamp};
+use sm_agent::{Base, Order, Part, Relay, Request, ShardSlot, Slot, Stamp, vacant};
 use sm_server::{Call, Cell, Role, ServerId};
 
 /// Draws a journal's number, mostly 1.
@@ -68,6 +68,22 @@ pub fn base(dice: &mut Dice) -> Base {
     }
 }
 
+/// Draws a base at which a settle or a restore is often taken: a fenced one, or an Unknown one.
+pub fn base_for(dice: &mut Dice, is_settle: bool) -> Base {
+    let drawn = base(dice);
+    let is_apt = !dice.once_in(4);
+    let nonce = Some(dice.below(3));
+    Base {
+        fenced: drawn.fenced || (is_settle && is_apt),
+        nonce: if is_apt && !is_settle {
+            nonce
+        } else {
+            drawn.nonce
+        },
+        ..drawn
+    }
+}
+
 pub fn order(dice: &mut Dice) -> Order {
     let stamp = Stamp {
         journal: journal(dice),
@@ -116,4 +132,21 @@ pub fn request(dice: &mut Dice) -> Request {
         handover: dice.below(2),
         cut: dice.below(6),
     })
+}
+
+/// Draws a shard of a server that takes an assignment. Often the server has nothing of it, or is brought nothing.
+pub fn shard(dice: &mut Dice) -> ShardSlot {
+    let slot = if dice.once_in(3) {
+        vacant()
+    } else {
+        slot(dice, 7)
+    };
+    let part = Part {
+        cell: cell(dice),
+        load: dice.below(4),
+    };
+    ShardSlot {
+        slot,
+        brought: if dice.once_in(3) { None } else { Some(part) },
+    }
 }

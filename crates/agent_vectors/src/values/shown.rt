@@ -1,5 +1,5 @@
-//! Values as numbers, in the order of docs/AGENT-VECTORS.md.
-use sm_agent::{Base, Order, Reception, Relay, Request, Routing, Slot, Verdict};
+//! Values as numbers, in the order of tests/agent/README.md.
+use sm_agent::{Assignment, Base, Order, Part, Reception, Relay, Request, Routing, Slot, Verdict};
 use sm_server::{Call, Cell, Refusal, Role};
 
 pub fn base_numbers(base: &Base) -> [u64; 5] {
@@ -12,14 +12,19 @@ pub fn base_numbers(base: &Base) -> [u64; 5] {
     ]
 }
 
+/// Returns a cell's kind, and the other party and the number of a handover.
+fn cell_numbers(cell: &Cell) -> [u64; 3] {
+    match cell {
+        Cell::Absent => [1, 0, 0],
+        Cell::Prepared { from, number } => [2, u64::from(from.number()), *number],
+        Cell::Secondary => [3, 0, 0],
+        Cell::Primary => [4, 0, 0],
+        Cell::Forwarding { to, number } => [5, u64::from(to.number()), *number],
+    }
+}
+
 pub fn slot_numbers(slot: &Slot) -> [u64; 8] {
-    let (kind, party, handover) = match slot.cell {
-        Cell::Absent => (1, 0, 0),
-        Cell::Prepared { from, number } => (2, u64::from(from.number()), number),
-        Cell::Secondary => (3, 0, 0),
-        Cell::Primary => (4, 0, 0),
-        Cell::Forwarding { to, number } => (5, u64::from(to.number()), number),
-    };
+    let [kind, party, handover] = cell_numbers(&slot.cell);
     [
         kind,
         party,
@@ -30,6 +35,32 @@ pub fn slot_numbers(slot: &Slot) -> [u64; 8] {
         slot.cut.unwrap_or(0),
         u64::from(slot.cut.is_some()),
     ]
+}
+
+/// Returns what is brought of a shard, zeros if nothing is.
+pub fn part_numbers(brought: &Option<Part>) -> [u64; 4] {
+    match brought {
+        None => [0, 0, 0, 0],
+        Some(part) => {
+            let [kind, party, handover] = cell_numbers(&part.cell);
+            [kind, party, handover, part.load]
+        }
+    }
+}
+
+/// Returns an assignment's kind, journal, fence, number, whether it has a nonce, and that.
+pub fn assignment_numbers(assignment: &Assignment) -> [u64; 6] {
+    match assignment {
+        Assignment::Settle(it) => [
+            1,
+            it.reopening.journal,
+            0,
+            it.reopening.number,
+            u64::from(it.nonce.is_some()),
+            it.nonce.unwrap_or(0),
+        ],
+        Assignment::Restore(it) => [2, it.journal, it.fence, it.number, 1, it.nonce],
+    }
 }
 
 fn role_number(role: Role) -> u64 {
