@@ -7,6 +7,8 @@ from collections.abc import Iterator
 from dataclasses import dataclass, field
 
 HEAD = struct.Struct("<cQQ")
+# The number of last bytes that are written anew when a file is opened.
+RENEWED = 1 << 23
 
 
 def notes_in(text: bytes) -> Iterator[tuple[str, int, bytes]]:
@@ -29,6 +31,7 @@ class Disk:
 
     def take(self, text: bytes) -> None:
         """Takes the notes of a process that has ended."""
+        self.look_for_renewal(list(notes_in(text)))
         for note in notes_in(text):
             if note[0] == "S":
                 for it in self.since:
@@ -38,6 +41,21 @@ class Disk:
                 self.is_named = True
             else:
                 self.since.append(note)
+
+    def look_for_renewal(self, notes: list[tuple[str, int, bytes]]) -> None:
+        """Raises unless a process writes the last bytes anew before its first sync, which may else leave them in memory."""
+        kinds = [kind for kind, _, _ in notes]
+        if "S" not in kinds:
+            return
+        text = self.synced
+        for it in self.since:
+            text = done(text, it)
+        place = max(0, len(text) - RENEWED)
+        for kind, at, written in notes[:kinds.index("S")]:
+            if kind == "W" and at <= place and written == text[at:at + len(written)]:
+                place = max(place, at + len(written))
+        if place < len(text):
+            raise AssertionError(f"the bytes from {place} on are not written anew before the first sync")
 
     def keep(self, text: bytes) -> None:
         """Takes what stands in the file, where the last write or cut may not have come to its end."""
@@ -52,15 +70,19 @@ class Disk:
                 raise AssertionError("the notes do not tell what stands in the file")
 
     def left(self, dice: random.Random) -> bytes | None:
-        """Returns what a crash leaves of the file now: any part of what was not synced. None if it leaves no file."""
+        """Returns what a crash leaves of the file now: any part of what was not synced. None if it leaves no file.
+
+        Bytes that are written again as they stand are there afterwards, or as they were on the disk."""
         if not self.is_named and dice.random() < 0.5:
             return None
-        text = self.synced
+        text = whole = self.synced
         for note in self.since:
-            if note[0] == "W":
+            renews = note[0] == "W" and done(whole, note) == whole
+            if note[0] == "W" and not renews:
                 text = text[:note[1]] + torn(note[2], dice)
             elif dice.random() < 0.5:
                 text = done(text, note)
+            whole = done(whole, note)
         return text
 
 

@@ -1,3 +1,5 @@
 pub mod Store
+pub mod Disk
+pub mod FileStore
 pub mod Shot
 pub mod MemoryStore

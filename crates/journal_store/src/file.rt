@@ -1,119 +1,85 @@
-//! A store in a file. Nothing is claimed of its bytes, as std claims nothing of files: its methods have to be read.
-ghost use Rattle.std.specs.Prelude.{◌≤◌, length, IfOk};
+//! A store in a file. It keeps its word if the disk under it does.
+ghost use Rattle.std.specs.Prelude.{◌≡◌, IfOk};
+ghost use Rattle.journal_store.specs.Store.{written_now};
+ghost use Rattle.journal_store.specs.Disk.{IsFirmBut, file_left};
+ghost use Rattle.journal_store.specs.FileStore.{KeepsFile};
 
+use crate::disk::Disk;
 use crate::store::{Store, StoreFailure, StoreFault};
-use std::fs::{File, OpenOptions, TryLockError};
-use std::io::{self, Read, Seek, SeekFrom, Write};
-use std::path::Path;
-use std::rt::Files;
-use thiserror::Error;
 
-/// Why a file was not opened.
-#[derive(Clone, Copy, Debug, Drop, Error)]
-pub enum OpenFailure {
-    #[error("another process has the journal")]
-    InUse,
-    #[error("the journal was not opened: {cause}")]
-    File { cause: io::Error },
-    #[error("the journal was not locked: {cause}")]
-    Lock { cause: io::Error },
-    #[error("the folder of the journal was not opened: {cause}")]
-    Folder { cause: io::Error },
-}
+/// The number of last bytes that are written anew when a file is opened: more than the lines of one turn, as a rule.
+pub const RENEWED: u64 = 1 << 23;
 
-/// A file that this process alone has locked, and the folder that names it.
+/// A file whose bytes and whose name are brought to the disk.
 #[derive(Drop)]
-pub struct FileStore {
-    file: File,
-    folder: File,
-    is_folder_synced: bool,
+pub struct FileStore<D: Disk + Drop> {
+    disk: D,
+    /// Whether this store has synced the folder.
+    is_named: bool,
 }
 
-impl FileStore {
-    /// Opens a file, which is made if there is none, and locks it.
-    pub fn open<R: Files<File = File>>(rt: &R, path: &str) -> Result<FileStore, OpenFailure> {
-        let file = OpenOptions::new()
-            .read(true)
-            .write(true)
-            .create(true)
-            .open(rt, path)
-            .map_err(|cause| OpenFailure::File { cause })?;
-        match file.try_lock() {
-            Ok(()) => {}
-            Err(TryLockError::WouldBlock) => return Err(OpenFailure::InUse),
-            Err(TryLockError::Error(cause)) => return Err(OpenFailure::Lock { cause }),
-        }
-        let folder = match Path::new(path).parent().and_then(|folder| folder.to_str()) {
-            Some("") | None => ".",
-            Some(folder) => folder,
-        };
-        let folder = File::open(rt, folder).map_err(|cause| OpenFailure::Folder { cause })?;
-        Ok(FileStore {
-            file,
-            folder,
-            is_folder_synced: false,
-        })
-    }
-
-    /// Reads bytes from a place on, and returns how many.
-    fn read_from(&mut self, at: u64, piece: &mut [u8]) -> io::Result<usize>
-        ensures { IfOk result (λ n. n ≤ length piece.old) }
+impl<D: Disk + Drop> FileStore<D> {
+    /// Takes a file, and writes its last 8 MiB anew: a sync that failed in an earlier process may have left the last
+    /// append in memory alone, where a later sync does not look for it. What stands in front of them has to be on the
+    /// disk.
+    pub fn open(disk: D) -> Result<FileStore<D>, StoreFault>
+        ensures word { D.keeps_word disk → IsFirmBut D.moment D.written_at D.left_at disk 8388608
+            → IfOk result (KeepsFile D.keeps_word D.moment D.written_at D.left_at D.nameless_at D.own_from) }
+        ensures written { D.keeps_word disk → IfOk result (λ store.
+            written_now D.moment D.written_at store.disk ≡ written_now D.moment D.written_at disk) }
     {
-        self.file.seek(SeekFrom::Start(at))?;
-        self.file.read(piece)
-    }
-
-    /// Writes bytes behind the last.
-    fn write_behind(&mut self, bytes: &[u8]) -> io::Result<()> {
-        self.file.seek(SeekFrom::End(0))?;
-        self.file.write_all(bytes)
-    }
-
-    /// Syncs the file, and with the first sync the folder that names it.
-    fn sync_all(&mut self) -> io::Result<()> {
-        self.file.sync_all()?;
-        if !self.is_folder_synced {
-            self.folder.sync_all()?;
-            self.is_folder_synced = true;
+        let mut disk = disk;
+        match disk.renew(RENEWED) {
+            Ok(()) => Ok(FileStore {
+                disk,
+                is_named: false,
+            }),
+            Err(failure) => Err(StoreFault::Failed(failure)),
         }
-        Ok(())
     }
 }
 
-impl Store for FileStore {
-    ghost use Rattle.std.specs.Prelude.{[]};
+impl<D: Disk + Drop> Store for FileStore<D> {
+    ghost keeps_word = { KeepsFile D.keeps_word D.moment D.written_at D.left_at D.nameless_at D.own_from };
 
-    ghost keeps_word = { λ _. ⊥ };
+    ghost moment = { λ store. D.moment store.disk };
 
-    ghost moment = { λ _. 0 };
+    ghost written_at = { λ store. D.written_at store.disk };
 
-    ghost written_at = { λ _ _. [] };
-
-    ghost left_at = { λ _ _ _. ⊥ };
+    ghost left_at = { λ store. file_left D.left_at D.nameless_at store.disk };
 
     fn read(&mut self, at: u64, piece: &mut [u8]) -> Result<usize, StoreFault> {
-        let count = self
-            .read_from(at, piece)
-            .map_err(|cause| StoreFailure::Read { cause })?;
-        Ok(count)
+        match self.disk.read(at, piece) {
+            Ok(count) => Ok(count),
+            Err(cause) => Err(StoreFault::Failed(StoreFailure::Read { cause })),
+        }
     }
 
     fn append(&mut self, bytes: &[u8]) -> Result<(), StoreFault> {
-        self.write_behind(bytes)
-            .map_err(|cause| StoreFailure::Append { cause })?;
-        Ok(())
+        match self.disk.append(bytes) {
+            Ok(()) => Ok(()),
+            Err(cause) => Err(StoreFault::Failed(StoreFailure::Append { cause })),
+        }
     }
 
     fn cut(&mut self, least: u64) -> Result<(), StoreFault> {
-        self.file
-            .set_len(least)
-            .map_err(|cause| StoreFailure::Cut { cause })?;
-        Ok(())
+        match self.disk.cut(least) {
+            Ok(()) => Ok(()),
+            Err(cause) => Err(StoreFault::Failed(StoreFailure::Cut { cause })),
+        }
     }
 
     fn sync(&mut self) -> Result<(), StoreFault> {
-        self.sync_all()
-            .map_err(|cause| StoreFailure::Sync { cause })?;
+        if let Err(cause) = self.disk.sync() {
+            return Err(StoreFault::Failed(StoreFailure::Sync { cause }));
+        }
+        if self.is_named {
+            return Ok(());
+        }
+        if let Err(cause) = self.disk.sync_folder() {
+            return Err(StoreFault::Failed(StoreFailure::Sync { cause }));
+        }
+        self.is_named = true;
         Ok(())
     }
 }
