@@ -204,15 +204,15 @@ def without(told: Json, *members: str) -> Json:
     return {name: it for name, it in told.items() if name not in members}
 
 
-def told_slots(slots: tuple[SlotTold, ...]) -> list[Json]:
-    """Returns the slots of a restore or a settle."""
+def told_slots(slots: tuple[SlotTold, ...], given_up: frozenset[int] = frozenset()) -> list[Json]:
+    """The slots of a restore or a settle."""
     found = []
     for shard, slot in enumerate(slots):
         cell = slot.cell
         told = {"shard": shard_name(shard), "cell": cell.kind.value, "load": slot.load}
         if cell.is_in_handover:
             told |= {"party": server_name(cell.party), "handover": cell.handover}
-        found += [told] if cell != ABSENT else []
+        found += [told] if cell != ABSENT or shard in given_up else []
     return found
 
 
@@ -222,7 +222,8 @@ def settle_form(settle: Settle | SettleMap) -> Json:
     if isinstance(settle, SettleMap):
         entries = [(shard_name(it), server_name(to)) for it, to in enumerate(settle.entries)]
         return told | {"entries": [{"shard": it, "to": to, "version": settle.base} for it, to in entries]}
-    return told | {"nonce": None if settle.nonce is None else f"{settle.nonce:x}", "slots": told_slots(settle.slots)}
+    nonce = None if settle.nonce is None else f"{settle.nonce:x}"
+    return told | {"nonce": nonce, "slots": told_slots(settle.slots, settle.given_up)}
 
 
 def reply_form(reply: replies.Reply) -> Json:

@@ -77,12 +77,18 @@ class Writer:
         told = {"cell": cell.kind.value}
         return told | ({"party": self.server(cell.party), "handover": cell.handover} if cell.is_in_handover else {})
 
+    def slot(self, shard: int, slot: SlotTold) -> Json:
+        """A slot of a server."""
+        return {"shard": self.shard(shard)} | self.cell(slot.cell) | {"load": slot.load}
+
     def slots(self, slots: Iterable[SlotTold]) -> list[Json]:
         """Returns the slots of a server that are not absent."""
-        return [
-            {"shard": self.shard(it)} | self.cell(slot.cell) | {"load": slot.load}
-            for it, slot in enumerate(slots) if slot.cell != ABSENT
-        ]
+        return [self.slot(it, slot) for it, slot in enumerate(slots) if slot.cell != ABSENT]
+
+    def brought(self, settle: Settle) -> list[Json]:
+        """The slots that a settle brings: those that are not absent from now on, and those that the server gives up."""
+        slots = enumerate(settle.slots)
+        return [self.slot(it, slot) for it, slot in slots if slot.cell != ABSENT or it in settle.given_up]
 
     def restore(self, restore: Restore) -> Json:
         """Returns a restore."""
@@ -103,7 +109,7 @@ class Writer:
             entries = [(self.shard(it), self.server(settle.entries[it])) for it in self.controller.reopening.shards]
             return told | {"entries": [{"shard": it, "to": to, "version": settle.base} for it, to in entries]}
         assert isinstance(settle, Settle)
-        return told | {"nonce": hexadecimal(settle.nonce), "slots": self.slots(settle.slots)}
+        return told | {"nonce": hexadecimal(settle.nonce), "slots": self.brought(settle)}
 
     # Placements.
 

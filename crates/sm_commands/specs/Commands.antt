@@ -12,6 +12,10 @@ use Rattle.sm_commands.specs.declared.command.ToldText.{ToldText}
 use Rattle.sm_commands.specs.declared.command.ToldText.TheVariants as told
 use Rattle.sm_commands.specs.declared.command.LineCommand.{LineCommand}
 use Rattle.sm_commands.specs.declared.command.LineCommand.TheVariants as line
+use Rattle.sm_commands.specs.declared.command.DriverCommand.TheVariants as driver
+use Rattle.sm_commands.specs.declared.command.ReopeningCommand.TheVariants as reopening
+use Rattle.sm_commands.specs.declared.command.Question.TheVariants as question
+use Rattle.sm_commands.specs.declared.command.PlanQuestion.TheVariants as plans
 
 -- the name is that of a server
 abbrev pub IsServerOf : Option (Bor Setup) → List ℕ → Type 0
@@ -39,22 +43,22 @@ IsToldBy _ _ = ⊥
 -- names are known, lists and numbers are below their limits, and random bits are not 0
 abbrev pub IsKnownCommand : Option (Bor Setup) → LineCommand → Type 0
 IsKnownCommand _ (line.Open _ journal _) = journal ≢ 0
-IsKnownCommand _ (line.Answered _ _ number) = number ≤ MOST_EXACT
-IsKnownCommand config (line.Approve server _) = IsServerOf config server.now
-IsKnownCommand _ (line.Restarted permit base) = (permit ≤ MOST_EXACT) × IfSome base (λ number. number ≤ MOST_EXACT)
-IsKnownCommand config (line.Restore server nonce) = IsServerOf config server.now × (nonce ≢ 0)
-IsKnownCommand _ (line.Reopen _ lost journal epoch) =
+IsKnownCommand _ (line.Driver (driver.Answered _ _ number)) = number ≤ MOST_EXACT
+IsKnownCommand config (line.Driver (driver.Approve server _)) = IsServerOf config server.now
+IsKnownCommand _ (line.Driver (driver.Restarted permit base)) = (permit ≤ MOST_EXACT) × IfSome base (λ number. number ≤ MOST_EXACT)
+IsKnownCommand config (line.Driver (driver.Restore server nonce)) = IsServerOf config server.now × (nonce ≢ 0)
+IsKnownCommand _ (line.Reopening (reopening.Reopen _ lost journal epoch)) =
     (length lost.now ≤ MOST_SERVERS) × IfSome journal (λ bits. bits ≢ 0) × IfSome epoch (λ number. number ≢ 0)
-IsKnownCommand _ (line.Fenced server base told) = (base ≤ MOST_EXACT) × IsToldBy server told
-IsKnownCommand _ (line.Confirm base cells) = (base ≤ MOST_EXACT) × (length cells.now ≤ MOST_RIGHTS)
-IsKnownCommand _ (line.Settled _ base) = base ≤ MOST_EXACT
-IsKnownCommand _ (line.Moves moves) = length moves.now ≤ MOST_MOVES
-IsKnownCommand config (line.Drain server) = IsServerOf config server.now
-IsKnownCommand config (line.State of) = IsKnownState config of
-IsKnownCommand _ (line.Since place) = place ≤ MOST_EXACT
-IsKnownCommand config (line.Audit server place slots) =
+IsKnownCommand _ (line.Reopening (reopening.Fenced server base told)) = (base ≤ MOST_EXACT) × IsToldBy server told
+IsKnownCommand _ (line.Reopening (reopening.Confirm base cells)) = (base ≤ MOST_EXACT) × (length cells.now ≤ MOST_RIGHTS)
+IsKnownCommand _ (line.Reopening (reopening.Settled _ base)) = base ≤ MOST_EXACT
+IsKnownCommand _ (line.Question (question.InForce (plans.Moves moves))) = length moves.now ≤ MOST_MOVES
+IsKnownCommand config (line.Question (question.InForce (plans.Drain server))) = IsServerOf config server.now
+IsKnownCommand config (line.Question (question.State of)) = IsKnownState config of
+IsKnownCommand _ (line.Question (question.Since place)) = place ≤ MOST_EXACT
+IsKnownCommand config (line.Question (question.InForce (plans.Audit server place slots))) =
     IsServerOf config server.now × (place ≤ MOST_EXACT) × (length slots.now ≤ MOST_RIGHTS)
-IsKnownCommand _ (line.Failed _ _ number _) = number ≤ MOST_EXACT
+IsKnownCommand _ (line.Question (question.InForce (plans.Failed _ _ number _))) = number ≤ MOST_EXACT
 IsKnownCommand _ _ = Unit {0}
 
 -- all that is known of the command has nothing to do with names

@@ -17,30 +17,34 @@ use Rattle.sm_commands.specs.declared.command.ToldText.{ToldText}
 use Rattle.sm_commands.specs.declared.command.ToldText.TheVariants as told
 use Rattle.sm_commands.specs.declared.command.LineCommand.{LineCommand}
 use Rattle.sm_commands.specs.declared.command.LineCommand.TheVariants as line
+use Rattle.sm_commands.specs.declared.command.DriverCommand.TheVariants as driver
+use Rattle.sm_commands.specs.declared.command.ReopeningCommand.TheVariants as reopening
+use Rattle.sm_commands.specs.declared.command.Question.TheVariants as question
+use Rattle.sm_commands.specs.declared.command.PlanQuestion.TheVariants as plans
 
 -- the word of a command
 abbrev pub command_word : LineCommand → List ℕ
 command_word (line.Open _ _ _) = codes "open"
-command_word (line.Begin _ _) = codes "begin"
-command_word (line.Answered _ _ _) = codes "answered"
-command_word (line.Approve _ _) = codes "approve"
-command_word (line.Restarted _ _) = codes "restarted"
-command_word (line.Restore _ _) = codes "restore"
-command_word line.NewEpoch = codes "new_epoch"
-command_word (line.Reopen _ _ _ _) = codes "reopen"
-command_word (line.Fenced _ _ _) = codes "fenced"
-command_word (line.Confirm _ _) = codes "confirm"
-command_word (line.Settled _ _) = codes "settled"
-command_word (line.Check _) = codes "check"
-command_word (line.Moves _) = codes "moves"
-command_word (line.Drain _) = codes "drain"
-command_word line.Map = codes "map"
-command_word line.Orders = codes "orders"
-command_word line.Hello = codes "hello"
-command_word (line.State _) = codes "state"
-command_word (line.Since _) = codes "since"
-command_word (line.Audit _ _ _) = codes "audit"
-command_word (line.Failed _ _ _ _) = codes "failed"
+command_word (line.Driver (driver.Begin _ _)) = codes "begin"
+command_word (line.Driver (driver.Answered _ _ _)) = codes "answered"
+command_word (line.Driver (driver.Approve _ _)) = codes "approve"
+command_word (line.Driver (driver.Restarted _ _)) = codes "restarted"
+command_word (line.Driver (driver.Restore _ _)) = codes "restore"
+command_word (line.Driver driver.NewEpoch) = codes "new_epoch"
+command_word (line.Reopening (reopening.Reopen _ _ _ _)) = codes "reopen"
+command_word (line.Reopening (reopening.Fenced _ _ _)) = codes "fenced"
+command_word (line.Reopening (reopening.Confirm _ _)) = codes "confirm"
+command_word (line.Reopening (reopening.Settled _ _)) = codes "settled"
+command_word (line.Question (question.InForce (plans.Check _))) = codes "check"
+command_word (line.Question (question.InForce (plans.Moves _))) = codes "moves"
+command_word (line.Question (question.InForce (plans.Drain _))) = codes "drain"
+command_word (line.Question question.Map) = codes "map"
+command_word (line.Question question.Orders) = codes "orders"
+command_word (line.Question question.Hello) = codes "hello"
+command_word (line.Question (question.State _)) = codes "state"
+command_word (line.Question (question.Since _)) = codes "since"
+command_word (line.Question (question.InForce (plans.Audit _ _ _))) = codes "audit"
+command_word (line.Question (question.InForce (plans.Failed _ _ _ _))) = codes "failed"
 
 -- the word of an answer that failed
 abbrev pub failed_word : FailedAnswer → List ℕ
@@ -79,25 +83,25 @@ IsOfOrder d plan stream number =
 abbrev pub HasMembers : Data → LineCommand → Type 0
 HasMembers d (line.Open document journal epoch) =
     (value_at at.Document d ≡ Some (view document.now)) × (bits_at at.Journal d ≡ Some journal) × (whole_at at.Epoch d ≡ Some epoch)
-HasMembers d (line.Begin plan name) = (value_at at.Plan d ≡ Some (view plan.now)) × (text_at at.Name d ≡ Some name.now)
-HasMembers d (line.Answered plan stream number) = IsOfOrder d plan stream number
-HasMembers d (line.Approve server by) = (text_at at.Server d ≡ Some server.now) × (text_at at.By d ≡ Some by.now)
-HasMembers d (line.Restarted permit base) = (whole_at at.Permit d ≡ Some permit) × (whole_at at.Base d ≡ base)
-HasMembers d (line.Restore server nonce) = (text_at at.Server d ≡ Some server.now) × (bits_at at.Nonce d ≡ Some nonce)
-HasMembers d (line.Reopen document lost journal epoch) =
+HasMembers d (line.Driver (driver.Begin plan name)) = (value_at at.Plan d ≡ Some (view plan.now)) × (text_at at.Name d ≡ Some name.now)
+HasMembers d (line.Driver (driver.Answered plan stream number)) = IsOfOrder d plan stream number
+HasMembers d (line.Driver (driver.Approve server by)) = (text_at at.Server d ≡ Some server.now) × (text_at at.By d ≡ Some by.now)
+HasMembers d (line.Driver (driver.Restarted permit base)) = (whole_at at.Permit d ≡ Some permit) × (whole_at at.Base d ≡ base)
+HasMembers d (line.Driver (driver.Restore server nonce)) = (text_at at.Server d ≡ Some server.now) × (bits_at at.Nonce d ≡ Some nonce)
+HasMembers d (line.Reopening (reopening.Reopen document lost journal epoch)) =
     (value_at at.Document d ≡ Some (view document.now)) × (entries_at at.Lost d ≡ items_view lost.now)
     × (bits_at at.Journal d ≡ journal) × (whole_at at.Epoch d ≡ epoch)
-HasMembers d (line.Fenced server base told) = IsFrom d server × (whole_at at.Base d ≡ Some base) × HasToldMembers d told
-HasMembers d (line.Confirm base cells) = (whole_at at.Base d ≡ Some base) × (entries_at at.Cells d ≡ items_view cells.now)
-HasMembers d (line.Settled server base) = IsFrom d server × (whole_at at.Base d ≡ Some base)
-HasMembers d (line.Check plan) = value_at at.Plan d ≡ Some (view plan.now)
-HasMembers d (line.Moves moves) = list_at at.Moves d ≡ Some (items_view moves.now)
-HasMembers d (line.Drain server) = text_at at.Server d ≡ Some server.now
-HasMembers d (line.State of) = HasStateMembers d of
-HasMembers d (line.Since place) = whole_at at.Place d ≡ Some place
-HasMembers d (line.Audit server place slots) =
+HasMembers d (line.Reopening (reopening.Fenced server base told)) = IsFrom d server × (whole_at at.Base d ≡ Some base) × HasToldMembers d told
+HasMembers d (line.Reopening (reopening.Confirm base cells)) = (whole_at at.Base d ≡ Some base) × (entries_at at.Cells d ≡ items_view cells.now)
+HasMembers d (line.Reopening (reopening.Settled server base)) = IsFrom d server × (whole_at at.Base d ≡ Some base)
+HasMembers d (line.Question (question.InForce (plans.Check plan))) = value_at at.Plan d ≡ Some (view plan.now)
+HasMembers d (line.Question (question.InForce (plans.Moves moves))) = list_at at.Moves d ≡ Some (items_view moves.now)
+HasMembers d (line.Question (question.InForce (plans.Drain server))) = text_at at.Server d ≡ Some server.now
+HasMembers d (line.Question (question.State of)) = HasStateMembers d of
+HasMembers d (line.Question (question.Since place)) = whole_at at.Place d ≡ Some place
+HasMembers d (line.Question (question.InForce (plans.Audit server place slots))) =
     (text_at at.Server d ≡ Some server.now) × (whole_at at.Place d ≡ Some place) × (list_at at.Slots d ≡ Some (items_view slots.now))
-HasMembers d (line.Failed plan stream number answer) = IsOfOrder d plan stream number × (text_at at.Answer d ≡ Some (failed_word answer))
+HasMembers d (line.Question (question.InForce (plans.Failed plan stream number answer))) = IsOfOrder d plan stream number × (text_at at.Answer d ≡ Some (failed_word answer))
 HasMembers d _ = Unit {0}
 
 -- a line says a command

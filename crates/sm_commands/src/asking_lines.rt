@@ -8,7 +8,7 @@ ghost use Rattle.sm_commands.specs.Values.{text_at};
 ghost use Rattle.sm_commands.specs.declared.command_member.CommandMember.TheVariants as members;
 
 use crate::bad_line::BadLine;
-use crate::command::{FailedAnswer, LineCommand, StateOf};
+use crate::command::{FailedAnswer, LineCommand, PlanQuestion, Question, StateOf};
 use crate::command_member::CommandMember;
 use crate::form::MOST_EXACT;
 use crate::reader::Reader;
@@ -36,7 +36,9 @@ pub fn read_check<'t, 'a>(line: &'t Tree<'a>) -> Result<LineCommand<'t, 'a>, Bad
     let mut reader = Reader::of_line(line, &[CommandMember::Plan]);
     let plan = reader.object(Row::One(CommandMember::Plan));
     match plan {
-        Some(plan) => reader.finish(LineCommand::Check { plan }),
+        Some(plan) => reader.finish(LineCommand::Question(Question::InForce(PlanQuestion::Check {
+            plan,
+        }))),
         None => Err(reader.fault()),
     }
 }
@@ -49,7 +51,9 @@ pub fn read_moves<'t, 'a>(line: &'t Tree<'a>) -> Result<LineCommand<'t, 'a>, Bad
     let mut reader = Reader::of_line(line, &[CommandMember::Moves]);
     let moves = reader.list(Row::One(CommandMember::Moves), MOST_MOVES);
     match moves {
-        Some(moves) => reader.finish(LineCommand::Moves { moves }),
+        Some(moves) => reader.finish(LineCommand::Question(Question::InForce(PlanQuestion::Moves {
+            moves,
+        }))),
         None => Err(reader.fault()),
     }
 }
@@ -65,7 +69,9 @@ pub fn read_drain<'t, 'a>(
     let mut reader = Reader::of_line(line, &[CommandMember::Server]);
     let server = reader.server_name(Row::One(CommandMember::Server), config);
     match server {
-        Some(server) => reader.finish(LineCommand::Drain { server }),
+        Some(server) => reader.finish(LineCommand::Question(Question::InForce(PlanQuestion::Drain {
+            server,
+        }))),
         None => Err(reader.fault()),
     }
 }
@@ -86,7 +92,7 @@ pub fn read_state<'t, 'a>(
         (None, Some(plan)) => StateOf::Plan(plan),
         (None, None) => StateOf::Whole,
     };
-    reader.finish(LineCommand::State { of })
+    reader.finish(LineCommand::Question(Question::State { of }))
 }
 
 /// Reads the question for what has come up since a place.
@@ -97,7 +103,7 @@ pub fn read_since<'t, 'a>(line: &'t Tree<'a>) -> Result<LineCommand<'t, 'a>, Bad
     let mut reader = Reader::of_line(line, &[CommandMember::Place]);
     let place = reader.number(Row::One(CommandMember::Place), MOST_EXACT);
     match place {
-        Some(place) => reader.finish(LineCommand::Since { place }),
+        Some(place) => reader.finish(LineCommand::Question(Question::Since { place })),
         None => Err(reader.fault()),
     }
 }
@@ -121,11 +127,13 @@ pub fn read_audit<'t, 'a>(
     let place = reader.number(Row::One(CommandMember::Place), MOST_EXACT);
     let slots = reader.keyed(alloc, Row::One(CommandMember::Slots), CommandMember::Shard)?;
     match (server, place, slots) {
-        (Some(server), Some(place), Some(slots)) => Ok(reader.finish(LineCommand::Audit {
-            server,
-            place,
-            slots,
-        })),
+        (Some(server), Some(place), Some(slots)) => Ok(reader.finish(LineCommand::Question(
+            Question::InForce(PlanQuestion::Audit {
+                server,
+                place,
+                slots,
+            }),
+        ))),
         _ => Ok(Err(reader.fault())),
     }
 }
@@ -172,12 +180,12 @@ pub fn read_failed<'t, 'a>(line: &'t Tree<'a>) -> Result<LineCommand<'t, 'a>, Ba
     let answer = answer_in(&mut reader);
     match (plan, stream, number, answer) {
         (Some(plan), Some(stream), Some(number), Some(answer)) => reader.finish(
-            LineCommand::Failed {
+            LineCommand::Question(Question::InForce(PlanQuestion::Failed {
                 plan,
                 stream,
                 number,
                 answer,
-            },
+            })),
         ),
         _ => Err(reader.fault()),
     }

@@ -5,7 +5,7 @@ ghost use Rattle.sm_commands.specs.Commands.{IsKnownAnywhere, IsKnownCommand};
 ghost use Rattle.sm_commands.specs.Lines.{OfWord};
 
 use crate::bad_line::BadLine;
-use crate::command::LineCommand;
+use crate::command::{DriverCommand, LineCommand};
 use crate::command_member::CommandMember;
 use crate::form::MOST_EXACT;
 use crate::reader::Reader;
@@ -46,7 +46,10 @@ pub fn read_begin<'t, 'a>(line: &'t Tree<'a>) -> Result<LineCommand<'t, 'a>, Bad
     let plan = reader.object(Row::One(CommandMember::Plan));
     let name = reader.label(Row::One(CommandMember::Name));
     match (plan, name) {
-        (Some(plan), Some(name)) => reader.finish(LineCommand::Begin { plan, name }),
+        (Some(plan), Some(name)) => reader.finish(LineCommand::Driver(DriverCommand::Begin {
+            plan,
+            name,
+        })),
         _ => Err(reader.fault()),
     }
 }
@@ -66,11 +69,13 @@ pub fn read_answered<'t, 'a>(line: &'t Tree<'a>) -> Result<LineCommand<'t, 'a>, 
     let stream = reader.small(Row::One(CommandMember::Stream));
     let number = reader.number(Row::One(CommandMember::Number), MOST_EXACT);
     match (plan, stream, number) {
-        (Some(plan), Some(stream), Some(number)) => reader.finish(LineCommand::Answered {
-            plan,
-            stream,
-            number,
-        }),
+        (Some(plan), Some(stream), Some(number)) => reader.finish(LineCommand::Driver(
+            DriverCommand::Answered {
+                plan,
+                stream,
+                number,
+            },
+        )),
         _ => Err(reader.fault()),
     }
 }
@@ -87,7 +92,10 @@ pub fn read_approve<'t, 'a>(
     let server = reader.server_name(Row::One(CommandMember::Server), config);
     let by = reader.label(Row::One(CommandMember::By));
     match (server, by) {
-        (Some(server), Some(by)) => reader.finish(LineCommand::Approve { server, by }),
+        (Some(server), Some(by)) => reader.finish(LineCommand::Driver(DriverCommand::Approve {
+            server,
+            by,
+        })),
         _ => Err(reader.fault()),
     }
 }
@@ -101,7 +109,10 @@ pub fn read_restarted<'t, 'a>(line: &'t Tree<'a>) -> Result<LineCommand<'t, 'a>,
     let permit = reader.number(Row::One(CommandMember::Permit), MOST_EXACT);
     let base = reader.number_unless_null(Row::One(CommandMember::Base), MOST_EXACT);
     match permit {
-        Some(permit) => reader.finish(LineCommand::Restarted { permit, base }),
+        Some(permit) => reader.finish(LineCommand::Driver(DriverCommand::Restarted {
+            permit,
+            base,
+        })),
         None => Err(reader.fault()),
     }
 }
@@ -118,7 +129,10 @@ pub fn read_restore<'t, 'a>(
     let server = reader.server_name(Row::One(CommandMember::Server), config);
     let nonce = reader.bits(Row::One(CommandMember::Nonce));
     match (server, nonce) {
-        (Some(server), Some(nonce)) => reader.finish(LineCommand::Restore { server, nonce }),
+        (Some(server), Some(nonce)) => reader.finish(LineCommand::Driver(DriverCommand::Restore {
+            server,
+            nonce,
+        })),
         _ => Err(reader.fault()),
     }
 }

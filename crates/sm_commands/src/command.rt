@@ -37,43 +37,26 @@ pub enum FailedAnswer {
     NotReady,
 }
 
-/// The command of a line.
+/// The command of a line on a journal that is open.
 #[derive(Clone, Copy)]
-pub enum LineCommand<'t, 'a> {
-    /// To open a journal over the placement of a document.
-    Open {
-        document: &'t Tree<'a>,
-        journal: u64,
-        epoch: u32,
-    },
+pub enum DriverCommand<'t, 'a> {
     /// To begin a plan under a name.
-    Begin {
-        plan: &'t Tree<'a>,
-        name: &'a str,
-    },
+    Begin { plan: &'t Tree<'a>, name: &'a str },
     /// To take the answer to an order or a publication.
-    Answered {
-        plan: u32,
-        stream: u32,
-        number: u64,
-    },
+    Answered { plan: u32, stream: u32, number: u64 },
     /// To give leave to restart a server, for whom it names.
-    Approve {
-        server: &'a str,
-        by: &'a str,
-    },
+    Approve { server: &'a str, by: &'a str },
     /// To take the end of the restart that has this permit, of a server with this base.
-    Restarted {
-        permit: u64,
-        base: Option<u64>,
-    },
+    Restarted { permit: u64, base: Option<u64> },
     /// To give a server that has lost its slots what is recorded of them.
-    Restore {
-        server: &'a str,
-        nonce: u64,
-    },
+    Restore { server: &'a str, nonce: u64 },
     /// To open the next epoch.
     NewEpoch,
+}
+
+/// The command of a line on a reopening.
+#[derive(Clone, Copy)]
+pub enum ReopeningCommand<'t, 'a> {
     /// To begin a reopening over a document. Servers that are lost are given as texts that are names.
     Reopen {
         document: &'t Tree<'a>,
@@ -97,43 +80,65 @@ pub enum LineCommand<'t, 'a> {
         server: Option<&'a str>,
         base: u64,
     },
-    /// To tell whether a plan would begin now.
+}
+
+/// The question of a line. It changes nothing.
+#[derive(Clone, Copy)]
+pub enum Question<'t, 'a> {
+    /// What the program is, and where its journal stands.
+    Hello,
+    /// The present orders.
+    Orders,
+    /// All that is recorded, or what is recorded of one shard or plan.
+    State { of: StateOf<'a> },
+    /// The published map.
+    Map,
+    /// What has come up since a place.
+    Since { place: u64 },
+    /// A question that is refused while a reopening is under way.
+    InForce(PlanQuestion<'t, 'a>),
+}
+
+/// A question about the plans and slots of an epoch that is in force.
+#[derive(Clone, Copy)]
+pub enum PlanQuestion<'t, 'a> {
+    /// Whether a plan would begin now.
     Check {
         plan: &'t Tree<'a>,
     },
-    /// To make a plan of moves.
+    /// A plan of moves.
     Moves {
         moves: &'t [Tree<'a>],
     },
-    /// To make a plan that empties a server.
+    /// A plan that empties a server.
     Drain {
         server: &'a str,
     },
-    /// To tell the published map.
-    Map,
-    /// To tell the present orders.
-    Orders,
-    /// To tell what the program is, and where its journal stands.
-    Hello,
-    /// To tell all that is recorded, or what is recorded of one shard or plan.
-    State {
-        of: StateOf<'a>,
-    },
-    /// To tell what has come up since a place.
-    Since {
-        place: u64,
-    },
-    /// To compare the slots of a server, read at a place, with the record.
+    /// The slots of a server, read at a place, against the record.
     Audit {
         server: &'a str,
         place: u64,
         slots: &'t [Tree<'a>],
     },
-    /// To tell what to do about an order that has failed.
+    /// What to do about an order that has failed.
     Failed {
         plan: u32,
         stream: u32,
         number: u64,
         answer: FailedAnswer,
     },
+}
+
+/// The command of a line.
+#[derive(Clone, Copy)]
+pub enum LineCommand<'t, 'a> {
+    /// To open a journal over the placement of a document.
+    Open {
+        document: &'t Tree<'a>,
+        journal: u64,
+        epoch: u32,
+    },
+    Driver(DriverCommand<'t, 'a>),
+    Reopening(ReopeningCommand<'t, 'a>),
+    Question(Question<'t, 'a>),
 }

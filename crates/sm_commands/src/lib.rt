@@ -24,7 +24,10 @@ mod writing;
 
 pub use bad_line::{BadLine, write_bad};
 pub use choices::{CellChoice, ShardChoice, read_choices};
-pub use command::{FailedAnswer, Id, LineCommand, StateOf, ToldText};
+pub use command::{
+    DriverCommand, FailedAnswer, Id, LineCommand, PlanQuestion, Question, ReopeningCommand,
+    StateOf, ToldText,
+};
 pub use command_member::CommandMember;
 pub use field::{Field, refuse, write_refusal};
 pub use line::{id_of, parse_line, read_command};

@@ -14,7 +14,7 @@ use crate::bad_line::BadLine;
 use crate::changing_lines::{
     read_answered, read_approve, read_begin, read_open, read_restarted, read_restore,
 };
-use crate::command::{Id, LineCommand};
+use crate::command::{DriverCommand, Id, LineCommand, Question};
 use crate::command_member::CommandMember;
 use crate::form::id_in;
 use crate::line_part::LinePart;
@@ -66,15 +66,15 @@ fn read_worded<'t, 'a>(
         "approve" => read_approve(line, config),
         "restarted" => read_restarted(line),
         "restore" => read_restore(line, config),
-        "new_epoch" => read_plain(line, LineCommand::NewEpoch),
+        "new_epoch" => read_plain(line, LineCommand::Driver(DriverCommand::NewEpoch)),
         "reopen" => read_reopen(line),
         "settled" => read_settled(line),
         "check" => read_check(line),
         "moves" => read_moves(line),
         "drain" => read_drain(line, config),
-        "map" => read_plain(line, LineCommand::Map),
-        "orders" => read_plain(line, LineCommand::Orders),
-        "hello" => read_plain(line, LineCommand::Hello),
+        "map" => read_plain(line, LineCommand::Question(Question::Map)),
+        "orders" => read_plain(line, LineCommand::Question(Question::Orders)),
+        "hello" => read_plain(line, LineCommand::Question(Question::Hello)),
         "state" => read_state(line, config),
         "since" => read_since(line),
         "failed" => read_failed(line),

@@ -11,7 +11,7 @@ ghost use Rattle.sm_commands.specs.declared.command_member.CommandMember.TheVari
 ghost use Rattle.sm_commands.specs.declared.row.Row.TheVariants as rows;
 
 use crate::bad_line::BadLine;
-use crate::command::{LineCommand, ToldText};
+use crate::command::{LineCommand, ReopeningCommand, ToldText};
 use crate::command_member::CommandMember;
 use crate::form::MOST_EXACT;
 use crate::line_part::LinePart;
@@ -81,12 +81,12 @@ pub fn read_reopen<'t, 'a>(line: &'t Tree<'a>) -> Result<LineCommand<'t, 'a>, Ba
     let journal = reader.bits(Row::Maybe(CommandMember::Journal));
     let epoch = epoch_in(&mut reader);
     match document {
-        Some(document) => reader.finish(LineCommand::Reopen {
+        Some(document) => reader.finish(LineCommand::Reopening(ReopeningCommand::Reopen {
             document,
             lost: entries_or_none(lost),
             journal,
             epoch,
-        }),
+        })),
         None => Err(reader.fault()),
     }
 }
@@ -158,7 +158,11 @@ pub fn read_fenced<'t, 'a>(
     let told = told_in(server, slots, nonce);
     match (server, base, told) {
         (Some(server), Some(base), Some(told)) => {
-            Ok(reader.finish(LineCommand::Fenced { server, base, told }))
+            Ok(reader.finish(LineCommand::Reopening(ReopeningCommand::Fenced {
+                server,
+                base,
+                told,
+            })))
         }
         _ => Ok(Err(reader.fault())),
     }
@@ -180,10 +184,10 @@ pub fn read_confirm<'t, 'a>(
         CommandMember::Shard,
     )?;
     match base {
-        Some(base) => Ok(reader.finish(LineCommand::Confirm {
+        Some(base) => Ok(reader.finish(LineCommand::Reopening(ReopeningCommand::Confirm {
             base,
             cells: entries_or_none(cells),
-        })),
+        }))),
         None => Ok(Err(reader.fault())),
     }
 }
@@ -197,7 +201,9 @@ pub fn read_settled<'t, 'a>(line: &'t Tree<'a>) -> Result<LineCommand<'t, 'a>, B
     let server = reader.name_or_null(Row::One(CommandMember::Server));
     let base = reader.number(Row::One(CommandMember::Base), MOST_EXACT);
     match (server, base) {
-        (Some(server), Some(base)) => reader.finish(LineCommand::Settled { server, base }),
+        (Some(server), Some(base)) => reader.finish(LineCommand::Reopening(
+            ReopeningCommand::Settled { server, base },
+        )),
         _ => Err(reader.fault()),
     }
 }

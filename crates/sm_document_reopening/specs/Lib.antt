@@ -3,6 +3,7 @@ pub mod Proposal
 pub mod Faults
 pub mod Numbers
 pub mod Roles
+pub mod Told
 pub mod RoleGrids
 pub mod Reopening
 pub mod Begun

@@ -1,6 +1,6 @@
 -- Roles by shard and server, and the cells that they give.
--- All but the first is internal: you need not read it for the public contracts (`cell_by_role`, `is_down_in`,
--- `AreOfRoles`, `is_pair_before`, `NamesRoles`).
+-- All but the first two are internal: you need not read them for the public contracts (`is_down_in`, `AreOfRoles`,
+-- `is_pair_before`, `NamesRoles`).
 use Rattle.std.specs.Prelude.{◌≡◌, ℕ, ◌&&◌, ◌||◌, ◌==◌, Bool, true, false, List, [], ◌∷◌, Option, Some, None, is_some, nat_lt, slice_index_or}
 use Rattle.std.specs.List.{list_any}
 use Rattle.sm_server.specs.declared.call.Cell.{Cell}

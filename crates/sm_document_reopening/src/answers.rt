@@ -6,12 +6,13 @@ ghost use Rattle.sm_reopening.specs.States.{fits_told, net_inventory};
 ghost use Rattle.sm_reopening.specs.Ongoing.{net_reopening, shards_of};
 ghost use Rattle.sm_reopening.specs.Settles.{is_due_settle, net_party, settle_messages, settle_sent, settled_of, what_settles};
 ghost use Rattle.sm_document_reopening.specs.Reopening.{IsUnder};
+ghost use Rattle.sm_document_reopening.specs.Told.{has_told_of};
 
 use crate::reopening::DocumentReopening;
 use crate::stray::Stray;
 use sm_placement::Placement;
 use sm_reopening::{FencedEffect, Inventory, Party, Settle, SettledEffect};
-use sm_server::ServerId;
+use sm_server::{ServerId, ShardId};
 use std::alloc::AllocError;
 
 /// Notes the names of shards that a server has and nobody knows.
@@ -81,6 +82,16 @@ impl DocumentReopening {
             return FencedEffect::Old;
         }
         self.ongoing.map_fenced(base)
+    }
+
+    /// Whether a server has told that it has something of a shard.
+    pub fn has_told_of(&self, server: ServerId, shard: ShardId) -> bool
+        ensures { result ≡ has_told_of self.now server shard }
+    {
+        match self.ongoing.slot(shard, server) {
+            Some(slot) => !slot.cell.is_absent(),
+            None => false,
+        }
     }
 
     /// Returns the settle of a party, once a settlement is confirmed. It may be sent again at any time.

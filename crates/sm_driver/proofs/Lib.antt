@@ -2,6 +2,7 @@ mod Alike
 mod AtRest
 mod Beside
 mod Driving
+pub mod Effects
 mod FreeSteps
 mod Given
 mod Lists

@@ -1,20 +1,21 @@
 -- A driver, and what its commands make of what is recorded.
 -- `IsDriving` and `HasLostNone` are internal: you need not read them for the public contracts.
-use Rattle.std.specs.Prelude.{◌≡◌, ℕ, ◌+◌, ◌==◌, ◌||◌, Bool, false, true, List, Option, Some, None, length, nat_lt, slice_set, ◌&&◌}
+use Rattle.std.specs.Prelude.{◌≡◌, ℕ, ◌+◌, ◌==◌, ◌||◌, Bool, false, true, List, Option, Some, None, length, nat_lt, slice_set, ◌&&◌, if◌then◌else◌}
 use Rattle.sm_reservation.specs.declared.stream_id.StreamId.{StreamId}
 use Rattle.sm_plan_code.specs.Plan.{PlanModel}
 use Rattle.sm_protocol.specs.declared.event.Played.TheVariants as played
 use Rattle.sm_protocol.specs.State.{State, is_begun, progress_of}
 use Rattle.sm_protocol.specs.Steps.{Answered}
-use Rattle.sm_protocol.specs.Next.{since_of}
 use Rattle.sm_protocol.specs.Laws.{HasLost}
 use Rattle.sm_protocol.specs.Happens.{Approve, Begin, Done, Step, engaged, happens}
 use Rattle.sm_machine.specs.Machine.{MachineModel}
 use Rattle.sm_machine.specs.State.{state_of}
 use Rattle.sm_driver.specs.Advance.{IsAdvanced, next_free}
 use Rattle.sm_driver.specs.Carried.{AreCarriedDown}
-use Rattle.sm_driver.specs.Orders.{awaits, epoch_base}
+use Rattle.sm_driver.specs.Orders.{awaits, epoch_base, number_above}
 use Rattle.sm_driver.specs.Permits.{AreGivenPermits, ArePermitsOfDown, is_settled, server_permitted}
+use Rattle.sm_driver.specs.declared.driver.AnswerEffect.{AnswerEffect}
+use Rattle.sm_driver.specs.declared.driver.AnswerEffect.TheVariants as answer
 use Rattle.sm_driver.specs.declared.restart.RestartEffect.{RestartEffect}
 use Rattle.sm_driver.specs.declared.restart.RestartEffect.TheVariants.{Old, Unsettled, Up}
 use Rattle.sm_driver.specs.Restores.{RestoreModel, restore_now}
@@ -42,7 +43,7 @@ base d = epoch_base d.epoch
 
 -- the number of the order, or of the publication, that a stream stands before
 abbrev pub order_number : DriverModel → StreamId → ℕ
-order_number d id = base d + since_of (record_of d) id + 1
+order_number d id = number_above (base d) (record_of d) id
 
 -- the stream stands before a call or an entry of the published map, so that its next step waits for an answer
 abbrev pub awaits_answer : DriverModel → StreamId → Bool
@@ -55,6 +56,10 @@ is_due d id number = awaits_answer d id && (number == order_number d id)
 -- an answer is one of a stream that has gone on since
 abbrev pub is_past : DriverModel → StreamId → ℕ → Bool
 is_past d id number = is_begun (record_of d) id && ((progress_of (record_of d) id).done || nat_lt number (order_number d id))
+
+-- what an answer comes to: a stream that waits for it makes its step; otherwise it is old if its stream has gone on since, and else unknown
+abbrev pub answer_effect : DriverModel → StreamId → ℕ → AnswerEffect
+answer_effect d id number = if is_due d id number then answer.Moved else if is_past d id number then answer.Old else answer.Unknown
 
 -- journal, epoch, fence, configuration, carried servers and restores stay
 pub record IsOfJournal (old new : DriverModel) : Type 0 where

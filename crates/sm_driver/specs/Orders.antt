@@ -1,13 +1,13 @@
 -- Orders and publications as they leave the driver: those of the network.
 -- `handover_of` is internal: you need not read it for the public contracts.
-use Rattle.std.specs.Prelude.{ℕ, ◌*◌, ◌^◌, ◌||◌, Bool, List, Option, Some, None, is_some, length, option_map, if◌then◌else◌}
+use Rattle.std.specs.Prelude.{ℕ, ◌+◌, ◌*◌, ◌^◌, ◌||◌, Bool, List, Option, Some, None, is_some, length, option_map, if◌then◌else◌}
 use Rattle.std.specs.List.{filter_map, flat_map, range_with_len}
 use Rattle.std.specs.Option.{option_or}
 use Rattle.sm_server.specs.declared.call.Call.{Call}
 use Rattle.sm_server.specs.declared.call.Call.TheVariants.{PrepareAdd, PrepareDrop}
 use Rattle.sm_reservation.specs.declared.stream_id.StreamId.{StreamId}
 use Rattle.sm_protocol.specs.State.{State, stream_count, stream_id}
-use Rattle.sm_protocol.specs.Next.{next_call_of, next_entry_of}
+use Rattle.sm_protocol.specs.Next.{next_call_of, next_entry_of, since_of}
 use Rattle.sm_network.specs.Net.{Order as NetOrder, order_of}
 use Rattle.sm_network.specs.World.{Publication as NetPublication, publication_of}
 use Rattle.sm_driver.specs.declared.order.StreamOrder.{StreamOrder}
@@ -36,6 +36,15 @@ net_message (message.Publication p) = OfPublication (net_publication p)
 -- the order or the publication that a stream stands before
 abbrev pub message_of : ℕ → State → StreamId → Option NetMessage
 message_of base w id = option_or (option_map OfOrder (order_of base w id)) (option_map OfPublication (publication_of base w id))
+
+-- the number of the order, or of the publication, that a stream stands before
+abbrev pub number_above : ℕ → State → StreamId → ℕ
+number_above base w id = base + since_of w id + 1
+
+-- the number of an order or a publication, as it leaves the driver
+abbrev pub message_number : StreamMessage → ℕ
+message_number (message.Order o) = o.number
+message_number (message.Publication p) = p.number
 
 -- a stream stands before a call or an entry of the published map, so that its next step waits for an answer
 abbrev pub awaits : State → StreamId → Bool

@@ -1,5 +1,5 @@
 //! Drivers.
-ghost use Rattle.std.specs.Prelude.{◌≡◌, ◌≢◌, ◌<◌, ◌↔◌, ◌⊎◌, ◌+◌, IfOk, OnOk, IfErr, OnErr, Some, None, option_map, not, slice_get, true, false};
+ghost use Rattle.std.specs.Prelude.{◌≡◌, ◌≢◌, ◌<◌, ◌⊎◌, ◌+◌, IfOk, OnOk, IfErr, IfSome, OnErr, Some, None, option_map, not, slice_get, true, false};
 ghost use Rattle.std.specs.Option.{option_copied};
 ghost use Rattle.sm_placement.specs.Layout.{place_of};
 ghost use Rattle.sm_protocol.specs.declared.event.BeginFault.TheVariants as begin_fault;
@@ -9,15 +9,15 @@ ghost use Rattle.sm_protocol.specs.Next.{unfinished_plans};
 ghost use Rattle.sm_protocol.specs.Steps.{Answered};
 ghost use Rattle.sm_protocol.specs.Happens.{Approve, Begin, engaged, happens};
 ghost use Rattle.sm_task_controller.specs.Decision.{denial};
-ghost use Rattle.sm_network.specs.Net.{order_of};
+ghost use Rattle.sm_network.specs.Net.{cell_above, order_of};
 ghost use Rattle.sm_network.specs.World.{publication_of};
 ghost use Rattle.sm_driver.specs.Advance.{next_free};
-ghost use Rattle.sm_driver.specs.Orders.{awaiting_of, bases_end, epoch_base, message_of, net_message, net_order, net_publication};
+ghost use Rattle.sm_driver.specs.Orders.{awaiting_of, bases_end, epoch_base, message_number, message_of, net_message, net_order, net_publication};
 ghost use Rattle.sm_driver.specs.Carried.{AreCarriedDown};
 ghost use Rattle.sm_driver.specs.Permits.{AreEarlierPermits, ArePermitsOfDown, restart_effect, server_permitted};
 ghost use Rattle.sm_driver.specs.Epochs.{HasOpenedEpoch, epoch_fault};
 ghost use Rattle.sm_driver.specs.Restores.{restore_at, was_told};
-ghost use Rattle.sm_driver.specs.Driver.{HasRestored, HasApproved, HasCome, HasBegunPlan, HasTakenStep, base, is_due, is_past, awaits_answer, order_number, record_of};
+ghost use Rattle.sm_driver.specs.Driver.{HasRestored, HasApproved, HasCome, HasBegunPlan, HasTakenStep, base, answer_effect, is_due, is_past, awaits_answer, order_number, record_of};
 ghost use Rattle.sm_driver.specs.declared.driver.AnswerEffect.TheVariants as answer;
 ghost use Rattle.sm_driver.specs.declared.epoch.EpochFault.TheVariants as refusal;
 ghost use Rattle.sm_driver.specs.declared.restores.RestoreFault.TheVariants as fault;
@@ -27,15 +27,15 @@ mod opening;
 use crate::carried::CarriedServers;
 use crate::epoch::{EpochFault, epoch_after, fault_by, shard_spent};
 use crate::order::{StreamMessage, StreamOrder, StreamPublication};
-use crate::ordering::{awaiting, message_of, order_of, publication_of};
+use crate::ordering::{awaiting, awaits, message_of, order_number, order_of, publication_of};
 use crate::own_steps::{advance, advance_plan};
 use crate::permits::Permits;
 use crate::restart::{RestartEffect, is_settled};
-use crate::restores::{RestoreFault, Restores, ServerRestore, cells_told};
+use crate::restores::{RestoreFault, Restores, ServerRestore, cells_told, recorded_cell};
 use sm_machine::{BeginFault, Director, Event, Machine, ReadyPlan};
 use sm_placement::Placement;
 use sm_reservation::StreamId;
-use sm_server::ServerId;
+use sm_server::{Cell, ServerId, ShardId};
 use sm_task_controller::{Denied, decide};
 use std::alloc::{AllocError, Global};
 use std::marker::Model;
@@ -124,14 +124,16 @@ impl Driver {
 
     /// Returns the publication of a running stream that stands before one.
     pub fn publication(&self, id: StreamId) -> Option<StreamPublication>
-        ensures { option_map net_publication result ≡ publication_of (base self.now) (record_of self.now) id }
+        ensures publication { option_map net_publication result ≡ publication_of (base self.now) (record_of self.now) id }
+        ensures number { IfSome result (λ p. p.number ≡ order_number self.now id) }
     {
         publication_of(self.machine(), self.base(), id)
     }
 
     /// Returns the order or the publication that a running stream stands before.
     pub fn message(&self, id: StreamId) -> Option<StreamMessage>
-        ensures { option_map net_message result ≡ message_of (base self.now) (record_of self.now) id }
+        ensures message { option_map net_message result ≡ message_of (base self.now) (record_of self.now) id }
+        ensures number { IfSome result (λ m. message_number m ≡ order_number self.now id) }
     {
         message_of(self.machine(), self.base(), id)
     }
@@ -166,49 +168,60 @@ impl Driver {
         Ok(number)
     }
 
-    /// Returns the number of the order, or of the publication, that a stream stands before.
-    fn order_number(&self, id: StreamId) -> u64
-        requires { is_begun (record_of self.now) id ≡ true }
-        ensures { result ≡ order_number self.now id }
-    {
-        self.base() + self.machine().since(id) as u64 + 1
-    }
-
-    /// Returns whether an answer is the one that a stream waits for.
+    /// Whether an answer is the one that a stream waits for.
     fn is_due(&self, id: StreamId, number: u64) -> bool
         ensures { result ≡ is_due self.now id number }
     {
         let machine = self.machine();
-        let waits = machine.next_call(id).is_some() || machine.next_entry(id).is_some();
-        waits && number == self.order_number(id)
+        awaits(machine, id) && number == order_number(machine, self.base(), id)
     }
 
-    /// Returns whether an answer is one of a stream that has gone on since.
+    /// Whether an answer is one of a stream that has gone on since.
     fn is_past(&self, id: StreamId, number: u64) -> bool
         ensures { result ≡ is_past self.now id number }
     {
         let machine = self.machine();
-        machine.is_begun(id) && (machine.is_done(id) || number < self.order_number(id))
+        let base = self.base();
+        machine.is_begun(id) && (machine.is_done(id) || number < order_number(machine, base, id))
+    }
+
+    /// The effect that an answer to an order or a publication of a stream would have now.
+    pub fn due(&self, id: StreamId, number: u64) -> AnswerEffect
+        ensures { result ≡ answer_effect self.now id number }
+    {
+        if self.is_due(id, number) {
+            AnswerEffect::Moved
+        } else if self.is_past(id, number) {
+            AnswerEffect::Old
+        } else {
+            AnswerEffect::Unknown
+        }
+    }
+
+    /// Makes the step of a stream that waits for an answer, and every step that needs nobody.
+    fn take_step(&mut self, id: StreamId)
+        requires { awaits_answer self.old id ≡ true }
+        ensures { HasTakenStep id self.old self.new }
+    {
+        self.machine().is_reached();
+        let _ = self.director.play(Event::Step { stream: id });
+        advance(&mut self.director, id);
     }
 
     /// Takes the answer to an order or a publication of a stream. If the stream waits for it, it makes its step, and every step that
     /// needs nobody is made: neither the log's room nor the stream's allowance is in the way. Otherwise nothing changes.
     pub fn answered(&mut self, id: StreamId, number: u64) -> AnswerEffect
-        ensures taken { (result ≡ answer.Moved) ↔ (is_due self.old id number ≡ true) }
+        ensures effect { result ≡ answer_effect self.old id number }
         ensures moved { result ≡ answer.Moved → HasTakenStep id self.old self.new }
         ensures unchanged { (result ≡ answer.Moved) ⊎ (self.new ≡ self.old) }
-        ensures old { is_due self.old id number ≡ false → (result ≡ answer.Old) ↔ (is_past self.old id number ≡ true) }
     {
-        if self.is_due(id, number) {
-            self.machine().is_reached();
-            let _ = self.director.play(Event::Step { stream: id });
-            advance(&mut self.director, id);
-            return AnswerEffect::Moved;
-        }
-        if self.is_past(id, number) {
-            AnswerEffect::Old
-        } else {
-            AnswerEffect::Unknown
+        match self.due(id, number) {
+            AnswerEffect::Moved => {
+                self.take_step(id);
+                AnswerEffect::Moved
+            }
+            AnswerEffect::Old => AnswerEffect::Old,
+            AnswerEffect::Unknown => AnswerEffect::Unknown,
         }
     }
 
@@ -309,6 +322,15 @@ impl Driver {
         self.restores
             .set(server, ServerRestore::new(nonce, number, cells));
         Ok(true)
+    }
+
+    /// What is recorded of a server's cell of a shard, with the base in its handover number.
+    pub fn cell(&self, shard: ShardId, server: ServerId) -> Cell
+        requires shard { shard < (record_of self.now).sizes.shards }
+        requires server { server < (record_of self.now).sizes.servers }
+        ensures { result ≡ cell_above (base self.now) ((record_of self.now).place.cells shard server) }
+    {
+        recorded_cell(self.machine(), self.base(), shard, server)
     }
 
     /// Returns what a server was told last after it had lost all it had.

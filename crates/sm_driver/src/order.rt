@@ -1,4 +1,7 @@
 //! Orders to servers, and publications, which are orders to the owner of the published map.
+ghost use Rattle.std.specs.Prelude.{◌≡◌};
+ghost use Rattle.sm_driver.specs.Orders.{message_number};
+
 use sm_placement::Entry;
 use sm_plan_code::ServerCall;
 use sm_reservation::StreamId;
@@ -26,6 +29,8 @@ pub struct StreamPublication {
     pub shard: ShardId,
     /// The entry that the map is to show, with the base added to its version.
     pub entry: Entry,
+    /// The number under which its answer comes.
+    pub number: u64,
 }
 
 /// The message that a stream stands before whose next step waits for an answer.
@@ -35,4 +40,16 @@ pub enum StreamMessage {
     Order(StreamOrder),
     /// A publication, to the owner of the published map.
     Publication(StreamPublication),
+}
+
+impl StreamMessage {
+    /// The number under which its answer comes.
+    pub fn number(&self) -> u64
+        ensures { result ≡ message_number self.now }
+    {
+        match self {
+            StreamMessage::Order(order) => order.number,
+            StreamMessage::Publication(publication) => publication.number,
+        }
+    }
 }

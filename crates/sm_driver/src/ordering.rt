@@ -1,11 +1,11 @@
 //! The order and the publication that a stream stands before.
-ghost use Rattle.std.specs.Prelude.{◌≡◌, ◌≤◌, ◌<◌, ◌++◌, OnOk, length, option_map};
+ghost use Rattle.std.specs.Prelude.{◌≡◌, ◌≤◌, ◌<◌, ◌++◌, IfSome, OnOk, length, option_map, true};
 ghost use Rattle.std.specs.Option.{option_to_list};
-ghost use Rattle.sm_protocol.specs.State.{numbers_end};
+ghost use Rattle.sm_protocol.specs.State.{is_begun, numbers_end};
 ghost use Rattle.sm_network.specs.Net.{call_above, order_of};
 ghost use Rattle.sm_network.specs.World.{publication_of};
 ghost use Rattle.sm_machine.specs.State.{state_of};
-ghost use Rattle.sm_driver.specs.Orders.{awaiting, awaiting_in, awaiting_of, awaits, bases_end, handover_of, message_of, net_message, net_order, net_publication};
+ghost use Rattle.sm_driver.specs.Orders.{awaiting, awaiting_in, awaiting_of, awaits, bases_end, handover_of, message_number, message_of, net_message, net_order, net_publication, number_above};
 
 use crate::order::{StreamMessage, StreamOrder, StreamPublication};
 use sm_machine::Machine;
@@ -36,10 +36,20 @@ fn call_above(base: u64, call: Call) -> Call
     }
 }
 
-/// Returns the order of a running stream that stands before a call.
+/// The number of the order, or of the publication, that a stream stands before.
+pub fn order_number(machine: &Machine, base: u64, id: StreamId) -> u64
+    requires base { base < bases_end }
+    requires begun { is_begun (state_of machine.now) id ≡ true }
+    ensures { result ≡ number_above base (state_of machine.now) id }
+{
+    base + machine.since(id) as u64 + 1
+}
+
+/// The order of a running stream that stands before a call.
 pub fn order_of(machine: &Machine, base: u64, id: StreamId) -> Option<StreamOrder>
     requires { base < bases_end }
-    ensures { option_map net_order result ≡ order_of base (state_of machine.now) id }
+    ensures order { option_map net_order result ≡ order_of base (state_of machine.now) id }
+    ensures number { IfSome result (λ o. o.number ≡ number_above base (state_of machine.now) id) }
 {
     machine.is_reached();
     let next = machine.next_call(id)?;
@@ -51,14 +61,15 @@ pub fn order_of(machine: &Machine, base: u64, id: StreamId) -> Option<StreamOrde
             server: next.server,
             call: call_above(base, next.call),
         },
-        number: base + machine.since(id) as u64 + 1,
+        number: order_number(machine, base, id),
     })
 }
 
-/// Returns the publication of a running stream that stands before one.
+/// The publication of a running stream that stands before one.
 pub fn publication_of(machine: &Machine, base: u64, id: StreamId) -> Option<StreamPublication>
     requires { base < bases_end }
-    ensures { option_map net_publication result ≡ publication_of base (state_of machine.now) id }
+    ensures publication { option_map net_publication result ≡ publication_of base (state_of machine.now) id }
+    ensures number { IfSome result (λ p. p.number ≡ number_above base (state_of machine.now) id) }
 {
     machine.is_reached();
     let (shard, entry) = machine.next_entry(id)?;
@@ -69,13 +80,15 @@ pub fn publication_of(machine: &Machine, base: u64, id: StreamId) -> Option<Stre
             server: entry.server,
             version: base + entry.version,
         },
+        number: order_number(machine, base, id),
     })
 }
 
-/// Returns the order or the publication that a running stream stands before.
+/// The order or the publication that a running stream stands before.
 pub fn message_of(machine: &Machine, base: u64, id: StreamId) -> Option<StreamMessage>
     requires { base < bases_end }
-    ensures { option_map net_message result ≡ message_of base (state_of machine.now) id }
+    ensures message { option_map net_message result ≡ message_of base (state_of machine.now) id }
+    ensures number { IfSome result (λ m. message_number m ≡ number_above base (state_of machine.now) id) }
 {
     if let Some(order) = order_of(machine, base, id) {
         return Some(StreamMessage::Order(order));

@@ -133,7 +133,7 @@ impl Restores {
     }
 }
 
-/// Returns a cell with the base added to its handover number, if it has one.
+/// A cell with the base added to its handover number, if it has one.
 fn cell_above(base: u64, cell: Cell) -> Cell
     requires base { base < bases_end }
     requires number { handover_in_cell cell ≤ numbers_end }
@@ -152,6 +152,17 @@ fn cell_above(base: u64, cell: Cell) -> Cell
     }
 }
 
+/// What is recorded of a server's cell of a shard, with the base in its handover number.
+pub(crate) fn recorded_cell(machine: &Machine, base: u64, shard: ShardId, server: ServerId) -> Cell
+    requires base { base < bases_end }
+    requires shard { shard < (state_of machine.now).sizes.shards }
+    requires server { server < (state_of machine.now).sizes.servers }
+    ensures { result ≡ cell_above base ((state_of machine.now).place.cells shard server) }
+{
+    machine.is_reached();
+    cell_above(base, machine.placement().cell(shard, server))
+}
+
 /// Returns what is recorded of a server's cells, by the shards' numbers, with the base in handover numbers.
 pub(crate) fn cells_told(
     alloc: Global,
@@ -163,11 +174,10 @@ pub(crate) fn cells_told(
     requires server { server < (state_of machine.now).sizes.servers }
     ensures { IfOk result (λ cells. cells.items ≡ cells_told base (state_of machine.now) server) }
 {
-    machine.is_reached();
     let mut cells = Vec::new(alloc);
     for number in 0..machine.config().shard_count() {
-        let cell = machine.placement().cell(ShardId::new(number), server);
-        cells.push(cell_above(base, cell))?;
+        let shard = ShardId::new(number);
+        cells.push(recorded_cell(machine, base, shard, server))?;
     }
     Ok(cells)
 }

@@ -19,10 +19,11 @@ use Rattle.sm_verifier.specs.Admission.{IsAdmitted}
 use Rattle.sm_verifier.specs.FirstHolding.{first_holding, declared_rights}
 use Rattle.sm_verifier.specs.declared.admission.Holding.{Holding}
 use Rattle.sm_verifier.proofs.Holdings.{finds_holding}
+use Rattle.sm_protocol.specs.declared.event.BeginFault.{BeginFault}
 use Rattle.sm_protocol.specs.declared.event.BeginFault.TheVariants as fault
 use Rattle.sm_protocol.specs.declared.event.Played.TheVariants as played
 use Rattle.sm_protocol.specs.State.{State, Start, no_start, plan_at, signal_count, parcel_at, is_begun, pool, places_of, free_places}
-use Rattle.sm_protocol.specs.Steps.{Answered}
+use Rattle.sm_protocol.specs.Steps.{Answered, unchanged}
 use Rattle.sm_protocol.specs.Happens.{happens, begun, started, has_all_plans, Begin}
 use Rattle.sm_protocol.specs.Laws.{IsReached, IsCheckedPlan}
 use Rattle.sm_protocol.proofs.Starts.{length_push, get_push_old, get_push_new}
@@ -34,7 +35,7 @@ use Rattle.sm_machine.specs.State.{Whole}
 use Rattle.sm_machine.specs.Tied.{IsTied, HasCounters, pool_left}
 use Rattle.sm_machine.specs.Working.{IsWorking, HasCapacityOn, IsUnsent}
 use Rattle.sm_machine.specs.Starts.{empty_kept, ready_course, begun_of, CanFillAt, CanFillAll, IsBegunIn, fault_after, begin_fault}
-use Rattle.sm_machine.specs.Started.{ArePeaksOf, IsStarted}
+use Rattle.sm_machine.specs.Started.{ArePeaksOf, IsStarted, begin_answer}
 use Rattle.sm_machine.proofs.Readied.{first_at}
 use Rattle.sm_machine.proofs.ties.Starting.{can_fill, tied_started}
 use Rattle.sm_machine.proofs.ties.Counters.{counted_started}
@@ -194,3 +195,32 @@ module _ (x : Whole) (g : IsWorking x) (p : CheckedModel) (checked : IsCheckedPl
             counted = subst (λ z. HasCounters z y.unfinished running free) (sym b.state) (counted_here free running f r);
           };
         }
+
+-- ---- what the begin of a plan is told, whether it starts or not
+
+-- the tests of the log's places and of the plans' number, in their order
+abbrev fault_by : Bool → Bool → Option BeginFault
+fault_by full all = if full then Some fault.LogFull else if all then Some fault.TooManyPlans else None
+
+module _ (w : State) (plan : PlanModel) where
+  told_by : (full all : Bool) →
+      (if full then unchanged w (played.NotBegun fault.LogFull) else if all then unchanged w (played.NotBegun fault.TooManyPlans) else (Answered (played.Begun (length w.plans)), started w plan)).0
+      ≡ Answered (begin_answer w (fault_by full all))
+  told_by true all = refl
+  told_by false true = refl
+  told_by false false = refl
+
+  told_after : (x : Whole) (held : Option Holding) → nat_lt x.free (places_of plan) ≡ nat_lt (free_places w) (places_of plan) → (nat_le MOST_PLANS x.running || nat_lt MOST_NUMBER (length x.state.plans)) ≡ has_all_plans w →
+      (begun w plan held).0 ≡ Answered (begin_answer w (fault_after x plan held))
+  told_after x (Some why) full all = refl
+  told_after x None full all =
+      told_by (nat_lt (free_places w) (places_of plan)) (has_all_plans w)
+      ∙ ap (λ t. Answered (begin_answer w (fault_by (nat_lt (free_places w) (places_of plan)) t))) (sym all)
+      ∙ ap (λ s. Answered (begin_answer w (fault_by s (nat_le MOST_PLANS x.running || nat_lt MOST_NUMBER (length x.state.plans))))) (sym full)
+
+-- what is against a plan's start in the machine is what its begin is told
+pub begin_told : (x : Whole) → IsWorking x → (plan : PlanModel) → (happens x.state (Begin plan)).0 ≡ Answered (begin_answer x.state (begin_fault x plan))
+begin_told x g plan =
+    ap (λ h. (begun x.state plan (first_holding x.state.sizes x.state.place h plan)).0) (sym g.tied.pool)
+    ∙ told_after x.state plan x (first_holding x.state.sizes x.state.place x.pool plan)
+    (ap (λ n. nat_lt n (places_of plan)) g.counted.places) (ap (λ n. nat_le MOST_PLANS n || nat_lt MOST_NUMBER (length x.state.plans)) g.counted.plans)

@@ -1,12 +1,13 @@
 -- The conditions of a plan's start, and what it leaves.
 -- `IsStarted` is internal: you need not read it for the public contracts.
-use Rattle.std.specs.Prelude.{◌≡◌, ◌<◌, ℕ, length, slice_index}
+use Rattle.std.specs.Prelude.{◌≡◌, ◌<◌, ℕ, Option, Some, None, length, slice_index}
 use Rattle.sm_placement.specs.Setup.{Sizes}
 use Rattle.sm_verifier.specs.Checked.{CheckedModel}
 use Rattle.sm_verifier.specs.Peak.{IsPeak}
 use Rattle.sm_verifier.specs.Stream.{stream_at}
 use Rattle.sm_plan_code.specs.Plan.{PlanModel}
 use Rattle.sm_protocol.specs.declared.event.BeginFault.{BeginFault}
+use Rattle.sm_protocol.specs.declared.event.Played.{Played}
 use Rattle.sm_protocol.specs.declared.event.Played.TheVariants as played
 use Rattle.sm_protocol.specs.State.{State}
 use Rattle.sm_protocol.specs.Steps.{Answered}
@@ -28,3 +29,8 @@ pub record IsStarted (x : Whole) (p : CheckedModel) (number : ℕ) (y : Whole) :
 -- The plan does not start, as the protocol says.
 abbrev pub IsNotStarted : State → PlanModel → BeginFault → Type 0
 IsNotStarted w plan why = happens w (Begin plan) ≡ (Answered (played.NotBegun why), w)
+
+-- the answer to the begin of a plan, by what is against it: it gets the next number if nothing is
+abbrev pub begin_answer : State → Option BeginFault → Played
+begin_answer w None = played.Begun (length w.plans)
+begin_answer w (Some why) = played.NotBegun why

@@ -35,8 +35,8 @@ fn fill_tokens(tokens: &mut Vec<StreamToken>, plan: u32, count: usize)
 }
 
 impl Engine {
-    /// Returns why a checked plan that takes `places` places of the log does not start, if memory is there.
-    fn begin_fault(&self, checked: &Checked, places: u64) -> Option<BeginFault>
+    /// The fault for which a checked plan that takes `places` places of the log does not start, if memory is there.
+    pub fn start_fault(&self, checked: &Checked, places: u64) -> Option<BeginFault>
         requires setup { checked.now.setup ≡ self.now.placement.setup }
         requires places { places ≡ places_of checked.now.plan }
         requires working { IsWorking (whole_of self.now) }
@@ -84,7 +84,7 @@ impl Engine {
         let checked = ready.checked();
         let places = places_of(checked.plan());
         let streams = checked.plan().streams().len();
-        if let Some(fault) = self.begin_fault(checked, places) {
+        if let Some(fault) = self.start_fault(checked, places) {
             return Err((ready, fault));
         }
         let plan = self.plan_count() as u32;

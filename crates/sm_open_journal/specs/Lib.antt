@@ -2,6 +2,7 @@ pub mod Begun
 pub mod Bits
 pub mod Calls
 pub mod Cells
+pub mod Failed
 pub mod Given
 pub mod Messages
 pub mod Notices

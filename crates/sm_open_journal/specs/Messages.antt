@@ -1,4 +1,5 @@
 -- Orders and publications as a journal tells them: the letters and the notices of the network's controller, in JSON.
+-- `outgoing_text` is internal: you need not read it for the public contracts.
 use Rattle.std.specs.Prelude.{ℕ, List, [], ◌∷◌, ◌++◌, Option, Some, None, codes, length, option_map, if◌then◌else◌}
 use Rattle.std.specs.List.{flat_map, range_with_len}
 use Rattle.std.specs.Option.{option_map_or}
@@ -14,7 +15,9 @@ use Rattle.sm_network.specs.Controller.{Letter, Notice}
 use Rattle.sm_network.specs.Net.{Order}
 use Rattle.sm_network.specs.World.{Publication}
 use Rattle.sm_driver.specs.Driver.{DriverModel, base, order_number, record_of}
-use Rattle.sm_driver.specs.Orders.{NetMessage, OfOrder, OfPublication, message_of}
+use Rattle.sm_driver.specs.Orders.{NetMessage, OfOrder, OfPublication, message_of, net_order, net_publication}
+use Rattle.sm_driver.specs.declared.order.StreamMessage.{StreamMessage}
+use Rattle.sm_driver.specs.declared.order.StreamMessage.TheVariants as outgoing
 use Rattle.sm_commands.specs.Members.{list_member, name_member, number_member, object, server_text}
 use Rattle.sm_open_journal.specs.Bits.{bits_member}
 use Rattle.sm_open_journal.specs.Calls.{asked_members, published_members, size_members}
@@ -86,6 +89,11 @@ notice_text d n number = object (
 abbrev pub message_text : DriverModel → StreamId → NetMessage → List Token
 message_text d id (OfOrder o) = letter_text d (letter_by d o)
 message_text d id (OfPublication p) = notice_text d (notice_by d p) (order_number d id)
+
+-- an order or a publication as it leaves a driver, under its own number
+abbrev pub outgoing_text : DriverModel → StreamMessage → List Token
+outgoing_text d (outgoing.Order o) = letter_text d (letter_by d (net_order o))
+outgoing_text d (outgoing.Publication p) = notice_text d (notice_by d (net_publication p)) p.number
 
 -- the order or the publication that a stream stands before, if it stands before one
 abbrev pub stream_message : DriverModel → StreamId → List Token

@@ -1,5 +1,4 @@
 -- Which streams a reply tells the messages of.
--- `message_if_new` and `new_message` are internal: you need not read them for the public contracts.
 use Rattle.std.specs.Prelude.{ℕ, Bool, true, ◌==◌, List, [], ◌∷◌, ◌++◌, Option, Some, None, codes, decimal, map, not, slice_get, if◌then◌else◌}
 use Rattle.std.specs.List.{filter, list_any, range_with_len}
 use Rattle.json.specs.Token.{Token, number}
@@ -8,7 +7,7 @@ use Rattle.sm_protocol.specs.State.{State, is_begun, progress_of, stream_count, 
 use Rattle.sm_protocol.specs.Next.{since_of, unfinished_plans}
 use Rattle.sm_driver.specs.Driver.{DriverModel, record_of}
 use Rattle.sm_commands.specs.Members.{list_member, number_member, object_member}
-use Rattle.sm_open_journal.specs.Messages.{stream_message, orders_member}
+use Rattle.sm_open_journal.specs.Messages.{orders_member}
 
 -- the streams of a plan
 abbrev pub plan_streams : State → ℕ → List StreamId
@@ -35,9 +34,13 @@ ended_text w k = if list_any (λ j. j == k) (unfinished_plans w) then [] else nu
 abbrev pub ended_member : State → ℕ → List Token
 ended_member w k = list_member (codes "ended") (ended_text w k)
 
--- what is told of a plan by which those of its streams have gone on that do not stand as they stood
+-- the messages of these streams of a plan, and whether the plan has ended
+abbrev pub plan_told : DriverModel → ℕ → List StreamId → List Token
+plan_told d k ids = orders_member d ids ++ ended_member (record_of d) k
+
+-- the same of those that do not stand as they stood
 abbrev pub plan_members : DriverModel → ℕ → List ℕ → List Token
-plan_members d k sinces = orders_member d (gone_on (record_of d) k sinces) ++ ended_member (record_of d) k
+plan_members d k sinces = plan_told d k (gone_on (record_of d) k sinces)
 
 -- how many of its instructions a stream has made, none if it has not begun
 abbrev pub position_of : State → StreamId → ℕ
@@ -52,14 +55,10 @@ step_members w id =
 abbrev pub moved_member : State → StreamId → List Token
 moved_member w id = object_member (codes "moved") (step_members w id)
 
--- the stream that has made its step; the messages of those streams of its plan that do not stand as they stood; whether the plan has ended
+-- the stream that has made its step; the messages of these streams of its plan; whether the plan has ended
+abbrev pub moved_members : DriverModel → StreamId → List StreamId → List Token
+moved_members d id ids = moved_member (record_of d) id ++ plan_told d id.plan ids
+
+-- the same of those that do not stand as they stood
 abbrev pub taken_members : DriverModel → StreamId → List ℕ → List Token
-taken_members d id sinces = moved_member (record_of d) id ++ plan_members d id.plan sinces
-
--- the message of a stream, if it does not stand where it stood since then
-abbrev pub message_if_new : DriverModel → StreamId → Option ℕ → List Token
-message_if_new d id since = if stands_else (record_of d) id since then stream_message d id else []
-
--- the same of the stream of a plan at a number
-abbrev pub new_message : DriverModel → ℕ → List ℕ → ℕ → List Token
-new_message d k sinces i = message_if_new d (stream_id k i) (slice_get sinces i)
+taken_members d id sinces = moved_members d id (gone_on (record_of d) id.plan sinces)

@@ -1,7 +1,6 @@
 //! A server's slots against what is recorded.
-ghost use Rattle.std.specs.Prelude.{◌≡◌, ◌<◌, length};
 
-use crate::cells::{cell_above, write_cell};
+use crate::cells::write_cell;
 use crate::opened::Opened;
 use sm_commands::{
     BadLine, CellKind, CommandMember, LinePart, PartyText, SlotText, Writer, shard_name, write_bad,
@@ -247,15 +246,11 @@ impl<'o, 's> Audit<'o, 's> {
 
     /// Returns what is recorded of a shard, with the base in a handover's number.
     fn recorded(&self, shard: ShardId) -> Cell {
-        let placement = self.opened.driver.machine().placement();
-        let config = placement.config();
+        let config = self.opened.driver.machine().config();
         if shard.number() >= config.shard_count() || self.server.number() >= config.server_count() {
             return Cell::Absent;
         }
-        cell_above(
-            self.opened.driver.base(),
-            placement.cell(shard, self.server),
-        )
+        self.opened.driver.cell(shard, self.server)
     }
 
     /// Tells whether a shard was recorded last at or before a place, and the server has neither that nor what its

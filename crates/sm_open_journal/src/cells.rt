@@ -22,21 +22,6 @@ fn cell_word(cell: &Cell) -> &'static str
     }
 }
 
-/// Returns a cell with the base added to its handover's number, if it is in one.
-pub fn cell_above(base: u64, cell: Cell) -> Cell {
-    match cell {
-        Cell::Absent | Cell::Secondary | Cell::Primary => cell,
-        Cell::Prepared { from, number } => Cell::Prepared {
-            from,
-            number: base.saturating_add(number),
-        },
-        Cell::Forwarding { to, number } => Cell::Forwarding {
-            to,
-            number: base.saturating_add(number),
-        },
-    }
-}
-
 /// Writes, of a cell in a handover, the other server and the handover's number.
 fn write_party(writer: &mut Writer, config: &Config, cell: &Cell) -> Result<(), AllocError>
     ensures { OnOk result (writer.new.tokens ≡ writer.old.tokens ++ party_members config.now cell.now) }

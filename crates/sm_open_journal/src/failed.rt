@@ -1,63 +1,129 @@
 //! Advice about a present order that its server did not take.
+ghost use Rattle.std.specs.Prelude.{◌≡◌, ◌++◌, OnOk, codes, nat_lt, option_map};
+ghost use Rattle.std.specs.Option.{option_copied};
+ghost use Rattle.sm_commands.specs.Members.{object_member};
+ghost use Rattle.sm_driver.specs.Driver.{record_of};
+ghost use Rattle.sm_driver.specs.Orders.{net_message};
+ghost use Rattle.sm_open_journal.specs.Failed.{cause_members, failed_member, failure_members, nonce_above, nonce_for, nonce_members, nonce_now, unknown_members};
 
 use crate::bits::write_bits;
 use crate::opened::Opened;
 use sm_commands::{FailedAnswer, Writer, write_text};
-use sm_driver::StreamMessage;
+use sm_driver::{AnswerEffect, Driver, ServerRestore, StreamMessage};
 use sm_reservation::StreamId;
+use sm_server::ServerId;
 use std::alloc::{AllocError, Global};
 
-/// Returns the message of a stream that has this number, or why there is none: the stream has gone on, or waits for no such answer.
-fn present(opened: &Opened, id: StreamId, number: u64) -> Result<StreamMessage, &'static str> {
-    let machine = opened.driver.machine();
-    if !machine.is_begun(id) {
-        return Err("unknown");
-    }
-    let since = u64::from(machine.since(id));
-    let due = opened.driver.base().saturating_add(since + 1);
-    if machine.is_done(id) || number < due {
-        return Err("old");
-    }
-    match opened.driver.message(id) {
-        Some(message) if number == due => Ok(message),
-        _ => Err("unknown"),
+/// Whether a server is one of the journal's.
+fn is_known(driver: &Driver, server: ServerId) -> bool
+    ensures { result ≡ nat_lt server (record_of driver.now).sizes.servers }
+{
+    server.number() < driver.machine().config().server_count()
+}
+
+/// The nonce of a restore, if it was in the epoch of this base.
+fn nonce_above(base: u64, restore: Option<&ServerRestore>) -> Option<u64>
+    ensures { result ≡ nonce_above base (option_copied restore.entry) }
+{
+    let restore = restore?;
+    if base <= restore.number() {
+        Some(restore.nonce())
+    } else {
+        None
     }
 }
 
-/// Returns under which nonce the server of an order was restored in the present epoch, if it was.
-fn nonce_of(opened: &Opened, message: StreamMessage) -> Option<u64> {
-    let StreamMessage::Order(order) = message else {
-        return None;
-    };
-    let server = order.call.server;
-    if server.number() >= opened.driver.machine().config().server_count() {
+/// The nonce under which a server was restored in the present epoch, if it was.
+fn nonce_now(driver: &Driver, server: ServerId) -> Option<u64>
+    ensures { result ≡ nonce_now driver.now server }
+{
+    if !is_known(driver, server) {
         return None;
     }
-    match opened.driver.restored(server) {
-        Some(restore) if restore.number() >= opened.driver.base() => Some(restore.nonce()),
-        _ => None,
+    nonce_above(driver.base(), driver.restored(server))
+}
+
+/// The same of the server of an order.
+fn nonce_for(driver: &Driver, message: Option<StreamMessage>) -> Option<u64>
+    ensures { result ≡ nonce_for driver.now (option_map net_message message) }
+{
+    match message {
+        Some(StreamMessage::Order(order)) => nonce_now(driver, order.call.server),
+        Some(StreamMessage::Publication(_)) | None => None,
     }
 }
 
-/// Writes, as a member of a reply, what an order that failed points to, and what is to be done then.
+/// Writes the member `nonce`, if there is one.
+fn write_nonce(writer: &mut Writer, alloc: Global, nonce: Option<u64>) -> Result<(), AllocError>
+    ensures { OnOk result (writer.new.tokens ≡ writer.old.tokens ++ nonce_members nonce) }
+{
+    match nonce {
+        Some(nonce) => write_bits(writer, alloc, "nonce", nonce),
+        None => Ok(()),
+    }
+}
+
+/// Writes what an order that failed points to, and what is to be done then.
 fn write_cause(
     writer: &mut Writer,
     alloc: Global,
     cause: &str,
     then: &str,
     nonce: Option<u64>,
-) -> Result<(), AllocError> {
-    writer.key("failed")?;
-    writer.begin_object()?;
+) -> Result<(), AllocError>
+    ensures { OnOk result (writer.new.tokens ≡ writer.old.tokens ++ cause_members cause.now then.now nonce) }
+{
     write_text(writer, "cause", cause)?;
     write_text(writer, "then", then)?;
-    if let Some(nonce) = nonce {
-        write_bits(writer, alloc, "nonce", nonce)?;
-    }
-    writer.end_object()
+    write_nonce(writer, alloc, nonce)?;
+    Ok(())
 }
 
-/// Writes what is to be done about a present order to which its server gave this answer.
+/// Writes the same of an order whose server has lost its slots.
+fn write_unknown(writer: &mut Writer, alloc: Global, nonce: Option<u64>) -> Result<(), AllocError>
+    ensures { OnOk result (writer.new.tokens ≡ writer.old.tokens ++ unknown_members nonce) }
+{
+    match nonce {
+        Some(nonce) => write_cause(writer, alloc, "unknown", "restore", Some(nonce)),
+        None => write_cause(writer, alloc, "unknown", "reopen", None),
+    }
+}
+
+/// Writes the same by the server's answer.
+fn write_failure_members(
+    writer: &mut Writer,
+    alloc: Global,
+    answer: FailedAnswer,
+    nonce: Option<u64>,
+) -> Result<(), AllocError>
+    ensures { OnOk result (writer.new.tokens ≡ writer.old.tokens ++ failure_members answer nonce) }
+{
+    match answer {
+        FailedAnswer::Old => write_cause(writer, alloc, "ahead", "audit", None),
+        FailedAnswer::Refused => write_cause(writer, alloc, "differs", "audit", None),
+        FailedAnswer::Foreign => write_cause(writer, alloc, "foreign", "reopen", None),
+        FailedAnswer::NotReady => write_unknown(writer, alloc, nonce),
+    }
+}
+
+/// Writes the member `failed`.
+fn write_failure(
+    writer: &mut Writer,
+    alloc: Global,
+    answer: FailedAnswer,
+    nonce: Option<u64>,
+) -> Result<(), AllocError>
+    ensures { OnOk result (writer.new.tokens ≡ writer.old.tokens ++ object_member (codes "failed") (failure_members answer nonce)) }
+{
+    writer.key("failed")?;
+    writer.begin_object()?;
+    write_failure_members(writer, alloc, answer, nonce)?;
+    writer.end_object()?;
+    Ok(())
+}
+
+/// Writes what is to be done about a present order to which its server gave this answer, or that there is no such
+/// order.
 pub fn write_failed(
     opened: &Opened,
     alloc: Global,
@@ -65,18 +131,15 @@ pub fn write_failed(
     id: StreamId,
     number: u64,
     answer: FailedAnswer,
-) -> Result<(), AllocError> {
-    let message = match present(opened, id, number) {
-        Ok(message) => message,
-        Err(why) => return write_text(writer, "ignored", why),
-    };
-    match answer {
-        FailedAnswer::Old => write_cause(writer, alloc, "ahead", "audit", None),
-        FailedAnswer::Refused => write_cause(writer, alloc, "differs", "audit", None),
-        FailedAnswer::Foreign => write_cause(writer, alloc, "foreign", "reopen", None),
-        FailedAnswer::NotReady => match nonce_of(opened, message) {
-            Some(nonce) => write_cause(writer, alloc, "unknown", "restore", Some(nonce)),
-            None => write_cause(writer, alloc, "unknown", "reopen", None),
-        },
+) -> Result<(), AllocError>
+    ensures { OnOk result (writer.new.tokens ≡ writer.old.tokens ++ failed_member opened.now.driver id number answer) }
+{
+    match opened.driver.due(id, number) {
+        AnswerEffect::Moved => {
+            let nonce = nonce_for(&opened.driver, opened.driver.message(id));
+            write_failure(writer, alloc, answer, nonce)
+        }
+        AnswerEffect::Old => write_text(writer, "ignored", "old"),
+        AnswerEffect::Unknown => write_text(writer, "ignored", "unknown"),
     }
 }

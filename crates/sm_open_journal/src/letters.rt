@@ -1,12 +1,11 @@
 //! An order, or a publication, as it goes out.
-ghost use Rattle.std.specs.Prelude.{◌≡◌, ◌++◌, OnOk, true};
+ghost use Rattle.std.specs.Prelude.{◌≡◌, ◌++◌, OnOk};
 ghost use Rattle.sm_placement.specs.Setup.{sizes_of};
 ghost use Rattle.sm_placement.specs.Layout.{place_of};
-ghost use Rattle.sm_protocol.specs.State.{is_begun};
-ghost use Rattle.sm_driver.specs.Driver.{order_number, record_of};
-ghost use Rattle.sm_driver.specs.Orders.{net_message, net_order, net_publication};
+ghost use Rattle.sm_driver.specs.Driver.{record_of};
+ghost use Rattle.sm_driver.specs.Orders.{net_order, net_publication};
 ghost use Rattle.sm_open_journal.specs.Calls.{asked_members, published_members, size_members};
-ghost use Rattle.sm_open_journal.specs.Messages.{head_members, letter_by, letter_text, stream_message, message_text, notice_by, notice_text};
+ghost use Rattle.sm_open_journal.specs.Messages.{head_members, letter_by, letter_text, stream_message, notice_by, notice_text, outgoing_text};
 
 use crate::bits::write_bits;
 use crate::calls::{call_word, write_call};
@@ -127,46 +126,29 @@ impl Messages<'_> {
         Ok(())
     }
 
-    /// Writes a publication under a number.
+    /// Writes a publication.
     fn write_publication(
         &self,
         writer: &mut Writer,
         publication: &StreamPublication,
-        number: u64,
     ) -> Result<(), AllocError>
-        ensures { OnOk result (writer.new.tokens ≡ writer.old.tokens ++ notice_text self.now.driver.now (notice_by self.now.driver.now (net_publication publication.now)) number) }
+        ensures { OnOk result (writer.new.tokens ≡ writer.old.tokens
+            ++ notice_text self.now.driver.now (notice_by self.now.driver.now (net_publication publication.now)) publication.now.number) }
     {
         writer.begin_object()?;
-        self.write_head(writer, publication.stream, number)?;
+        self.write_head(writer, publication.stream, publication.number)?;
         write_published(writer, self.config(), publication)?;
         writer.end_object()?;
         Ok(())
     }
 
-    /// Returns the number of the order or the publication that a stream stands before.
-    fn number(&self, stream: StreamId) -> u64
-        requires { is_begun (record_of self.now.driver.now) stream ≡ true }
-        ensures { result ≡ order_number self.now.driver.now stream }
-    {
-        let since = self.driver.machine().since(stream);
-        self.driver.base() + u64::from(since) + 1
-    }
-
-    /// Writes an order or a publication of a stream that has begun.
-    fn write_message(
-        &self,
-        writer: &mut Writer,
-        stream: StreamId,
-        message: &StreamMessage,
-    ) -> Result<(), AllocError>
-        requires { is_begun (record_of self.now.driver.now) stream ≡ true }
-        ensures { OnOk result (writer.new.tokens ≡ writer.old.tokens ++ message_text self.now.driver.now stream (net_message message.now)) }
+    /// Writes an order or a publication.
+    fn write_message(&self, writer: &mut Writer, message: &StreamMessage) -> Result<(), AllocError>
+        ensures { OnOk result (writer.new.tokens ≡ writer.old.tokens ++ outgoing_text self.now.driver.now message.now) }
     {
         match message {
             StreamMessage::Order(order) => self.write_order(writer, order),
-            StreamMessage::Publication(publication) => {
-                self.write_publication(writer, publication, self.number(stream))
-            }
+            StreamMessage::Publication(publication) => self.write_publication(writer, publication),
         }
     }
 
@@ -174,11 +156,8 @@ impl Messages<'_> {
     pub fn write_of(&self, writer: &mut Writer, stream: StreamId) -> Result<(), AllocError>
         ensures { OnOk result (writer.new.tokens ≡ writer.old.tokens ++ stream_message self.now.driver.now stream) }
     {
-        if !self.driver.machine().is_begun(stream) {
-            return Ok(());
-        }
         match self.driver.message(stream) {
-            Some(message) => self.write_message(writer, stream, &message),
+            Some(message) => self.write_message(writer, &message),
             None => Ok(()),
         }
     }

@@ -1,12 +1,12 @@
 //! The orders and publications of streams as they go out.
-ghost use Rattle.std.specs.Prelude.{◌≡◌, ◌<◌, ◌++◌, ℕ, IfOk, OnOk, slice_get, true};
-ghost use Rattle.std.specs.List.{flat_map, range_with_len};
+ghost use Rattle.std.specs.Prelude.{◌≡◌, ◌<◌, ◌++◌, ◌∷◌, [], ℕ, IfOk, OnOk, if◌then◌else◌, slice_get, true};
+ghost use Rattle.std.specs.List.{flat_map};
 ghost use Rattle.sm_protocol.specs.State.{is_begun, stream_count, stream_id};
 ghost use Rattle.sm_machine.specs.State.{state_of};
 ghost use Rattle.sm_driver.specs.Driver.{record_of};
 ghost use Rattle.sm_driver.specs.Orders.{awaiting_of};
 ghost use Rattle.sm_open_journal.specs.Messages.{stream_message, orders_member};
-ghost use Rattle.sm_open_journal.specs.Replies.{ended_member, ended_text, gone_on, message_if_new, new_message, plan_members, sinces_of, stands_else};
+ghost use Rattle.sm_open_journal.specs.Replies.{ended_member, ended_text, gone_on, plan_told, sinces_of, stands_else};
 
 use sm_commands::Writer;
 use sm_driver::Driver;
@@ -22,7 +22,7 @@ pub struct Messages<'d> {
 }
 
 /// Returns how many streams a plan has that has begun: none if it has not.
-pub fn stream_count(machine: &Machine, plan: u32) -> u32
+fn stream_count(machine: &Machine, plan: u32) -> u32
     ensures count { result ≡ stream_count (state_of machine.now) plan }
     ensures begun { (i : ℕ) → i < result → is_begun (state_of machine.now) (stream_id plan i) ≡ true }
 {
@@ -33,14 +33,14 @@ pub fn stream_count(machine: &Machine, plan: u32) -> u32
 }
 
 /// Returns since when the stream at a number stood where it stood, if it stood anywhere.
-pub fn since_at(sinces: &[u32], stream: u32) -> Option<u32>
+fn since_at(sinces: &[u32], stream: u32) -> Option<u32>
     ensures { result ≡ slice_get sinces.now stream }
 {
     sinces.get(stream as usize).copied()
 }
 
 /// Returns whether a stream does not stand where it stood since then, if it stood anywhere.
-pub fn stands_else(machine: &Machine, id: StreamId, since: Option<u32>) -> bool
+fn stands_else(machine: &Machine, id: StreamId, since: Option<u32>) -> bool
     requires { is_begun (state_of machine.now) id ≡ true }
     ensures { result ≡ stands_else (state_of machine.now) id since }
 {
@@ -48,6 +48,22 @@ pub fn stands_else(machine: &Machine, id: StreamId, since: Option<u32>) -> bool
         Some(since) => since != machine.since(id),
         None => true,
     }
+}
+
+/// Adds a stream that has begun to a list, if it does not stand where it stood since then.
+fn push_if_new(
+    machine: &Machine,
+    id: StreamId,
+    since: Option<u32>,
+    ids: &mut Vec<StreamId>,
+) -> Result<(), AllocError>
+    requires { is_begun (state_of machine.now) id ≡ true }
+    ensures { OnOk result (ids.new.items ≡ ids.old.items ++ (if stands_else (state_of machine.now) id since then id ∷ [] else [])) }
+{
+    if stands_else(machine, id, since) {
+        ids.push(id)?;
+    }
+    Ok(())
 }
 
 impl Messages<'_> {
@@ -63,48 +79,17 @@ impl Messages<'_> {
         Ok(sinces)
     }
 
-    /// Writes the message of a stream that has begun, if it does not stand where it stood since then.
-    fn write_if_new(
-        &self,
-        writer: &mut Writer,
-        id: StreamId,
-        since: Option<u32>,
-    ) -> Result<(), AllocError>
-        requires { is_begun (record_of self.now.driver.now) id ≡ true }
-        ensures { OnOk result (writer.new.tokens ≡ writer.old.tokens ++ message_if_new self.now.driver.now id since) }
+    /// The streams of a plan that have come to where they stand since they stood so: all of them, where nothing is known.
+    pub fn gone_on(&self, plan: u32, sinces: &[u32]) -> Result<Vec<StreamId>, AllocError>
+        ensures { IfOk result (λ ids. ids.items ≡ gone_on (record_of self.now.driver.now) plan sinces.now) }
     {
-        if stands_else(self.driver.machine(), id, since) {
-            self.write_of(writer, id)
-        } else {
-            Ok(())
-        }
-    }
-
-    /// Writes the messages of those streams of a plan that have gone on since they stood so.
-    fn write_each_new(
-        &self,
-        writer: &mut Writer,
-        plan: u32,
-        sinces: &[u32],
-    ) -> Result<(), AllocError>
-        ensures { OnOk result (writer.new.tokens ≡ writer.old.tokens ++ flat_map (new_message self.now.driver.now plan sinces.now) (range_with_len 0 (stream_count (record_of self.now.driver.now) plan))) }
-    {
-        for stream in 0..stream_count(self.driver.machine(), plan) {
+        let machine = self.driver.machine();
+        let mut ids = Vec::new(self.alloc);
+        for stream in 0..stream_count(machine, plan) {
             let since = since_at(sinces, stream);
-            self.write_if_new(writer, StreamId { plan, stream }, since)?;
+            push_if_new(machine, StreamId { plan, stream }, since, &mut ids)?;
         }
-        Ok(())
-    }
-
-    /// Writes them, as a member.
-    fn write_new(&self, writer: &mut Writer, plan: u32, sinces: &[u32]) -> Result<(), AllocError>
-        ensures { OnOk result (writer.new.tokens ≡ writer.old.tokens ++ orders_member self.now.driver.now (gone_on (record_of self.now.driver.now) plan sinces.now)) }
-    {
-        writer.key("orders")?;
-        writer.begin_array()?;
-        self.write_each_new(writer, plan, sinces)?;
-        writer.end_array()?;
-        Ok(())
+        Ok(ids)
     }
 
     /// Writes the messages of streams.
@@ -117,17 +102,24 @@ impl Messages<'_> {
         Ok(())
     }
 
-    /// Writes, as a member, all messages, by plan, then by stream.
+    /// Writes the member `orders`: the messages of streams.
+    fn write_orders(&self, writer: &mut Writer, ids: &[StreamId]) -> Result<(), AllocError>
+        ensures { OnOk result (writer.new.tokens ≡ writer.old.tokens ++ orders_member self.now.driver.now ids.now) }
+    {
+        writer.key("orders")?;
+        writer.begin_array()?;
+        self.write_each(writer, ids)?;
+        writer.end_array()?;
+        Ok(())
+    }
+
+    /// Writes the member `orders`: all messages, by plan, then by stream.
     pub fn write_all(&self, writer: &mut Writer) -> Result<(), AllocError>
         ensures { OnOk result (writer.new.tokens ≡ writer.old.tokens ++ orders_member self.now.driver.now (awaiting_of (record_of self.now.driver.now))) }
     {
         let mut waiting = Vec::new(self.alloc);
         self.driver.awaiting(&mut waiting)?;
-        writer.key("orders")?;
-        writer.begin_array()?;
-        self.write_each(writer, waiting.as_slice())?;
-        writer.end_array()?;
-        Ok(())
+        self.write_orders(writer, waiting.as_slice())
     }
 
     /// Writes the number of a plan, if it has ended.
@@ -151,16 +143,16 @@ impl Messages<'_> {
         Ok(())
     }
 
-    /// Writes, as members, the messages of those streams of a plan that have gone on since they stood so, and whether the plan has ended.
+    /// Writes the messages of these streams of a plan, and whether the plan has ended.
     pub fn write_plan(
         &self,
         writer: &mut Writer,
         plan: u32,
-        sinces: &[u32],
+        ids: &[StreamId],
     ) -> Result<(), AllocError>
-        ensures { OnOk result (writer.new.tokens ≡ writer.old.tokens ++ plan_members self.now.driver.now plan sinces.now) }
+        ensures { OnOk result (writer.new.tokens ≡ writer.old.tokens ++ plan_told self.now.driver.now plan ids.now) }
     {
-        self.write_new(writer, plan, sinces)?;
+        self.write_orders(writer, ids)?;
         self.write_ended(writer, plan)?;
         Ok(())
     }

@@ -1,7 +1,7 @@
 //! The effects of an answer.
 ghost use Rattle.std.specs.Prelude.{◌≡◌, ◌++◌, OnOk};
 ghost use Rattle.sm_driver.specs.Driver.{record_of};
-ghost use Rattle.sm_open_journal.specs.Replies.{moved_member, position_of, step_members, taken_members};
+ghost use Rattle.sm_open_journal.specs.Replies.{moved_member, moved_members, position_of, step_members};
 
 use crate::messages::Messages;
 use sm_commands::{Writer, write_number};
@@ -43,18 +43,18 @@ impl Messages<'_> {
         Ok(())
     }
 
-    /// Writes, as members, that a stream has made its step, the new messages of its plan's streams, and whether the
-    /// plan has ended.
+    /// Writes that a stream has made its step, the messages of these streams of its plan, and whether the plan has
+    /// ended.
     pub fn write_taken(
         &self,
         writer: &mut Writer,
         id: StreamId,
-        sinces: &[u32],
+        gone_on: &[StreamId],
     ) -> Result<(), AllocError>
-        ensures { OnOk result (writer.new.tokens ≡ writer.old.tokens ++ taken_members self.now.driver.now id sinces.now) }
+        ensures { OnOk result (writer.new.tokens ≡ writer.old.tokens ++ moved_members self.now.driver.now id gone_on.now) }
     {
         self.write_moved(writer, id)?;
-        self.write_plan(writer, id.plan, sinces)?;
+        self.write_plan(writer, id.plan, gone_on)?;
         Ok(())
     }
 }

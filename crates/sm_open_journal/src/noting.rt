@@ -2,7 +2,6 @@
 
 use crate::begun_plan::BegunPlan;
 use crate::history::History;
-use crate::messages::{since_at, stands_else, stream_count};
 use sm_driver::{Driver, StreamMessage};
 use sm_machine::Machine;
 use sm_reservation::StreamId;
@@ -27,14 +26,14 @@ pub fn note_begun(
     Ok(())
 }
 
-/// Notes that a message was answered at a place: what it has changed, which streams of its plan have gone on since they stood so, and whether
+/// Notes that a message was answered at a place: what it has changed, which streams of its plan have gone on, and whether
 /// the plan has ended.
 pub fn note_answered(
     history: &mut History,
     driver: &Driver,
     place: u64,
     message: StreamMessage,
-    sinces: &[u32],
+    gone_on: &[StreamId],
 ) -> Result<(), AllocError> {
     let plan = match message {
         StreamMessage::Order(order) => {
@@ -46,13 +45,9 @@ pub fn note_answered(
             publication.stream.plan
         }
     };
-    let machine = driver.machine();
-    for stream in 0..stream_count(machine, plan) {
-        let id = StreamId { plan, stream };
-        if stands_else(machine, id, since_at(sinces, stream)) {
-            history.note_moved(place, id);
-        }
+    for id in gone_on {
+        history.note_moved(place, *id);
     }
-    note_end(history, machine, place, plan);
+    note_end(history, driver.machine(), place, plan);
     Ok(())
 }

@@ -1,7 +1,7 @@
 //! A journal that is open.
 ghost use Rattle.std.specs.Prelude.{◌≡◌, ◌++◌, [], IfOk, OnOk};
 ghost use Rattle.sm_commands.specs.Members.{list_member};
-ghost use Rattle.sm_open_journal.specs.Replies.{plan_members, taken_members};
+ghost use Rattle.sm_open_journal.specs.Replies.{moved_members, plan_members};
 ghost use Rattle.sm_open_journal.specs.Begun.{begun_again_members, begun_member, begun_members, begun_plan, nothing_new, plan_members_again, size_of_plan};
 
 use crate::begun_plan::BegunPlan;
@@ -227,21 +227,22 @@ impl Opened {
     ) -> Result<(), AllocError>
         ensures { OnOk result (writer.new.tokens ≡ writer.old.tokens ++ plan_members self.now.driver number []) }
     {
-        self.messages(alloc).write_plan(writer, number, &[])?;
-        Ok(())
+        let messages = self.messages(alloc);
+        let streams = messages.gone_on(number, &[])?;
+        messages.write_plan(writer, number, streams.as_slice())
     }
 
-    /// Writes, as members of a reply, that a stream has made its step, and what has come of that.
+    /// Writes that a stream has made its step, and which streams of its plan have gone on.
     pub fn write_taken(
         &self,
         alloc: Global,
         writer: &mut Writer,
         id: StreamId,
-        sinces: &[u32],
+        gone_on: &[StreamId],
     ) -> Result<(), AllocError>
-        ensures { OnOk result (writer.new.tokens ≡ writer.old.tokens ++ taken_members self.now.driver id sinces.now) }
+        ensures { OnOk result (writer.new.tokens ≡ writer.old.tokens ++ moved_members self.now.driver id gone_on.now) }
     {
-        self.messages(alloc).write_taken(writer, id, sinces)?;
+        self.messages(alloc).write_taken(writer, id, gone_on)?;
         Ok(())
     }
 

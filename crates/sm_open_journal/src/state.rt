@@ -3,7 +3,7 @@ ghost use Rattle.std.specs.Prelude.{◌≡◌, ◌<◌, length, true};
 ghost use Rattle.sm_protocol.specs.State.{is_begun};
 ghost use Rattle.sm_driver.specs.Driver.{record_of};
 
-use crate::cells::{cell_above, write_cell};
+use crate::cells::write_cell;
 use crate::holders::write_listed;
 use crate::opened::Opened;
 use sm_commands::{
@@ -67,22 +67,16 @@ fn write_server(
 fn write_cells(opened: &Opened, writer: &mut Writer, shard: ShardId) -> Result<(), AllocError>
     requires { shard < length opened.now.driver.machine.placement.setup.shards }
 {
-    let placement = opened.driver.machine().placement();
-    let config = placement.config();
+    let config = opened.driver.machine().config();
     writer.key("cells")?;
     writer.begin_array()?;
     for number in 0..config.server_count() {
         let server = ServerId::new(number);
-        let cell = placement.cell(shard, server);
+        let cell = opened.driver.cell(shard, server);
         if !cell.is_absent() {
             writer.begin_object()?;
             write_text(writer, "server", server_name(config, server))?;
-            write_cell(
-                writer,
-                config,
-                "state",
-                cell_above(opened.driver.base(), cell),
-            )?;
+            write_cell(writer, config, "state", cell)?;
             writer.end_object()?;
         }
     }
@@ -129,11 +123,9 @@ fn write_stream(
     } else if let Some(signal) = machine.blocked_on(id) {
         write_text(writer, "is", "waiting")?;
         write_number(writer, "signal", u64::from(signal))?;
-    } else {
-        let since = u64::from(machine.since(id));
-        let number = opened.driver.base().saturating_add(since + 1);
+    } else if let Some(message) = opened.driver.message(id) {
         write_text(writer, "is", "ordered")?;
-        write_number(writer, "number", number)?;
+        write_number(writer, "number", message.number())?;
     }
     writer.end_object()
 }

@@ -1,3 +1,4 @@
+pub mod Laws
 pub mod Parties
 pub mod Settles
 pub mod Taken

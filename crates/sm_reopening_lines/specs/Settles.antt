@@ -1,8 +1,7 @@
 -- Settles in replies: what each party has from now on.
-use Rattle.std.specs.Prelude.{ℕ, List, [], ◌++◌, Option, codes, false, length, option_map}
+use Rattle.std.specs.Prelude.{ℕ, ◌||◌, Bool, List, [], ◌++◌, Option, Some, None, codes, false, if◌then◌else◌, is_some, length, option_map}
 use Rattle.std.specs.Fmt.{digits}
 use Rattle.std.specs.List.{flat_map, range_with_len}
-use Rattle.std.specs.Option.{option_map_or}
 use Rattle.json.specs.Token.{Token}
 use Rattle.sm_server.specs.declared.call.Role.{Role}
 use Rattle.sm_server.specs.declared.call.Role.TheVariants as role
@@ -16,6 +15,7 @@ use Rattle.sm_reopening.specs.declared.party.Party.TheVariants.{MapOwner, Server
 use Rattle.sm_document_reopening.specs.Proposal.{document_shards}
 use Rattle.sm_document_reopening.specs.Reopening.{ReopeningModel}
 use Rattle.sm_document_reopening.specs.Roles.{role_by_cell}
+use Rattle.sm_document_reopening.specs.Told.{has_told_of}
 use Rattle.sm_document_reopening.specs.Waiting.{unsettled_parties}
 use Rattle.sm_commands.specs.Members.{list_member, name_member, number_member, object, server_text, shard_text, text_member}
 use Rattle.sm_reopening_lines.specs.Parties.{addressed_members}
@@ -25,20 +25,29 @@ abbrev pub given_cell_text : Role → List ℕ
 given_cell_text role.Primary = codes "primary"
 given_cell_text role.Secondary = codes "secondary"
 
--- a slot that a server has from now on: its shard, the cell, and the shard's load
-abbrev pub given_slot_members : Setup → ℕ → Role → List Token
+-- the word for what a server has of a shard outside of handovers: its role, or nothing
+abbrev pub settled_cell_text : Option Role → List ℕ
+settled_cell_text (Some given) = given_cell_text given
+settled_cell_text None = codes "absent"
+
+-- a slot as it is from now on: its shard, the cell, and the shard's load
+abbrev pub given_slot_members : Setup → ℕ → Option Role → List Token
 given_slot_members setup s given =
     text_member (codes "shard") (shard_text setup s)
-    ++ text_member (codes "cell") (given_cell_text given)
+    ++ text_member (codes "cell") (settled_cell_text given)
     ++ number_member (codes "load") ((sizes_of setup).load s)
 
--- the same of a server and a shard, unless it has nothing of the shard
-abbrev pub given_slot_text : Setup → Place → ℕ → ℕ → List Token
-given_slot_text setup place v s = option_map_or (λ given. object (given_slot_members setup s given)) (role_by_cell (place.cells s v)) []
+-- A settle brings a server the slot of each shard of which it has something from now on, or has told that it has something.
+abbrev pub is_brought : ReopeningModel → Place → ℕ → ℕ → Bool
+is_brought r place v s = is_some (role_by_cell (place.cells s v)) || has_told_of r v s
 
--- the slots of a server, as a member
-abbrev pub given_slots_member : Setup → Place → ℕ → List Token
-given_slots_member setup place v = list_member (codes "slots") (flat_map (given_slot_text setup place v) (range_with_len 0 (length setup.shards)))
+-- the slot of a server and a shard, if a settle brings it
+abbrev pub given_slot_text : ReopeningModel → Setup → Place → ℕ → ℕ → List Token
+given_slot_text r setup place v s = if is_brought r place v s then object (given_slot_members setup s (role_by_cell (place.cells s v))) else []
+
+-- those that a settle brings a server, as a member
+abbrev pub given_slots_member : ReopeningModel → Setup → Place → ℕ → List Token
+given_slots_member r setup place v = list_member (codes "slots") (flat_map (given_slot_text r setup place v) (range_with_len 0 (length setup.shards)))
 
 -- an entry of the map: the shard, its server or none, and the version
 abbrev pub entry_members : Setup → Place → ℕ → ℕ → List Token
@@ -55,7 +64,7 @@ entries_member r setup place =
 -- what a settle brings: to the map's owner the entries, to a server its slots for the nonce under which it asked, if it did
 abbrev pub brought_members : ReopeningModel → Setup → Place → Party → Option ℕ → List Token
 brought_members r setup place MapOwner asked = entries_member r setup place
-brought_members r setup place (Server v) asked = name_member (codes "nonce") (option_map (digits 16 false) asked) ++ given_slots_member setup place v
+brought_members r setup place (Server v) asked = name_member (codes "nonce") (option_map (digits 16 false) asked) ++ given_slots_member r setup place v
 
 -- the network's settle to a party; no other message is told so
 abbrev pub settle_text : List ℕ → ReopeningModel → Party → Message → List Token

@@ -1,12 +1,14 @@
 //! The lines of a reopening: what servers tell and operators choose, and the replies.
 #![tactic(auto)]
 
+mod law;
 mod proposed;
 mod refused;
 mod sent;
 mod taken;
 mod told;
 
+pub use law::settles_bring_all;
 pub use proposed::{write_proposal, write_state, write_waiting};
 pub use refused::{refuse_confirm, refuse_reopen};
 pub use sent::{write_fences, write_settles};

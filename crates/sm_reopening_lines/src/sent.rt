@@ -6,7 +6,7 @@ ghost use Rattle.sm_placement.specs.Layout.{place_of};
 ghost use Rattle.sm_commands.specs.Members.{name_member, object, server_text};
 ghost use Rattle.sm_document_reopening.specs.Roles.{role_by_cell};
 ghost use Rattle.sm_reopening_lines.specs.Parties.{addressed_members, fence_text, fences_member, party_name};
-ghost use Rattle.sm_reopening_lines.specs.Settles.{brought_members, entries_member, entry_members, settle_to, settles_member, given_slot_members, given_slot_text, given_slots_member};
+ghost use Rattle.sm_reopening_lines.specs.Settles.{brought_members, entries_member, entry_members, is_brought, settle_to, settled_cell_text, settles_member, given_slot_members, given_slot_text, given_slots_member};
 
 use crate::proposed::role_word;
 use sm_commands::{Writer, server_name, shard_name, write_name, write_number, write_text};
@@ -110,33 +110,65 @@ fn settled_cell(settlement: &Placement, shard: ShardId, server: ServerId) -> Cel
     settlement.cell(shard, server)
 }
 
-/// Writes the members of a slot of a server that has this role.
+/// The word for what a server has of a shard outside of handovers.
+fn settled_cell_word(role: Option<Role>) -> &'static str
+    ensures { result.now ≡ settled_cell_text role }
+{
+    match role {
+        Some(role) => role_word(role),
+        None => "absent",
+    }
+}
+
+/// Writes the members of a slot of a server that has this role from now on, or nothing.
 fn write_slot_members(
     writer: &mut Writer,
     config: &Config,
     shard: ShardId,
-    role: Role,
+    role: Option<Role>,
 ) -> Result<(), AllocError>
     requires { shard < length config.now.shards }
     ensures { OnOk result (writer.new.tokens ≡ writer.old.tokens ++ given_slot_members config.now shard role) }
 {
     write_text(writer, "shard", shard_name(config, shard))?;
-    write_text(writer, "cell", role_word(role))?;
+    write_text(writer, "cell", settled_cell_word(role))?;
     write_number(writer, "load", config.load(shard))?;
     Ok(())
 }
 
-/// Writes a slot of a server, if it holds something.
+/// The role that a settlement gives a server for a shard, if the server has something of it from now on.
+fn given_role(settlement: &Placement, shard: ShardId, server: ServerId) -> Option<Role>
+    ensures { result ≡ role_by_cell ((place_of settlement.now).cells shard server) }
+{
+    settled_role(&settled_cell(settlement, shard, server))
+}
+
+/// Whether a settle brings a server the slot of a shard: it has something of it from now on, or has told that it has.
+fn is_brought(
+    reopening: &DocumentReopening,
+    settlement: &Placement,
+    server: ServerId,
+    shard: ShardId,
+) -> bool
+    ensures { result ≡ is_brought reopening.now (place_of settlement.now) server shard }
+{
+    given_role(settlement, shard, server).is_some() || reopening.has_told_of(server, shard)
+}
+
+/// Writes the slot of a shard, if a settle brings it to a server.
 fn write_slot(
     writer: &mut Writer,
+    reopening: &DocumentReopening,
     settlement: &Placement,
     server: ServerId,
     shard: ShardId,
 ) -> Result<(), AllocError>
     requires { shard < length settlement.now.setup.shards }
-    ensures { OnOk result (writer.new.tokens ≡ writer.old.tokens ++ given_slot_text settlement.now.setup (place_of settlement.now) server shard) }
+    ensures { OnOk result (writer.new.tokens ≡ writer.old.tokens
+        ++ given_slot_text reopening.now settlement.now.setup (place_of settlement.now) server shard) }
 {
-    if let Some(role) = settled_role(&settled_cell(settlement, shard, server)) {
+    if is_brought(reopening, settlement, server, shard) {
+        let role = given_role(settlement, shard, server);
         writer.begin_object()?;
         write_slot_members(writer, settlement.config(), shard, role)?;
         writer.end_object()?;
@@ -144,32 +176,34 @@ fn write_slot(
     Ok(())
 }
 
-/// Writes the slots that hold something, by the numbers of their shards.
+/// Writes the slots that a settle brings a server, by the numbers of their shards.
 fn write_each_slot(
     writer: &mut Writer,
+    reopening: &DocumentReopening,
     settlement: &Placement,
     server: ServerId,
 ) -> Result<(), AllocError>
     ensures { OnOk result (writer.new.tokens ≡ writer.old.tokens
-        ++ flat_map (given_slot_text settlement.now.setup (place_of settlement.now) server) (range_with_len 0 (length settlement.now.setup.shards))) }
+        ++ flat_map (given_slot_text reopening.now settlement.now.setup (place_of settlement.now) server) (range_with_len 0 (length settlement.now.setup.shards))) }
 {
     for number in 0..settlement.config().shard_count() {
-        write_slot(writer, settlement, server, ShardId::new(number))?;
+        write_slot(writer, reopening, settlement, server, ShardId::new(number))?;
     }
     Ok(())
 }
 
-/// Writes, as a member, the slots that a server has from now on.
+/// Writes, as a member, the slots that a settle brings a server.
 fn write_slots(
     writer: &mut Writer,
+    reopening: &DocumentReopening,
     settlement: &Placement,
     server: ServerId,
 ) -> Result<(), AllocError>
-    ensures { OnOk result (writer.new.tokens ≡ writer.old.tokens ++ given_slots_member settlement.now.setup (place_of settlement.now) server) }
+    ensures { OnOk result (writer.new.tokens ≡ writer.old.tokens ++ given_slots_member reopening.now settlement.now.setup (place_of settlement.now) server) }
 {
     writer.key("slots")?;
     writer.begin_array()?;
-    write_each_slot(writer, settlement, server)?;
+    write_each_slot(writer, reopening, settlement, server)?;
     writer.end_array()?;
     Ok(())
 }
@@ -293,7 +327,7 @@ fn write_brought(
         Party::MapOwner => write_entries(writer, alloc, reopening, settlement),
         Party::Server(server) => {
             write_nonce(writer, alloc, settle.nonce)?;
-            write_slots(writer, settlement, *server)?;
+            write_slots(writer, reopening, settlement, *server)?;
             Ok(())
         }
     }

@@ -17,7 +17,7 @@ use Rattle.sm_driver.specs.Driver.{DriverModel, HasBegunPlan, record_of}
 use Rattle.sm_open_journal.specs.declared.opened.Opened.{Opened}
 use Rattle.sm_session.specs.Asked.{BeginsPlanOf, IsFirstOpened, IsOpenedBy, OpensOver, SaysPlan}
 use Rattle.sm_session.specs.Changes.{HasDriven, driver_of}
-use Rattle.sm_session.specs.Replies.{TellsDriven, TellsOpened}
+use Rattle.sm_session.specs.Replies.{TellsBegun, TellsOpened, TellsPlan}
 
 -- what holds of what was found holds of it by its name
 pub found_is : {A : Type 0} (P : A → Type 0) (found : Option A) (x : A) → found ≡ Some x → IfSome found P → P x
@@ -34,6 +34,20 @@ begun_as_said (Ok b) plan_of read made plan ready value old new is_read is_made 
     let did = begun is in
     let equal : plan_of ready ≡ plan = found_is (λ x. plan_of x ≡ plan) made ready is_made same in
     (plan, did.0, found_is (SaysPlan old.machine.placement.setup value) read plan is_read says, subst (λ p. HasBegunPlan p did.0 old new) equal did.1)
+
+-- and its begin is told, behind what was written before the plan was read
+pub begun_and_told : {E R : Type 0} (r : Result Bool E) (plan_of : R → PlanModel) (read : Option PlanModel) (made : Option R) (plan : PlanModel) (ready : R)
+    (value : Data) (old new : DriverModel) (before mid after : List Token) → read ≡ Some plan → made ≡ Some ready → mid ≡ before →
+    IfSome read (SaysPlan old.machine.placement.setup value) → IfSome made (λ x. plan_of x ≡ plan) →
+    IfOk r (λ begun. begun ≡ true → TellsPlan (plan_of ready) old new mid after) →
+    IfOk r (λ begun. begun ≡ true → TellsBegun value old new before after)
+begun_and_told (Err _) plan_of read made plan ready value old new before mid after is_read is_made quiet says same told = tt
+begun_and_told (Ok b) plan_of read made plan ready value old new before mid after is_read is_made quiet says same told = λ is. (
+  plan,
+  found_is (SaysPlan old.machine.placement.setup value) read plan is_read says,
+  subst (λ (ts : List Token). TellsPlan plan old new ts after) quiet
+      (subst (λ p. TellsPlan p old new mid after) (found_is (λ x. plan_of x ≡ plan) made ready is_made same) (told is)),
+)
 
 -- of nothing that is there, there is none
 pub none_open : (o : Option Opened) (some : Bool) → some ≡ is_some o → some ≡ false → o ≡ None
@@ -94,10 +108,10 @@ opens_over before after driver read document found placement value journal epoch
     state same of_journal of_epoch first)
 
 -- the first opening is told, and nothing before it
-pub tells_first : {D P : Type 0} (before after : Option Opened) (read : Option D) (document : D) (found : Option P) (placement : P) (start mid end told : List Token) →
-    before ≡ None → read ≡ Some document → found ≡ Some placement → IfSome read (λ _. mid ≡ start) → IfSome found (λ _. end ≡ mid) →
-    TellsOpened after end told → TellsDriven before after start told
-tells_first before after read document found placement start mid end told none is_read is_found quiet still tells =
+pub tells_first : {D P : Type 0} (after : Option Opened) (read : Option D) (document : D) (found : Option P) (placement : P) (start mid end told : List Token) →
+    read ≡ Some document → found ≡ Some placement → IfSome read (λ _. mid ≡ start) → IfSome found (λ _. end ≡ mid) →
+    TellsOpened after end told → TellsOpened after start told
+tells_first after read document found placement start mid end told is_read is_found quiet still tells =
     let first : mid ≡ start = found_is (λ _. mid ≡ start) read document is_read quiet in
     let second : end ≡ mid = found_is (λ _. end ≡ mid) found placement is_found still in
-    rw none (subst (λ ts. TellsOpened after ts told) (second ∙ first) tells)
+    subst (λ ts. TellsOpened after ts told) (second ∙ first) tells

@@ -1,6 +1,9 @@
 pub mod Asked
 pub mod Declined
+pub mod Did
 pub mod Following
+pub mod Outcomes
 pub mod Replayed
 pub mod Shifted
 pub mod Told
+pub mod Verdicts

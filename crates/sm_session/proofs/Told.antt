@@ -8,6 +8,10 @@ use Rattle.sm_plan_text.specs.Reading.{data_of}
 use Rattle.sm_commands.specs.declared.command.Id.{Id}
 use Rattle.sm_commands.specs.declared.bad_line.BadLine.{BadLine}
 use Rattle.sm_commands.specs.declared.command.LineCommand.{LineCommand}
+use Rattle.sm_commands.specs.declared.command.LineCommand.TheVariants as line
+use Rattle.sm_commands.specs.declared.command.DriverCommand.{DriverCommand}
+use Rattle.sm_commands.specs.declared.command.Question.{Question}
+use Rattle.sm_commands.specs.declared.command.Question.TheVariants as question
 use Rattle.sm_commands.specs.BadLines.{told_bad}
 use Rattle.sm_commands.specs.Ids.{line_id}
 use Rattle.sm_commands.specs.Lines.{Says}
@@ -19,9 +23,10 @@ use Rattle.sm_session.specs.declared.reopening.UnderWay.{UnderWay}
 use Rattle.sm_session.specs.declared.session.LineEffect.{LineEffect}
 use Rattle.sm_session.specs.declared.session.LineEffect.TheVariants.{Changed}
 use Rattle.sm_session.specs.declared.session.Session.{Session}
+use Rattle.sm_session.specs.Questions.{orders_reply}
 use Rattle.sm_session.specs.Answers.{Answers, AnswersLine, AnswersObject, IsBad, IsCommand, Object}
-use Rattle.sm_session.specs.Asked.{IsKnownOver, setup_in_force}
-use Rattle.sm_session.specs.Replies.{Drives, IsLineReply, SessionTells, TellsBehindId, TellsChange, TellsChanges, TellsLine, TellsOpened}
+use Rattle.sm_session.specs.Asked.{DoesToSession, IsKnownOver, setup_in_force}
+use Rattle.sm_session.specs.Replies.{IsLineReply, SessionTells, TellsChange, TellsChanges, TellsLine, TellsOpened, TellsValue}
 
 -- the members of a line's reply, in braces; nothing was written before them
 pub replied : (asked : List ℕ) (old new : Session) (effect : LineEffect) (before after text : List ℕ) (first members : List Token) →
@@ -47,13 +52,19 @@ pub told_opened : (new : Option Opened) (before mid after : List Token) → mid 
 told_opened new before mid after quiet told = subst (λ (ts : List Token). TellsOpened new ts after) quiet told
 
 -- the members behind the line's id
-pub told_behind : {E : Type 0} (r : Result Bool E) (value : Data) (id : Option Id) (old new : Session) (before mid after : List Token) →
-    id_members id ≡ line_id value → mid ≡ before ++ id_members id →
-    IfOk r (λ changed. changed ≡ true → SessionTells old new mid after) →
-    IfOk r (λ changed. changed ≡ true → TellsBehindId value old new before after)
-told_behind (Ok x) value id old new before mid after same e told =
-    λ is. subst (λ (ts : List Token). SessionTells old new ts after) (e ∙ ap (λ (ts : List Token). before ++ ts) same) (told is)
-told_behind (Err x) value id old new before mid after same e told = tt
+pub told_behind : {E : Type 0} (r : Result Bool E) (value : Data) (command : LineCommand) (id : Option Id) (old new : Session) (before mid after : List Token) →
+    id_members id ≡ line_id value → mid ≡ before ++ id_members id → Says value command → IsKnownOver (setup_in_force old) command →
+    IfOk r (λ changed. changed ≡ true → DoesToSession command old new) →
+    IfOk r (λ changed. changed ≡ true → SessionTells command old new mid after) →
+    IfOk r (λ changed. changed ≡ true → TellsValue value old new before after)
+told_behind (Ok x) value command id old new before mid after same e says known does told = λ is. (
+  command,
+  says,
+  known,
+  does is,
+  subst (λ (ts : List Token). SessionTells command old new ts after) (e ∙ ap (λ (ts : List Token). before ++ ts) same) (told is),
+)
+told_behind (Err x) value command id old new before mid after same e says known does told = tt
 
 -- a reply answers a known command behind the line's id
 pub answered_behind : {A E : Type 0} (r : Result A E) (value : Data) (command : LineCommand) (id : Option Id) (s : Session)
@@ -85,10 +96,20 @@ pub read_is : {A E : Type 0} (P : A → Type 0) (r : Result A E) (x : A) → r �
 read_is P r x is holds = subst (λ (it : Result _ _). IfOk it P) is holds
 
 -- what a command tells of the driver, as long as no reopening is under way
-pub told_driven : {E : Type 0} (r : Result Bool E) (opened new : Option Opened) (under after_it : Option UnderWay) (o p : Opened) (is_reopening : Bool) (before after : List Token) →
+pub told_driven : {E : Type 0} (r : Result Bool E) (command : DriverCommand) (opened new : Option Opened) (under after_it : Option UnderWay) (o p : Opened) (is_reopening : Bool) (before after : List Token) →
     opened ≡ Some o → new ≡ Some p → after_it ≡ under → (is_reopening ≡ false → under ≡ None) →
-    IfOk r (λ changed. changed ≡ true → TellsChange o.driver p.driver before after) → IfOk r (λ changed. changed ≡ true → is_reopening ≡ false) →
-    IfOk r (λ changed. changed ≡ true → TellsChanges opened under new after_it before after)
-told_driven (Ok x) opened new under after_it o p is_reopening before after was is_now stays none told in_force =
-    λ is. rw (was, is_now, stays) (Drives (none (in_force is)) (none (in_force is)) (told is))
-told_driven (Err e) opened new under after_it o p is_reopening before after was is_now stays none told in_force = tt
+    IfOk r (λ changed. changed ≡ true → TellsChange command o.driver p.driver before after) → IfOk r (λ changed. changed ≡ true → is_reopening ≡ false) →
+    IfOk r (λ changed. changed ≡ true → TellsChanges (line.Driver command) opened under new after_it before after)
+told_driven (Ok x) command opened new under after_it o p is_reopening before after was is_now stays none told in_force =
+    λ is. rw (was, is_now, stays) (none (in_force is), none (in_force is), told is)
+told_driven (Err e) command opened new under after_it o p is_reopening before after was is_now stays none told in_force = tt
+
+-- a question is answered: `orders` as long as no reopening is under way
+pub answers_question : (asked : Question) (s : Session) (before after : List Token) →
+    (asked ≡ question.Orders → s.under_way ≡ None → after ≡ before ++ orders_reply s.opened) → Answers (line.Question asked) s before after
+answers_question question.Orders s before after told = told refl
+answers_question question.Hello s before after told = tt
+answers_question (question.State _) s before after told = tt
+answers_question question.Map s before after told = tt
+answers_question (question.Since _) s before after told = tt
+answers_question (question.InForce _) s before after told = tt

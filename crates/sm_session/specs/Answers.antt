@@ -1,6 +1,6 @@
 -- Answers to lines, whether they change something or not: a command that comes again is told what it was told, an answer that no stream waits for is
 -- ignored, `orders` tells all orders, and a line that is no command is told as bad.
-use Rattle.std.specs.Prelude.{◌≡◌, ◌<◌, ◌⊎◌, ◌&&◌, ◌||◌, ℕ, Bool, true, false, List, ◌++◌, Option, Some, None, IfSome, bytes_eq, codes, if◌then◌else◌, is_some, length, not, string_bytes}
+use Rattle.std.specs.Prelude.{◌≡◌, ◌<◌, ◌⊎◌, ℕ, Bool, true, false, List, ◌++◌, Option, Some, None, IfSome, bytes_eq, codes, is_some, length, not, string_bytes}
 use Rattle.json.specs.Token.{Token}
 use Rattle.serde_json.specs.Data.{Data}
 use Rattle.serde_json.specs.Find.{as_object}
@@ -9,7 +9,7 @@ use Rattle.sm_placement.specs.Setup.{server_named}
 use Rattle.sm_reservation.specs.declared.stream_id.StreamId.{StreamId}
 use Rattle.sm_plan_text.specs.Reading.{data_of}
 use Rattle.sm_names.specs.Names.{value_of}
-use Rattle.sm_driver.specs.Driver.{DriverModel, is_due, is_past}
+use Rattle.sm_driver.specs.Driver.{DriverModel}
 use Rattle.sm_driver.specs.Restores.{was_told}
 use Rattle.sm_commands.specs.BadLines.{told_bad}
 use Rattle.sm_commands.specs.Ids.{line_id}
@@ -20,6 +20,9 @@ use Rattle.sm_commands.specs.declared.bad_line.BadLine.{BadLine}
 use Rattle.sm_commands.specs.declared.bad_line.BadLine.TheVariants as bad
 use Rattle.sm_commands.specs.declared.command.LineCommand.{LineCommand}
 use Rattle.sm_commands.specs.declared.command.LineCommand.TheVariants as line
+use Rattle.sm_commands.specs.declared.command.DriverCommand.{DriverCommand}
+use Rattle.sm_commands.specs.declared.command.DriverCommand.TheVariants as driver
+use Rattle.sm_commands.specs.declared.command.Question.TheVariants as question
 use Rattle.sm_commands.specs.declared.line_part.LinePart.TheVariants.{Line}
 use Rattle.sm_open_journal.specs.declared.given_permits.GivenAt.{GivenAt}
 use Rattle.sm_open_journal.specs.declared.given_permits.GivenPermit.{GivenPermit}
@@ -29,6 +32,7 @@ use Rattle.sm_open_journal.specs.Given.{given_at}
 use Rattle.sm_open_journal.specs.Permits.{given_member}
 use Rattle.sm_open_journal.specs.Restores.{TellsKept}
 use Rattle.sm_session.specs.Asked.{IsKnownOver, setup_in_force}
+use Rattle.sm_session.specs.Outcomes.{ignored_word, is_expected, why_ignored}
 use Rattle.sm_session.specs.Questions.{orders_reply}
 use Rattle.sm_session.specs.declared.session.Session.{Session}
 use Rattle.sm_session.specs.declared.session.TheConstants.{MOST_BYTES}
@@ -61,34 +65,27 @@ TellsRestoredAgain o name nonce before after =
 
 -- ---- answers that tell nothing new
 
--- a stream waits for this answer, and no reopening is under way
-abbrev pub is_expected : Bool → DriverModel → StreamId → ℕ → Bool
-is_expected is_reopening d id number = not is_reopening && is_due d id number
-
--- why an answer is ignored: its stream has gone on, or a reopening is under way; otherwise it is not known
-abbrev pub ignored_answer : Bool → DriverModel → StreamId → ℕ → List ℕ
-ignored_answer is_reopening d id number = if is_reopening || is_past d id number then codes "old" else codes "unknown"
-
 -- an answer that no stream waits for is ignored
 abbrev pub TellsIgnored : DriverModel → Bool → StreamId → ℕ → List Token → List Token → Type 0
 TellsIgnored d is_reopening id number before after = is_expected is_reopening d id number ≡ false
-    → after ≡ before ++ text_member (codes "ignored") (ignored_answer is_reopening d id number)
+    → after ≡ before ++ text_member (codes "ignored") (ignored_word (why_ignored is_reopening d id number))
 
 -- ---- commands
 
 -- a command on a journal that is open is told what it was told before, or that it tells nothing new
-abbrev pub AnswersAgain : LineCommand → Opened → Bool → List Token → List Token → Type 0
-AnswersAgain (line.Begin _ name) o is_reopening before after = TellsBegunAgain o is_reopening name.now before after
-AnswersAgain (line.Approve server by) o is_reopening before after = TellsApprovedAgain o server.now by.now before after
-AnswersAgain (line.Restore name nonce) o is_reopening before after = TellsRestoredAgain o name.now nonce before after
-AnswersAgain (line.Answered plan stream number) o is_reopening before after =
+abbrev pub AnswersAgain : DriverCommand → Opened → Bool → List Token → List Token → Type 0
+AnswersAgain (driver.Begin _ name) o is_reopening before after = TellsBegunAgain o is_reopening name.now before after
+AnswersAgain (driver.Approve server by) o is_reopening before after = TellsApprovedAgain o server.now by.now before after
+AnswersAgain (driver.Restore name nonce) o is_reopening before after = TellsRestoredAgain o name.now nonce before after
+AnswersAgain (driver.Answered plan stream number) o is_reopening before after =
     TellsIgnored o.driver is_reopening (record { plan = plan; stream = stream }) number before after
 AnswersAgain _ o is_reopening before after = Unit {0}
 
 -- So is a command to a session. As long as no reopening is under way, `orders` is told all orders and notices. Of other commands nothing is said.
 abbrev pub Answers : LineCommand → Session → List Token → List Token → Type 0
-Answers line.Orders s before after = s.under_way ≡ None → after ≡ before ++ orders_reply s.opened
-Answers command s before after = IfSome s.opened (λ o. AnswersAgain command o (is_some s.under_way) before after)
+Answers (line.Question question.Orders) s before after = s.under_way ≡ None → after ≡ before ++ orders_reply s.opened
+Answers (line.Driver command) s before after = IfSome s.opened (λ o. AnswersAgain command o (is_some s.under_way) before after)
+Answers _ s before after = Unit {0}
 
 -- ---- lines
 

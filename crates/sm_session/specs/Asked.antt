@@ -21,6 +21,9 @@ use Rattle.sm_commands.specs.Commands.{IsKnownCommand}
 use Rattle.sm_commands.specs.Lines.{Says}
 use Rattle.sm_commands.specs.declared.command.LineCommand.{LineCommand}
 use Rattle.sm_commands.specs.declared.command.LineCommand.TheVariants as line
+use Rattle.sm_commands.specs.declared.command.DriverCommand.{DriverCommand}
+use Rattle.sm_commands.specs.declared.command.DriverCommand.TheVariants as driver
+use Rattle.sm_commands.specs.declared.command.ReopeningCommand.TheVariants as reopening
 use Rattle.sm_open_journal.specs.declared.opened.Opened.{Opened}
 use Rattle.sm_document_reopening.specs.Reopening.{ReopeningModel}
 use Rattle.sm_reopening_lines.specs.Taken.{ConfirmsAt, TakesFenced, TakesSettledBy}
@@ -52,14 +55,13 @@ RestoresServerOf name nonce old new =
     (server : ℕ) × (server_named old.machine.placement.setup name ≡ Some server) × HasRestored server nonce old new
 
 -- the effect of a command on the driver of an open journal
-abbrev pub DoesToDriver : LineCommand → DriverModel → DriverModel → Type 0
-DoesToDriver (line.Begin plan _) old new = BeginsPlanOf (view plan.now) old new
-DoesToDriver (line.Answered plan stream number) old new = TakesAnswerOf (record { plan = plan; stream = stream }) number old new
-DoesToDriver (line.Approve server _) old new = ApprovesRestartOf server.now old new
-DoesToDriver (line.Restarted permit base) old new = EndsRestart permit base old new
-DoesToDriver (line.Restore server nonce) old new = RestoresServerOf server.now nonce old new
-DoesToDriver line.NewEpoch old new = OpensNext old new
-DoesToDriver _ old new = ⊥
+abbrev pub DoesToDriver : DriverCommand → DriverModel → DriverModel → Type 0
+DoesToDriver (driver.Begin plan _) old new = BeginsPlanOf (view plan.now) old new
+DoesToDriver (driver.Answered plan stream number) old new = TakesAnswerOf (record { plan = plan; stream = stream }) number old new
+DoesToDriver (driver.Approve server _) old new = ApprovesRestartOf server.now old new
+DoesToDriver (driver.Restarted permit base) old new = EndsRestart permit base old new
+DoesToDriver (driver.Restore server nonce) old new = RestoresServerOf server.now nonce old new
+DoesToDriver driver.NewEpoch old new = OpensNext old new
 
 -- A driver has just opened the first epoch of a journal: nothing fences it, each server that is down has a new permit, and none was carried
 -- over or restored.
@@ -110,13 +112,14 @@ OpensAsNamed journal epoch opened under after = Unit {0}
 -- confirmation or an answer to a settle. With the last such answer it comes in force.
 abbrev pub Does : LineCommand → Option Opened → Option UnderWay → Option Opened → Option UnderWay → Type 0
 Does (line.Open document journal epoch) opened under new after = OpensOver (view document.now) journal epoch opened new
-Does (line.Reopen document lost journal epoch) opened under new after =
+Does (line.Reopening (reopening.Reopen document lost journal epoch)) opened under new after =
     ReopensWithout (texts_among lost.now) opened under after × IsUnderDocument (view document.now) after × OpensAsNamed journal epoch opened under after
-Does (line.Fenced server base told) opened under new after = StaysUnderWay (TakesFenced server base told) under after
-Does (line.Confirm base _) opened under new after = StaysUnderWay (ConfirmsAt base) under after
-Does (line.Settled server base) opened under new after =
+Does (line.Reopening (reopening.Fenced server base told)) opened under new after = StaysUnderWay (TakesFenced server base told) under after
+Does (line.Reopening (reopening.Confirm base _)) opened under new after = StaysUnderWay (ConfirmsAt base) under after
+Does (line.Reopening (reopening.Settled server base)) opened under new after =
     StaysUnderWay (TakesSettledBy server base) under after ⊎ ComesInForceBy (TakesSettledBy server base) under after new
-Does command opened under new after = StaysOpen (DoesToDriver command) opened new
+Does (line.Driver command) opened under new after = StaysOpen (DoesToDriver command) opened new
+Does (line.Question question) opened under new after = ⊥
 
 -- the effect of a command on a session
 abbrev pub DoesToSession : LineCommand → Session → Session → Type 0

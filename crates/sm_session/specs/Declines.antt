@@ -10,6 +10,8 @@ use Rattle.sm_commands.specs.BadLines.{told_bad}
 use Rattle.sm_commands.specs.declared.bad_line.BadLine.{BadLine}
 use Rattle.sm_commands.specs.declared.command.LineCommand.{LineCommand}
 use Rattle.sm_commands.specs.declared.command.LineCommand.TheVariants as line
+use Rattle.sm_commands.specs.declared.command.DriverCommand.{DriverCommand}
+use Rattle.sm_commands.specs.declared.command.DriverCommand.TheVariants as driver
 use Rattle.sm_commands.specs.Ids.{line_id}
 use Rattle.sm_commands.specs.Lines.{Says}
 use Rattle.sm_commands.specs.Members.{object, text_member}
@@ -33,20 +35,21 @@ pub data Declines (before after : List Token) : Type 0 where
 
 -- A command that could have changed the driver of a journal is declined, but for one under a name that was used before. Of a restore this is
 -- said as long as there is no such server.
-abbrev pub DriverDeclines : LineCommand → Option Opened → List Token → List Token → Type 0
-DriverDeclines (line.Begin _ name) opened before after = IfSome opened (λ o. value_of o.plans name.now ≡ None) → Declines before after
-DriverDeclines (line.Approve _ by) opened before after = IfSome opened (λ o. value_of o.approvals by.now ≡ None) → Declines before after
-DriverDeclines (line.Restore name _) opened before after =
+abbrev pub DriverDeclines : DriverCommand → Option Opened → List Token → List Token → Type 0
+DriverDeclines (driver.Begin _ name) opened before after = IfSome opened (λ o. value_of o.plans name.now ≡ None) → Declines before after
+DriverDeclines (driver.Approve _ by) opened before after = IfSome opened (λ o. value_of o.approvals by.now ≡ None) → Declines before after
+DriverDeclines (driver.Restore name _) opened before after =
     IfSome opened (λ o. server_named o.driver.machine.placement.setup name.now ≡ None) → Declines before after
-DriverDeclines (line.Answered _ _ _) opened before after = Declines before after
-DriverDeclines (line.Restarted _ _) opened before after = Declines before after
-DriverDeclines line.NewEpoch opened before after = Declines before after
-DriverDeclines _ opened before after = Unit {0}
+DriverDeclines (driver.Answered _ _ _) opened before after = Declines before after
+DriverDeclines (driver.Restarted _ _) opened before after = Declines before after
+DriverDeclines driver.NewEpoch opened before after = Declines before after
 
 -- So is one of a session. Of questions nothing is said, nor of lines of a reopening.
 abbrev pub SessionDeclines : LineCommand → Session → List Token → List Token → Type 0
 SessionDeclines (line.Open _ _ _) s before after = Declines before after
-SessionDeclines command s before after = DriverDeclines command s.opened before after
+SessionDeclines (line.Driver command) s before after = DriverDeclines command s.opened before after
+SessionDeclines (line.Reopening _) s before after = Unit {0}
+SessionDeclines (line.Question _) s before after = Unit {0}
 
 -- ---- lines
 

@@ -6,7 +6,14 @@ use Rattle.serde_json.specs.Data.{Data}
 use Rattle.sm_reservation.specs.declared.stream_id.StreamId.{StreamId}
 use Rattle.sm_plan_code.specs.Plan.{PlanModel}
 use Rattle.sm_plan_text.specs.Reading.{data_of}
-use Rattle.sm_driver.specs.Driver.{DriverModel, HasApproved, HasBegunPlan, HasEndedRestart, HasRestored, HasTakenStep, is_due, record_of}
+use Rattle.json_tree.specs.View.{view}
+use Rattle.sm_placement.specs.Setup.{server_named}
+use Rattle.sm_driver.specs.Driver.{DriverModel, HasApproved, HasBegunPlan, HasEndedRestart, HasRestored, record_of}
+use Rattle.sm_commands.specs.Lines.{Says}
+use Rattle.sm_commands.specs.declared.command.DriverCommand.{DriverCommand}
+use Rattle.sm_commands.specs.declared.command.DriverCommand.TheVariants as driver
+use Rattle.sm_commands.specs.declared.command.LineCommand.{LineCommand}
+use Rattle.sm_commands.specs.declared.command.LineCommand.TheVariants as line
 use Rattle.sm_commands.specs.Ids.{line_id}
 use Rattle.sm_commands.specs.Members.{object, server_text, text_member}
 use Rattle.sm_commands.specs.Writer.{HasNoLineFeed}
@@ -23,6 +30,7 @@ use Rattle.sm_reopening_lines.specs.Parties.{TellsAwaited, fences_member, waitin
 use Rattle.sm_reopening_lines.specs.Settles.{settles_member}
 use Rattle.sm_reopening_lines.specs.Taken.{TakesConfirm, TakesSettled, TakesTold}
 use Rattle.sm_session.specs.Answers.{AnswersLine}
+use Rattle.sm_session.specs.Asked.{DoesToSession, IsKnownOver, SaysPlan, TakesAnswerOf, setup_in_force}
 use Rattle.sm_session.specs.Changes.{ComesInForce, HasReopened, OpensNext}
 use Rattle.sm_session.specs.declared.reopening.UnderWay.{UnderWay}
 use Rattle.sm_session.specs.declared.session.LineEffect.{LineEffect}
@@ -30,56 +38,64 @@ use Rattle.sm_session.specs.declared.session.LineEffect.TheVariants.{Changed}
 use Rattle.sm_session.specs.declared.session.Session.{Session}
 
 -- a plan has begun, and behind what was written is told that it has, with the messages of its streams
-abbrev pub TellsBegun : DriverModel → DriverModel → List Token → List Token → Type 0
-TellsBegun old new before after =
-    (plan : PlanModel) × (number : ℕ) × HasBegunPlan plan number old new × (after ≡ before ++ begun_members new (begun_plan new number))
+abbrev pub TellsPlan : PlanModel → DriverModel → DriverModel → List Token → List Token → Type 0
+TellsPlan plan old new before after =
+    (number : ℕ) × HasBegunPlan plan number old new × (after ≡ before ++ begun_members new (begun_plan new number))
 
--- a stream has made the step whose answer it waited for, and it is told where it stands, with the messages that came up in its plan
-abbrev pub TellsMoved : DriverModel → DriverModel → List Token → List Token → Type 0
-TellsMoved old new before after =
-    (id : StreamId) × (number : ℕ) × (is_due old id number ≡ true) × HasTakenStep id old new
-    × (after ≡ before ++ taken_members new id (sinces_of (record_of old) id.plan))
+-- the same of the plan of a value
+abbrev pub TellsBegun : Data → DriverModel → DriverModel → List Token → List Token → Type 0
+TellsBegun value old new before after =
+    (plan : PlanModel) × SaysPlan old.machine.placement.setup value plan × TellsPlan plan old new before after
+
+-- the stream whose answer came under this number has made its step, and it is told where it stands, with the messages that came up in its plan
+abbrev pub TellsMoved : StreamId → ℕ → DriverModel → DriverModel → List Token → List Token → Type 0
+TellsMoved id number old new before after =
+    TakesAnswerOf id number old new × (after ≡ before ++ taken_members new id (sinces_of (record_of old) id.plan))
 
 -- the restart of a server was approved, and its permit is told
-abbrev pub TellsApproved : DriverModel → DriverModel → List Token → List Token → Type 0
-TellsApproved old new before after =
-    (server : ℕ) × (permit : ℕ) × HasApproved server permit old new
+abbrev pub TellsPermit : ℕ → DriverModel → DriverModel → List Token → List Token → Type 0
+TellsPermit server old new before after =
+    (permit : ℕ) × HasApproved server permit old new
     × (after ≡ before ++ permit_member (codes "approved") (server_text new.machine.placement.setup server) permit)
 
--- the restart of a server has ended, and it is told which is up
-abbrev pub TellsUp : DriverModel → DriverModel → List Token → List Token → Type 0
-TellsUp old new before after =
-    (server : ℕ) × (permit : ℕ) × (base : Option ℕ) × HasEndedRestart server permit base old new
+-- the same of the server with this name
+abbrev pub TellsApproved : List ℕ → DriverModel → DriverModel → List Token → List Token → Type 0
+TellsApproved name old new before after =
+    (server : ℕ) × (server_named old.machine.placement.setup name ≡ Some server) × TellsPermit server old new before after
+
+-- the restart that has this permit has ended, of a server with this base, and it is told which is up
+abbrev pub TellsUp : ℕ → Option ℕ → DriverModel → DriverModel → List Token → List Token → Type 0
+TellsUp permit base old new before after =
+    (server : ℕ) × HasEndedRestart server permit base old new
     × (after ≡ before ++ text_member (codes "up") (server_text new.machine.placement.setup server))
 
--- a server was restored, and is told what the driver keeps for it
-abbrev pub TellsRestored : DriverModel → DriverModel → List Token → List Token → Type 0
-TellsRestored old new before after =
-    (server : ℕ) × (nonce : ℕ) × HasRestored server nonce old new × TellsKept new server before after
+-- the server with this name was restored under this nonce, and is told what the driver keeps for it
+abbrev pub TellsRestored : List ℕ → ℕ → DriverModel → DriverModel → List Token → List Token → Type 0
+TellsRestored name nonce old new before after =
+    (server : ℕ) × (server_named old.machine.placement.setup name ≡ Some server) × HasRestored server nonce old new × TellsKept new server before after
 
 -- the next epoch has opened, and that is told
 abbrev pub TellsNext : DriverModel → DriverModel → List Token → List Token → Type 0
 TellsNext old new before after = OpensNext old new × (after ≡ before ++ opened_member new)
 
--- A command changes the driver of an open journal, and its reply tells the change.
-pub data TellsChange (old new : DriverModel) (before after : List Token) : Type 0 where
-  Begun : TellsBegun old new before after → TellsChange old new before after
-  Moved : TellsMoved old new before after → TellsChange old new before after
-  Approved : TellsApproved old new before after → TellsChange old new before after
-  Up : TellsUp old new before after → TellsChange old new before after
-  Restored : TellsRestored old new before after → TellsChange old new before after
-  Next : TellsNext old new before after → TellsChange old new before after
+-- a command has changed the driver of an open journal as it asks, and its reply tells that very change
+abbrev pub TellsChange : DriverCommand → DriverModel → DriverModel → List Token → List Token → Type 0
+TellsChange (driver.Begin plan _) old new before after = TellsBegun (view plan.now) old new before after
+TellsChange (driver.Answered plan stream number) old new before after = TellsMoved (record { plan = plan; stream = stream }) number old new before after
+TellsChange (driver.Approve server _) old new before after = TellsApproved server.now old new before after
+TellsChange (driver.Restarted permit base) old new before after = TellsUp permit base old new before after
+TellsChange (driver.Restore server nonce) old new before after = TellsRestored server.now nonce old new before after
+TellsChange driver.NewEpoch old new before after = TellsNext old new before after
 
 -- the reply tells the journal that is open
 abbrev pub TellsOpened : Option Opened → List Token → List Token → Type 0
 TellsOpened (Some o) before after = after ≡ before ++ opened_member o.driver
 TellsOpened None before after = ⊥
 
--- the reply tells a command on an open journal, or its first opening
-abbrev pub TellsDriven : Option Opened → Option Opened → List Token → List Token → Type 0
-TellsDriven None new before after = TellsOpened new before after
-TellsDriven (Some old) (Some new) before after = TellsChange old.driver new.driver before after
-TellsDriven (Some old) None before after = ⊥
+-- the journal that is open stays so, and its driver's change is told
+abbrev pub TellsDriven : DriverCommand → Option Opened → Option Opened → List Token → List Token → Type 0
+TellsDriven command (Some old) (Some new) before after = TellsChange command old.driver new.driver before after
+TellsDriven command old new before after = ⊥
 
 -- the reply tells the fences to the parties that have not answered: those of the reopening that has begun
 abbrev pub TellsFences : Option UnderWay → List Token → List Token → Type 0
@@ -98,24 +114,33 @@ abbrev pub TellsGoneOn : Option UnderWay → Option UnderWay → List Token → 
 TellsGoneOn (Some old) (Some new) before after = TellsOn old.reopening new.reopening before after
 TellsGoneOn old new before after = ⊥
 
--- The reply to a line that changed something.
-pub data TellsChanges (opened : Option Opened) (under : Option UnderWay) (new : Option Opened) (after_it : Option UnderWay) (before after : List Token) : Type 0 where
-  Drives : under ≡ None → after_it ≡ None → TellsDriven opened new before after → TellsChanges opened under new after_it before after
-  Reopens : HasReopened opened under after_it → TellsFences after_it before after → TellsChanges opened under new after_it before after
-  Follows : TellsGoneOn under after_it before after → TellsChanges opened under new after_it before after
-  Opens : ComesInForce under after_it new → TellsOpened new before after → TellsChanges opened under new after_it before after
+-- The reply to a line on a reopening that changed something.
+pub data TellsReopening (opened : Option Opened) (under : Option UnderWay) (new : Option Opened) (after_it : Option UnderWay) (before after : List Token) : Type 0 where
+  Reopens : HasReopened opened under after_it → TellsFences after_it before after → TellsReopening opened under new after_it before after
+  Follows : TellsGoneOn under after_it before after → TellsReopening opened under new after_it before after
+  Opens : ComesInForce under after_it new → TellsOpened new before after → TellsReopening opened under new after_it before after
 
--- what a line that changed something made of a session, and told of it
-abbrev pub SessionTells : Session → Session → List Token → List Token → Type 0
-SessionTells old new before after = TellsChanges old.opened old.under_way new.opened new.under_way before after
+-- The reply to a command that changed something.
+abbrev pub TellsChanges : LineCommand → Option Opened → Option UnderWay → Option Opened → Option UnderWay → List Token → List Token → Type 0
+TellsChanges (line.Open _ _ _) opened under new after_it before after = (under ≡ None) × (after_it ≡ None) × TellsOpened new before after
+TellsChanges (line.Driver command) opened under new after_it before after =
+    (under ≡ None) × (after_it ≡ None) × TellsDriven command opened new before after
+TellsChanges (line.Reopening _) opened under new after_it before after = TellsReopening opened under new after_it before after
+TellsChanges (line.Question _) opened under new after_it before after = ⊥
 
--- the same behind the id of a line's value
-abbrev pub TellsBehindId : Data → Session → Session → List Token → List Token → Type 0
-TellsBehindId value old new before after = SessionTells old new (before ++ line_id value) after
+-- what a command that changed something made of a session, and told of it
+abbrev pub SessionTells : LineCommand → Session → Session → List Token → List Token → Type 0
+SessionTells command old new before after = TellsChanges command old.opened old.under_way new.opened new.under_way before after
 
--- the same of a line's text
+-- a value says a command that is known, the session has done it, and behind the value's id the reply tells that it has
+abbrev pub TellsValue : Data → Session → Session → List Token → List Token → Type 0
+TellsValue value old new before after =
+    (command : LineCommand) × Says value command × IsKnownOver (setup_in_force old) command × DoesToSession command old new
+    × SessionTells command old new (before ++ line_id value) after
+
+-- so does the JSON value of a line
 abbrev pub TellsLine : List ℕ → Session → Session → List Token → List Token → Type 0
-TellsLine line old new before after = (value : Data) × (data_of line ≡ Some value) × TellsBehindId value old new before after
+TellsLine text old new before after = (value : Data) × (data_of text ≡ Some value) × TellsValue value old new before after
 
 -- A text replies to a line: that of some tokens in braces, which need not make an object. They answer the line, and if it has changed something, they
 -- tell that.

@@ -1,13 +1,16 @@
 //! Answers to orders and publications.
 ghost use Rattle.std.specs.Prelude.{◌≡◌, ◌++◌, IfOk, OnOk, codes, false, true};
 ghost use Rattle.sm_commands.specs.Members.{text_member};
-ghost use Rattle.sm_open_journal.specs.Replies.{taken_members};
+ghost use Rattle.sm_driver.specs.Driver.{record_of};
+ghost use Rattle.sm_open_journal.specs.Replies.{gone_on};
 ghost use Rattle.sm_session.specs.Answers.{TellsIgnored};
 ghost use Rattle.sm_session.specs.Asked.{TakesAnswerOf};
 ghost use Rattle.sm_session.specs.Changes.{TakesAnswer};
 ghost use Rattle.sm_session.specs.Declines.{Declines};
+ghost use Rattle.sm_session.specs.Outcomes.{DoesAnswer, HasMovedWith, has_changed};
 ghost use Rattle.sm_session.specs.Replies.{TellsMoved};
 
+use crate::outcome::{Ignored, Outcome};
 use crate::standing::Standing;
 use sm_commands::{Writer, write_text};
 use sm_driver::{AnswerEffect, StreamMessage};
@@ -22,42 +25,68 @@ pub fn write_ignored(writer: &mut Writer, why: &str) -> Result<(), AllocError>
     write_text(writer, "ignored", why)
 }
 
-/// Notes at a place that a message was answered, if there was one.
+/// Notes at a place that a message was answered, if there was one, and which streams have gone on.
 fn note(
     opened: &mut Opened,
     place: u64,
     message: Option<StreamMessage>,
-    sinces: &[u32],
+    gone_on: &[StreamId],
 ) -> Result<(), AllocError>
     ensures driver { opened.new.driver ≡ opened.old.driver }
 {
     match message {
         Some(message) => {
-            note_answered(&mut opened.history, &opened.driver, place, message, sinces)
+            note_answered(&mut opened.history, &opened.driver, place, message, gone_on)
         }
         None => Ok(()),
     }
 }
 
-/// Notes at a place that a message was answered, and writes the reply.
-fn take_answer(
+/// The outcome of an answer whose stream has made its step: the streams that do not stand as they stood have gone on.
+fn moved(
     opened: &mut Opened,
     place: u64,
     alloc: Global,
-    writer: &mut Writer,
     message: Option<StreamMessage>,
     id: StreamId,
     sinces: &[u32],
-) -> Result<(), AllocError>
+) -> Result<Outcome, AllocError>
     ensures driver { opened.new.driver ≡ opened.old.driver }
-    ensures told { OnOk result (writer.new.tokens ≡ writer.old.tokens ++ taken_members opened.new.driver id sinces.now) }
+    ensures outcome { IfOk result (HasMovedWith id (gone_on (record_of opened.old.driver) id.plan sinces.now)) }
 {
-    note(opened, place, message, sinces)?;
-    opened.write_taken(alloc, writer, id, sinces)
+    let gone_on = opened.messages(alloc).gone_on(id.plan, sinces)?;
+    note(opened, place, message, gone_on.as_slice())?;
+    Ok(Outcome::Moved {
+        stream: id,
+        gone_on,
+    })
 }
 
-/// Takes the answer to an order or a publication at a place, writes the reply, and tells whether the stream has made its step.
+/// Takes the answer to an order or a publication.
 pub fn answered(
+    opened: &mut Opened,
+    at: Standing,
+    alloc: Global,
+    id: StreamId,
+    number: u64,
+) -> Result<Outcome, AllocError>
+    ensures does { IfOk result (λ outcome. DoesAnswer id number at.is_reopening opened.old.driver outcome opened.new.driver) }
+    ensures unchanged { IfOk result (λ outcome. has_changed outcome ≡ false → opened.new ≡ opened.old) }
+{
+    if at.is_reopening {
+        return Ok(Outcome::Ignored(Ignored::Old));
+    }
+    let sinces = opened.messages(alloc).sinces(id.plan)?;
+    let message = opened.driver.message(id);
+    match opened.driver.answered(id, number) {
+        AnswerEffect::Moved => moved(opened, at.place, alloc, message, id, sinces.as_slice()),
+        AnswerEffect::Old => Ok(Outcome::Ignored(Ignored::Old)),
+        AnswerEffect::Unknown => Ok(Outcome::Ignored(Ignored::Unknown)),
+    }
+}
+
+/// Takes the answer to an order or a publication, writes the reply, and returns whether the stream has made its step.
+pub fn take_answer(
     opened: &mut Opened,
     at: Standing,
     alloc: Global,
@@ -70,62 +99,11 @@ pub fn answered(
     ensures asked { IfOk result (λ moved. moved ≡ true → TakesAnswerOf id number opened.old.driver opened.new.driver) }
     ensures in_force { IfOk result (λ moved. moved ≡ true → at.is_reopening ≡ false) }
     ensures told { IfOk result (λ moved. moved ≡ true
-        → TellsMoved opened.old.driver opened.new.driver writer.old.tokens writer.new.tokens) }
+        → TellsMoved id number opened.old.driver opened.new.driver writer.old.tokens writer.new.tokens) }
     ensures declined { IfOk result (λ moved. moved ≡ false → Declines writer.old.tokens writer.new.tokens) }
     ensures ignored { OnOk result (TellsIgnored opened.old.driver at.is_reopening id number writer.old.tokens writer.new.tokens) }
 {
-    if at.is_reopening {
-        write_ignored(writer, "old")?;
-        return Ok(false);
-    }
-    let sinces = opened.messages(alloc).sinces(id.plan)?;
-    let message = opened.driver.message(id);
-    match opened.driver.answered(id, number) {
-        AnswerEffect::Moved => {
-            take_answer(
-                opened,
-                at.place,
-                alloc,
-                writer,
-                message,
-                id,
-                sinces.as_slice(),
-            )?;
-            Ok(true)
-        }
-        AnswerEffect::Old => {
-            write_ignored(writer, "old")?;
-            Ok(false)
-        }
-        AnswerEffect::Unknown => {
-            write_ignored(writer, "unknown")?;
-            Ok(false)
-        }
-    }
-}
-
-/// Takes the answer to an order or a publication at a place again: it does what `answered` does, and writes no reply.
-pub fn answered_again(
-    opened: &mut Opened,
-    at: Standing,
-    alloc: Global,
-    id: StreamId,
-    number: u64,
-) -> Result<bool, AllocError>
-    ensures moved { IfOk result (λ moved. moved ≡ true → TakesAnswer opened.old.driver opened.new.driver) }
-    ensures unchanged { IfOk result (λ moved. moved ≡ false → opened.new ≡ opened.old) }
-    ensures asked { IfOk result (λ moved. moved ≡ true → TakesAnswerOf id number opened.old.driver opened.new.driver) }
-    ensures in_force { IfOk result (λ moved. moved ≡ true → at.is_reopening ≡ false) }
-{
-    if at.is_reopening {
-        return Ok(false);
-    }
-    let sinces = opened.messages(alloc).sinces(id.plan)?;
-    let message = opened.driver.message(id);
-    match opened.driver.answered(id, number) {
-        AnswerEffect::Moved => {}
-        AnswerEffect::Old | AnswerEffect::Unknown => return Ok(false),
-    }
-    note(opened, at.place, message, sinces.as_slice())?;
-    Ok(true)
+    let outcome = answered(opened, at, alloc, id, number)?;
+    outcome.write(opened, alloc, writer)?;
+    Ok(outcome.has_changed())
 }

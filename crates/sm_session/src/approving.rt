@@ -6,7 +6,7 @@ ghost use Rattle.sm_session.specs.Answers.{TellsApprovedAgain, TellsGiven, Tells
 ghost use Rattle.sm_session.specs.Asked.{ApprovesRestartOf};
 ghost use Rattle.sm_session.specs.Changes.{ApprovesRestart};
 ghost use Rattle.sm_session.specs.Declines.{Declines};
-ghost use Rattle.sm_session.specs.Replies.{TellsApproved};
+ghost use Rattle.sm_session.specs.Replies.{TellsApproved, TellsPermit};
 
 use crate::standing::Standing;
 use sm_commands::{
@@ -92,7 +92,7 @@ fn approve_now(
     ensures asked { IfOk result (λ approved. approved ≡ true → (permit : ℕ) × HasApproved server permit opened.old.driver opened.new.driver) }
     ensures unchanged { IfOk result (λ approved. approved ≡ false → opened.new ≡ opened.old) }
     ensures told { IfOk result (λ approved. approved ≡ true
-        → TellsApproved opened.old.driver opened.new.driver writer.old.tokens writer.new.tokens) }
+        → TellsPermit server opened.old.driver opened.new.driver writer.old.tokens writer.new.tokens) }
     ensures declined { IfOk result (λ approved. approved ≡ false → Declines writer.old.tokens writer.new.tokens) }
 {
     match opened.driver.approve(server) {
@@ -125,7 +125,7 @@ pub fn approve(
     ensures unchanged { IfOk result (λ approved. approved ≡ false → opened.new ≡ opened.old) }
     ensures in_force { IfOk result (λ approved. approved ≡ true → at.is_reopening ≡ false) }
     ensures told { IfOk result (λ approved. approved ≡ true
-        → TellsApproved opened.old.driver opened.new.driver writer.old.tokens writer.new.tokens) }
+        → TellsApproved server.now opened.old.driver opened.new.driver writer.old.tokens writer.new.tokens) }
     ensures declined { IfOk result (λ approved. approved ≡ false → value_of opened.old.approvals by.now ≡ None
         → Declines writer.old.tokens writer.new.tokens) }
     // Whoever asks again under the same name is told the same permit.

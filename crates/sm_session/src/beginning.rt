@@ -11,7 +11,7 @@ ghost use Rattle.sm_session.specs.Answers.{TellsBegunAgain};
 ghost use Rattle.sm_session.specs.Asked.{BeginsPlanOf};
 ghost use Rattle.sm_session.specs.Changes.{BeginsPlan};
 ghost use Rattle.sm_session.specs.Declines.{Declines};
-ghost use Rattle.sm_session.specs.Replies.{TellsBegun};
+ghost use Rattle.sm_session.specs.Replies.{TellsBegun, TellsPlan};
 
 use crate::planning::read_plan;
 use crate::standing::Standing;
@@ -89,7 +89,7 @@ fn start(
     ensures asked { IfOk result (λ begun. begun ≡ true → (number : ℕ) × HasBegunPlan ready.plan number opened.old.driver opened.new.driver) }
     ensures unchanged { IfOk result (λ begun. begun ≡ false → opened.new ≡ opened.old) }
     ensures told { IfOk result (λ begun. begun ≡ true
-        → TellsBegun opened.old.driver opened.new.driver writer.old.tokens writer.new.tokens) }
+        → TellsPlan ready.plan opened.old.driver opened.new.driver writer.old.tokens writer.new.tokens) }
     ensures declined { IfOk result (λ begun. begun ≡ false → Declines writer.old.tokens writer.new.tokens) }
 {
     match opened.driver.begin(ready) {
@@ -120,7 +120,7 @@ pub fn begin(
     ensures unchanged { IfOk result (λ begun. begun ≡ false → opened.new ≡ opened.old) }
     ensures in_force { IfOk result (λ begun. begun ≡ true → at.is_reopening ≡ false) }
     ensures told { IfOk result (λ begun. begun ≡ true
-        → TellsBegun opened.old.driver opened.new.driver writer.old.tokens writer.new.tokens) }
+        → TellsBegun (view value.now) opened.old.driver opened.new.driver writer.old.tokens writer.new.tokens) }
     ensures declined { IfOk result (λ begun. begun ≡ false → value_of opened.old.plans name.now ≡ None
         → Declines writer.old.tokens writer.new.tokens) }
     // Whoever begins again under the same name is told the same plan.

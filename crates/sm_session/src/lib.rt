@@ -7,6 +7,7 @@ mod beginning;
 mod changing;
 mod next_epoch;
 mod opening;
+mod outcome;
 mod planning;
 mod reopening;
 mod replaying;

@@ -10,7 +10,7 @@ ghost use Rattle.sm_plan_text.specs.Reading.{read_data, rows_of};
 ghost use Rattle.sm_session.specs.Asked.{OpensOver};
 ghost use Rattle.sm_session.specs.Changes.{HasDriven, driver_of};
 ghost use Rattle.sm_session.specs.Declines.{Declines};
-ghost use Rattle.sm_session.specs.Replies.{TellsDriven, TellsOpened};
+ghost use Rattle.sm_session.specs.Replies.{TellsOpened};
 
 use crate::standing::Standing;
 use json_tree::Tree;
@@ -103,7 +103,7 @@ pub fn open(
     ensures unchanged { IfOk result (λ changed. changed ≡ false → opened.new ≡ opened.old) }
     ensures in_force { IfOk result (λ changed. changed ≡ true → at.is_reopening ≡ false) }
     ensures declined { IfOk result (λ changed. changed ≡ false → Declines writer.old.tokens writer.new.tokens) }
-    ensures told { IfOk result (λ changed. changed ≡ true → TellsDriven opened.old opened.new writer.old.tokens writer.new.tokens) }
+    ensures told { IfOk result (λ changed. changed ≡ true → TellsOpened opened.new writer.old.tokens writer.new.tokens) }
 {
     if opened.is_some() || at.is_reopening {
         refuse(writer, alloc, "AlreadyOpened", &[])?;

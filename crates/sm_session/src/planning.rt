@@ -1,8 +1,11 @@
 //! Plans that are not begun: whether one would begin now, and plans that are made.
-ghost use Rattle.std.specs.Prelude.{◌≡◌, IfOk, IfSome, None, length};
+ghost use Rattle.std.specs.Prelude.{◌≡◌, ◌++◌, IfOk, IfSome, None, OnOk, count_by, length, sum_by};
+ghost use Rattle.sm_plan_code.specs.Instr.{is_call};
 ghost use Rattle.json_tree.specs.View.{view};
+ghost use Rattle.sm_machine.specs.State.{state_of};
 ghost use Rattle.sm_plan_code.specs.Plan.{IsKnownPlan};
 ghost use Rattle.sm_session.specs.Asked.{SaysPlan};
+ghost use Rattle.sm_session.specs.Checks.{TellsVerdict, accepted_member, accepted_members};
 ghost use Rattle.sm_session.specs.Declines.{Declines};
 
 use json_tree::Tree;
@@ -13,11 +16,10 @@ use sm_commands::{
 use sm_machine::Machine;
 use sm_open_journal::{Opened, calls_of, copy_text};
 use sm_placement::Config;
-use sm_plan_code::{MOST_PLANS, Plan, is_call};
+use sm_plan_code::Plan;
 use sm_plan_text::{TextFault, read_plan_value, write_plan};
 use sm_planner::{NoPlan, drain, moves};
-use sm_protocol::BeginFault;
-use sm_verifier::{Checked, Fault, admit, check};
+use sm_verifier::{Checked, Fault, check};
 use std::alloc::{AllocError, Global};
 
 /// Returns the plan that a value says over the names of a journal's servers and shards; if it says none, writes what is
@@ -150,41 +152,54 @@ pub fn write_drain(
     }
 }
 
+/// The number of calls of a plan.
+fn call_count(plan: &Plan) -> u64
+    ensures { result ≡ sum_by (λ stream. count_by is_call stream.code) plan.now.streams }
+{
+    calls_of(plan.streams()) as u64
+}
+
+/// The number of streams of a plan.
+fn stream_count(plan: &Plan) -> u64
+    ensures { result ≡ length plan.now.streams }
+{
+    plan.streams().len() as u64
+}
+
+/// Writes how many calls and streams a plan has.
+fn write_accepted_members(writer: &mut Writer, plan: &Plan) -> Result<(), AllocError>
+    ensures { OnOk result (writer.new.tokens ≡ writer.old.tokens ++ accepted_members plan.now) }
+{
+    write_number(writer, "calls", call_count(plan))?;
+    write_number(writer, "streams", stream_count(plan))?;
+    Ok(())
+}
+
 /// Writes that a plan is accepted.
-fn write_accepted(writer: &mut Writer, plan: &Plan) -> Result<(), AllocError> {
-    let calls = calls_of(plan.streams());
+fn write_accepted(writer: &mut Writer, plan: &Plan) -> Result<(), AllocError>
+    ensures { OnOk result (writer.new.tokens ≡ writer.old.tokens ++ accepted_member plan.now) }
+{
     writer.key("accepted")?;
     writer.begin_object()?;
-    write_number(writer, "calls", calls as u64)?;
-    write_number(writer, "streams", plan.streams().len() as u64)?;
-    writer.end_object()
+    write_accepted_members(writer, plan)?;
+    writer.end_object()?;
+    Ok(())
 }
 
-/// Returns how many places of the log a plan takes.
-fn places_of(plan: &Plan) -> u64 {
-    let mut places: u64 = 0;
-    for stream in plan.streams() {
-        let others = stream.code.iter().filter(|instr| !is_call(instr)).count() as u64;
-        let own = u64::from(stream.budget) + u64::from(stream.retries);
-        places = places.saturating_add(own.saturating_add(others).saturating_add(1));
-    }
-    places
-}
-
-/// Returns why a plan that passed the check would not begin now.
-fn begin_fault(machine: &Machine, checked: &Checked) -> Option<BeginFault>
+/// Writes whether a plan that passed the check would begin now.
+fn write_verdict(
+    machine: &Machine,
+    alloc: Global,
+    writer: &mut Writer,
+    checked: &Checked,
+) -> Result<(), AllocError>
     requires { checked.now.setup ≡ machine.now.placement.setup }
+    ensures { OnOk result (TellsVerdict (state_of machine.now) checked.now.plan writer.old.tokens writer.new.tokens) }
 {
-    if let Err(holding) = admit(checked, machine.pool(), machine.placement()) {
-        return Some(BeginFault::Holding(holding));
+    match machine.begin_fault(checked) {
+        Some(fault) => refuse_begin(writer, alloc, machine.config(), fault),
+        None => write_accepted(writer, checked.plan()),
     }
-    if machine.free_places() < places_of(checked.plan()) {
-        return Some(BeginFault::LogFull);
-    }
-    if machine.unfinished().len() >= MOST_PLANS {
-        return Some(BeginFault::TooManyPlans);
-    }
-    None
 }
 
 /// Writes whether a plan would begin now.
@@ -199,10 +214,7 @@ pub fn write_check(
     };
     let machine = opened.driver.machine();
     match check(alloc, machine.config(), plan) {
-        Ok(checked) => match begin_fault(machine, &checked) {
-            Some(fault) => refuse_begin(writer, alloc, machine.config(), fault),
-            None => write_accepted(writer, checked.plan()),
-        },
+        Ok(checked) => write_verdict(machine, alloc, writer, &checked),
         Err((_, Fault::NoMemory)) => Err(AllocError),
         Err((_, fault)) => refuse_check(writer, alloc, &fault),
     }

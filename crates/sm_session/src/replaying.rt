@@ -5,13 +5,15 @@ ghost use Rattle.journal_lines.specs.Objects.{IsObject};
 ghost use Rattle.sm_session.specs.declared.session.LineEffect.TheVariants as did;
 ghost use Rattle.sm_session.specs.Answers.{Answers, AnswersLine, TellsIgnored};
 ghost use Rattle.sm_session.specs.Asked.{DoesAsSaid, DoesToSession, StaysOpen, TakesAnswerOf};
+ghost use Rattle.sm_commands.specs.declared.command.DriverCommand.TheVariants as driver;
+ghost use Rattle.sm_commands.specs.declared.command.LineCommand.TheVariants as line;
 ghost use Rattle.sm_session.specs.Changes.{SessionChanges};
 ghost use Rattle.sm_session.specs.Replies.{RepliesTo, SessionTells, TellsLine};
 
-use crate::answering::answered_again;
+use crate::answering::answered;
 use crate::session::{LineEffect, Session};
 use json::Scratch;
-use sm_commands::{LineCommand, Writer, parse_line, read_command};
+use sm_commands::{DriverCommand, LineCommand, Writer, parse_line, read_command};
 use sm_reservation::StreamId;
 use std::alloc::{AllocError, Global};
 
@@ -36,7 +38,6 @@ impl Session {
     /// Applies an entry, and tells whether something has changed.
     fn take_entry(&mut self, alloc: Global, entry: &[u8]) -> Result<bool, AllocError>
         ensures changed { IfOk result (λ changed. changed ≡ true → SessionChanges self.old self.new) }
-        ensures asked { IfOk result (λ changed. changed ≡ true → DoesAsSaid entry.now self.old self.new) }
         ensures unchanged { IfOk result (λ changed. changed ≡ false → self.new ≡ self.old) }
         ensures told { IfOk result (λ changed. changed ≡ true → (members : List Token) × TellsLine entry.now self.old self.new [] members
             × AnswersLine entry.now self.old [] members) }
@@ -60,14 +61,16 @@ impl Session {
         ensures changed { IfOk result (λ changed. changed ≡ true → SessionChanges self.old self.new) }
         ensures asked { IfOk result (λ changed. changed ≡ true → DoesToSession command.entry self.old self.new) }
         ensures unchanged { IfOk result (λ changed. changed ≡ false → self.new ≡ self.old) }
-        ensures told { IfOk result (λ changed. changed ≡ true → (members : List Token) × SessionTells self.old self.new [] members
+        ensures told { IfOk result (λ changed. changed ≡ true → (members : List Token) × SessionTells command.entry self.old self.new [] members
             × Answers command.entry self.old [] members) }
     {
-        if let LineCommand::Answered {
-            plan,
-            stream,
-            number,
-        } = command
+        if let LineCommand::Driver(
+            DriverCommand::Answered {
+                plan,
+                stream,
+                number,
+            },
+        ) = command
         {
             return self.take_answer(alloc, StreamId { plan, stream }, number);
         }
@@ -81,12 +84,16 @@ impl Session {
         ensures asked { IfOk result (λ changed. changed ≡ true
             → StaysOpen (TakesAnswerOf id number) self.old.opened self.new.opened) }
         ensures unchanged { IfOk result (λ changed. changed ≡ false → self.new ≡ self.old) }
-        ensures told { IfOk result (λ changed. changed ≡ true → (members : List Token) × SessionTells self.old self.new [] members
+        ensures told { IfOk result (λ changed. changed ≡ true → (members : List Token)
+            × SessionTells (line.Driver (driver.Answered id.plan id.stream number)) self.old self.new [] members
             × IfSome self.old.opened (λ o. TellsIgnored o.driver (is_some self.old.under_way) id number [] members)) }
     {
         let at = self.standing();
         match &mut self.opened {
-            Some(opened) => answered_again(opened, at, alloc, id, number),
+            Some(opened) => {
+                let outcome = answered(opened, at, alloc, id, number)?;
+                Ok(outcome.has_changed())
+            }
             None => Ok(false),
         }
     }

@@ -41,7 +41,7 @@ pub fn restarted(
     ensures unchanged { IfOk result (λ ended. ended ≡ false → opened.new ≡ opened.old) }
     ensures in_force { IfOk result (λ ended. ended ≡ true → at.is_reopening ≡ false) }
     ensures declined { IfOk result (λ ended. ended ≡ false → Declines writer.old.tokens writer.new.tokens) }
-    ensures told { IfOk result (λ ended. ended ≡ true → TellsUp opened.old.driver opened.new.driver writer.old.tokens writer.new.tokens) }
+    ensures told { IfOk result (λ ended. ended ≡ true → TellsUp permit base opened.old.driver opened.new.driver writer.old.tokens writer.new.tokens) }
 {
     if at.is_reopening {
         wait_for_reopening(opened, alloc, writer, permit)?;

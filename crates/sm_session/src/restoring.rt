@@ -44,7 +44,7 @@ pub fn restore(
     ensures unchanged { IfOk result (λ restored. restored ≡ false → opened.new ≡ opened.old) }
     ensures in_force { IfOk result (λ restored. restored ≡ true → at.is_reopening ≡ false) }
     ensures told { IfOk result (λ restored. restored ≡ true
-        → TellsRestored opened.old.driver opened.new.driver writer.old.tokens writer.new.tokens) }
+        → TellsRestored name.now nonce opened.old.driver opened.new.driver writer.old.tokens writer.new.tokens) }
     ensures declined { IfOk result (λ restored. restored ≡ false
         → server_named opened.old.driver.machine.placement.setup name.now ≡ None
         → Declines writer.old.tokens writer.new.tokens) }

@@ -11,7 +11,8 @@ use journal_lines::is_object;
 use json::Scratch;
 use json_tree::Tree;
 use sm_commands::{
-    BadLine, LineCommand, LinePart, Writer, id_of, parse_line, read_command, write_bad, write_id,
+    BadLine, LineCommand, LinePart, ReopeningCommand, Writer, id_of, parse_line, read_command,
+    write_bad, write_id,
 };
 use sm_open_journal::Opened;
 use sm_placement::Config;
@@ -51,11 +52,12 @@ impl Session {
     ghost use Rattle.std.specs.Prelude.{is_some, option_map, true};
     ghost use Rattle.json_tree.specs.View.{view};
     ghost use Rattle.sm_commands.specs.Ids.{line_id};
+    ghost use Rattle.sm_commands.specs.declared.command.LineCommand.TheVariants as line;
     ghost use Rattle.sm_session.specs.Answers.{Answers, AnswersLine, AnswersObject};
-    ghost use Rattle.sm_session.specs.Asked.{DoesAsSaid, DoesAsTold, DoesToSession, setup_in_force};
+    ghost use Rattle.sm_session.specs.Asked.{DoesAsSaid, DoesToSession, setup_in_force};
     ghost use Rattle.sm_session.specs.Changes.{IsNew, SessionChanges};
     ghost use Rattle.sm_session.specs.Declines.{DeclinesBy, DeclinesLine, DeclinesValue, SessionDeclines};
-    ghost use Rattle.sm_session.specs.Replies.{IsLineReply, SessionTells, TellsBehindId, TellsLine};
+    ghost use Rattle.sm_session.specs.Replies.{IsLineReply, SessionTells, TellsLine, TellsValue};
 
     /// Returns a session before its first line.
     pub fn new() -> Self
@@ -119,7 +121,6 @@ impl Session {
         writer: &mut Writer,
     ) -> Result<bool, AllocError>
         ensures changed { IfOk result (λ changed. changed ≡ true → SessionChanges self.old self.new) }
-        ensures asked { IfOk result (λ changed. changed ≡ true → DoesAsSaid line.now self.old self.new) }
         ensures unchanged { IfOk result (λ changed. changed ≡ false → self.new ≡ self.old) }
         ensures told { IfOk result (λ changed. changed ≡ true → TellsLine line.now self.old self.new writer.old.tokens writer.new.tokens) }
         ensures answered { OnOk result (AnswersLine line.now self.old writer.old.tokens writer.new.tokens) }
@@ -155,9 +156,8 @@ impl Session {
         writer: &mut Writer,
     ) -> Result<bool, AllocError>
         ensures changed { IfOk result (λ changed. changed ≡ true → SessionChanges self.old self.new) }
-        ensures asked { IfOk result (λ changed. changed ≡ true → DoesAsTold (view line.now) self.old self.new) }
         ensures unchanged { IfOk result (λ changed. changed ≡ false → self.new ≡ self.old) }
-        ensures told { IfOk result (λ changed. changed ≡ true → TellsBehindId (view line.now) self.old self.new writer.old.tokens writer.new.tokens) }
+        ensures told { IfOk result (λ changed. changed ≡ true → TellsValue (view line.now) self.old self.new writer.old.tokens writer.new.tokens) }
         ensures answered { OnOk result (AnswersObject (view line.now) self.old
             (writer.old.tokens ++ line_id (view line.now)) writer.new.tokens) }
         ensures declined { IfOk result (λ changed. changed ≡ false → DeclinesValue (view line.now) self.old
@@ -204,7 +204,7 @@ impl Session {
         ensures changed { IfOk result (λ changed. changed ≡ true → SessionChanges self.old self.new) }
         ensures asked { IfOk result (λ changed. changed ≡ true → DoesToSession command.entry self.old self.new) }
         ensures unchanged { IfOk result (λ changed. changed ≡ false → self.new ≡ self.old) }
-        ensures told { IfOk result (λ changed. changed ≡ true → SessionTells self.old self.new writer.old.tokens writer.new.tokens) }
+        ensures told { IfOk result (λ changed. changed ≡ true → SessionTells command.entry self.old self.new writer.old.tokens writer.new.tokens) }
         ensures answered { OnOk result (Answers command.entry self.old writer.old.tokens writer.new.tokens) }
         ensures declined { IfOk result (λ changed. changed ≡ false
             → SessionDeclines command.entry self.old writer.old.tokens writer.new.tokens) }
@@ -224,21 +224,13 @@ impl Session {
                 journal,
                 epoch,
             ),
-            LineCommand::Begin { .. }
-            | LineCommand::Answered { .. }
-            | LineCommand::Approve { .. }
-            | LineCommand::Restarted { .. }
-            | LineCommand::Restore { .. }
-            | LineCommand::NewEpoch => match &mut self.opened {
+            LineCommand::Driver(command) => match &mut self.opened {
                 Some(opened) => change(opened, at, alloc, writer, command),
                 None => change_nothing(at, alloc, writer, command),
             },
-            LineCommand::Reopen { .. }
-            | LineCommand::Fenced { .. }
-            | LineCommand::Confirm { .. }
-            | LineCommand::Settled { .. } => self.go_on(at, alloc, command, writer),
-            asked => {
-                self.tell(alloc, asked, writer)?;
+            LineCommand::Reopening(command) => self.go_on(at, alloc, command, writer),
+            LineCommand::Question(question) => {
+                self.tell(alloc, question, writer)?;
                 Ok(false)
             }
         }
@@ -249,16 +241,16 @@ impl Session {
         &mut self,
         at: Standing,
         alloc: Global,
-        command: LineCommand<'_, '_>,
+        command: ReopeningCommand<'_, '_>,
         writer: &mut Writer,
     ) -> Result<bool, AllocError>
         ensures changed { IfOk result (λ changed. changed ≡ true → SessionChanges self.old self.new) }
-        ensures asked { IfOk result (λ changed. changed ≡ true → DoesToSession command.entry self.old self.new) }
+        ensures asked { IfOk result (λ changed. changed ≡ true → DoesToSession (line.Reopening command.entry) self.old self.new) }
         ensures unchanged { IfOk result (λ changed. changed ≡ false → self.new ≡ self.old) }
-        ensures told { IfOk result (λ changed. changed ≡ true → SessionTells self.old self.new writer.old.tokens writer.new.tokens) }
+        ensures told { IfOk result (λ changed. changed ≡ true → SessionTells (line.Reopening command.entry) self.old self.new writer.old.tokens writer.new.tokens) }
     {
         match command {
-            LineCommand::Reopen {
+            ReopeningCommand::Reopen {
                 document,
                 lost,
                 journal,
@@ -273,18 +265,17 @@ impl Session {
                 journal,
                 epoch,
             ),
-            LineCommand::Fenced { server, base, told } => {
+            ReopeningCommand::Fenced { server, base, told } => {
                 fenced(&mut self.under_way, alloc, writer, server, base, told)
             }
-            LineCommand::Confirm { base, cells } => {
+            ReopeningCommand::Confirm { base, cells } => {
                 confirm(&mut self.under_way, alloc, writer, base, cells)
             }
-            LineCommand::Settled { server, base } => {
+            ReopeningCommand::Settled { server, base } => {
                 let (opened, under_way) = (&mut self.opened, &mut self.under_way);
                 let effect = settled(opened, under_way, at, alloc, writer, server, base)?;
                 Ok(effect != SettledEffect::Old)
             }
-            _ => Ok(false),
         }
     }
 }

@@ -1,13 +1,13 @@
-//! Lines that ask, and change nothing.
+//! Replies to questions.
 ghost use Rattle.std.specs.Prelude.{◌≡◌, ◌++◌, None, OnOk};
-ghost use Rattle.sm_commands.specs.declared.command.LineCommand.TheVariants as line;
+ghost use Rattle.sm_commands.specs.declared.command.Question.TheVariants as asked;
 ghost use Rattle.sm_session.specs.Questions.{orders_reply, present_notices, present_orders};
 
 use crate::answering::write_ignored;
 use crate::planning::{write_check, write_drain, write_moves};
 use crate::session::Session;
 use sm_commands::{
-    LineCommand, SlotNeeds, StateOf, Writer, read_slots, refuse, write_bad, write_name,
+    PlanQuestion, Question, SlotNeeds, StateOf, Writer, read_slots, refuse, write_bad, write_name,
     write_number, write_text,
 };
 use sm_open_journal::{
@@ -21,56 +21,91 @@ use std::alloc::{AllocError, Global};
 const FORMAT: u64 = 2;
 
 impl Session {
-    /// Writes the reply to a command that asks.
+    /// Writes the reply to a question.
     pub(crate) fn tell(
         &self,
         alloc: Global,
-        command: LineCommand<'_, '_>,
+        question: Question<'_, '_>,
         writer: &mut Writer,
     ) -> Result<(), AllocError>
-        ensures { command.entry ≡ line.Orders → self.now.under_way ≡ None
+        ensures { question.entry ≡ asked.Orders → self.now.under_way ≡ None
             → OnOk result (writer.new.tokens ≡ writer.old.tokens ++ orders_reply self.now.opened) }
     {
-        match command {
-            LineCommand::Orders => return self.write_orders(alloc, writer),
-            LineCommand::Hello => return self.write_hello(alloc, writer),
-            LineCommand::State { of: StateOf::Whole } => return self.write_state(alloc, writer),
-            LineCommand::Audit { server, place, .. } if place > self.place => {
-                return write_audited(writer, server, "later");
-            }
-            LineCommand::Failed { .. } if self.under_way.is_some() => {
-                return write_ignored(writer, "old");
-            }
-            _ => {}
-        }
-        match &self.opened {
-            None => refuse(writer, alloc, self.standing().closed_word(), &[]),
-            Some(opened) => self.tell_recorded(opened, alloc, command, writer),
+        match question {
+            Question::Hello => self.write_hello(alloc, writer),
+            Question::Orders => self.write_orders(alloc, writer),
+            Question::State { of } => self.tell_state(alloc, of, writer),
+            Question::Map => match self.recorded(alloc, writer)? {
+                Some(opened) => write_map(opened, writer),
+                None => Ok(()),
+            },
+            Question::Since { place } => match self.recorded(alloc, writer)? {
+                Some(opened) => {
+                    let is_reopening = self.standing().is_reopening;
+                    write_since(opened, is_reopening, alloc, writer, self.place, place)
+                }
+                None => Ok(()),
+            },
+            Question::InForce(question) => self.tell_in_force(alloc, question, writer),
         }
     }
 
-    /// Writes the reply to a command that asks what is recorded in a journal that is open.
-    fn tell_recorded(
+    /// The journal, if one was opened. If none was, writes that.
+    fn recorded(&self, alloc: Global, writer: &mut Writer) -> Result<Option<&Opened>, AllocError> {
+        if self.opened.is_none() {
+            refuse(writer, alloc, self.standing().closed_word(), &[])?;
+        }
+        Ok(self.opened.as_ref())
+    }
+
+    /// Writes what is recorded of a part of the state.
+    fn tell_state(
         &self,
-        opened: &Opened,
         alloc: Global,
-        command: LineCommand<'_, '_>,
+        of: StateOf<'_>,
         writer: &mut Writer,
     ) -> Result<(), AllocError> {
-        let is_reopening = self.standing().is_reopening;
-        match command {
-            LineCommand::Map => write_map(opened, writer),
-            LineCommand::State {
-                of: StateOf::Shard(name),
-            } => write_shard_of(opened, alloc, writer, name),
-            LineCommand::State {
-                of: StateOf::Plan(number),
-            } => write_plan_of(opened, is_reopening, alloc, writer, number),
-            LineCommand::Since { place } => {
-                write_since(opened, is_reopening, alloc, writer, self.place, place)
+        match of {
+            StateOf::Whole => self.write_state(alloc, writer),
+            StateOf::Shard(name) => match self.recorded(alloc, writer)? {
+                Some(opened) => write_shard_of(opened, alloc, writer, name),
+                None => Ok(()),
+            },
+            StateOf::Plan(number) => match self.recorded(alloc, writer)? {
+                Some(opened) => {
+                    let is_reopening = self.standing().is_reopening;
+                    write_plan_of(opened, is_reopening, alloc, writer, number)
+                }
+                None => Ok(()),
+            },
+        }
+    }
+
+    /// Writes the reply to a question about plans and slots.
+    fn tell_in_force(
+        &self,
+        alloc: Global,
+        question: PlanQuestion<'_, '_>,
+        writer: &mut Writer,
+    ) -> Result<(), AllocError> {
+        match question {
+            PlanQuestion::Audit { server, place, .. } if place > self.place => {
+                return write_audited(writer, server, "later");
             }
-            _ if is_reopening => refuse(writer, alloc, "Reopening", &[]),
-            _ => tell_planned(opened, alloc, command, writer),
+            PlanQuestion::Failed { .. } if self.under_way.is_some() => {
+                return write_ignored(writer, "old");
+            }
+            PlanQuestion::Check { .. }
+            | PlanQuestion::Moves { .. }
+            | PlanQuestion::Drain { .. }
+            | PlanQuestion::Audit { .. }
+            | PlanQuestion::Failed { .. } => {}
+        }
+        match &self.opened {
+            Some(opened) if self.under_way.is_none() => {
+                tell_planned(opened, alloc, question, writer)
+            }
+            _ => refuse(writer, alloc, self.standing().closed_word(), &[]),
         }
     }
 
@@ -185,31 +220,27 @@ fn write_present_notices(
     }
 }
 
-/// Writes the reply to a command that asks of plans and slots, as long as no reopening is under way.
+/// Writes the reply to a question about plans and slots, as long as no reopening is under way.
 fn tell_planned(
     opened: &Opened,
     alloc: Global,
-    command: LineCommand<'_, '_>,
+    question: PlanQuestion<'_, '_>,
     writer: &mut Writer,
 ) -> Result<(), AllocError> {
-    match command {
-        LineCommand::Check { plan } => write_check(opened, alloc, writer, plan),
-        LineCommand::Moves { moves } => write_moves(opened, alloc, writer, moves),
-        LineCommand::Drain { server } => write_drain(opened, alloc, writer, server),
-        LineCommand::Failed {
+    match question {
+        PlanQuestion::Check { plan } => write_check(opened, alloc, writer, plan),
+        PlanQuestion::Moves { moves } => write_moves(opened, alloc, writer, moves),
+        PlanQuestion::Drain { server } => write_drain(opened, alloc, writer, server),
+        PlanQuestion::Failed {
             plan,
             stream,
             number,
             answer,
-        } => write_failed(
-            opened,
-            alloc,
-            writer,
-            StreamId { plan, stream },
-            number,
-            answer,
-        ),
-        LineCommand::Audit {
+        } => {
+            let id = StreamId { plan, stream };
+            write_failed(opened, alloc, writer, id, number, answer)
+        }
+        PlanQuestion::Audit {
             server,
             place,
             slots,
@@ -217,6 +248,5 @@ fn tell_planned(
             Ok(slots) => write_audit(opened, alloc, writer, server, place, slots.as_slice()),
             Err(bad) => write_bad(writer, alloc, bad),
         },
-        _ => Ok(()),
     }
 }

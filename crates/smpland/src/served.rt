@@ -4,7 +4,7 @@ use crate::keeper::Keeper;
 use crate::status::Status;
 use journal::Journal;
 use journal_session::{RecoverFault, ResumeFault, ServeFault, resume, serve_unkept};
-use journal_store::{FileStore, OpenFailure};
+use journal_store::{FileStore, HostDisk, OpenFailure};
 use std::fs::File;
 use std::io;
 
@@ -61,7 +61,7 @@ pub fn serve_input(rt: &HostRuntime) -> Status {
 }
 
 /// Recovers what the journal in a store leads to, and serves each line of standard input. The journal has this path.
-fn serve_store(rt: &HostRuntime, path: &str, store: FileStore) -> Status {
+fn serve_store(rt: &HostRuntime, path: &str, store: FileStore<HostDisk>) -> Status {
     let mut session = Keeper::new();
     let mut journal = Journal::new(store);
     let resumed = resume(
@@ -84,19 +84,23 @@ fn open_any(rt: &HostRuntime) -> Result<File, OpenFailure> {
     File::open(rt, "/").map_err(|cause| OpenFailure::File { cause })
 }
 
-/// Opens a journal. Its file does not get the number of a standard stream that is closed: other files have those numbers until it is open.
-/// Otherwise replies would be written into the journal.
-fn open_store(rt: &HostRuntime, path: &str) -> Result<FileStore, OpenFailure> {
+/// Opens a journal's file. It does not get the number of a standard stream that is closed: other files have those numbers
+/// until it is open. Otherwise replies would be written into the journal.
+fn open_disk(rt: &HostRuntime, path: &str) -> Result<HostDisk, OpenFailure> {
     let _input = open_any(rt)?;
     let _output = open_any(rt)?;
     let _errors = open_any(rt)?;
-    FileStore::open(rt, path)
+    HostDisk::open(rt, path)
 }
 
 /// Serves each line of standard input, and keeps those that change something in a file.
 pub fn serve_journal(rt: &HostRuntime, path: &str) -> Status {
-    match open_store(rt, path) {
+    let disk = match open_disk(rt, path) {
+        Ok(disk) => disk,
+        Err(failure) => return unopened(rt, path, failure),
+    };
+    match FileStore::open(disk) {
         Ok(store) => serve_store(rt, path, store),
-        Err(failure) => unopened(rt, path, failure),
+        Err(fault) => unrecovered(rt, path, RecoverFault::from(fault)),
     }
 }

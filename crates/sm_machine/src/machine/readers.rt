@@ -6,16 +6,20 @@ ghost use Rattle.sm_protocol.specs.Next.{blocked_on, next_call_of, next_entry_of
 ghost use Rattle.sm_placement.specs.Setup.{sizes_of};
 ghost use Rattle.sm_placement.specs.Layout.{place_of};
 ghost use Rattle.sm_reservation.specs.Pool.{pool_hold, HasSize};
-ghost use Rattle.sm_protocol.specs.Happens.{engaged};
+ghost use Rattle.sm_protocol.specs.Happens.{Begin, engaged, happens};
+ghost use Rattle.sm_protocol.specs.Steps.{Answered};
 ghost use Rattle.sm_machine.specs.State.{state_of};
 ghost use Rattle.sm_machine.specs.Retired.{steps_at_end};
+ghost use Rattle.sm_machine.specs.Started.{begin_answer};
 
 use crate::machine::Machine;
+use crate::places::places_of;
 use sm_placement::{Config, Entry, Placement};
 use sm_plan_code::{Plan, ServerCall};
-use sm_protocol::Logged;
+use sm_protocol::{BeginFault, Logged};
 use sm_reservation::{Pool, StreamId};
 use sm_server::{ServerId, ShardId};
+use sm_verifier::Checked;
 
 impl Machine {
     /// Returns the placement as it stands.
@@ -70,6 +74,15 @@ impl Machine {
         ensures { result ≡ free_places (state_of self.now) }
     {
         self.engine.free()
+    }
+
+    /// The fault for which a plan that was checked for the machine's configuration would not begin now, if memory is
+    /// there: None if it would.
+    pub fn begin_fault(&self, checked: &Checked) -> Option<BeginFault>
+        requires { checked.now.setup ≡ self.now.placement.setup }
+        ensures { (happens (state_of self.now) (Begin checked.now.plan)).0 ≡ Answered (begin_answer (state_of self.now) result) }
+    {
+        self.engine.start_fault(checked, places_of(checked.plan()))
     }
 
     /// Returns the number of plans that were begun.

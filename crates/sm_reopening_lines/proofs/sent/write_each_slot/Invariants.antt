@@ -7,4 +7,4 @@ use Rattle.sm_reopening_lines.proofs.sent.write_each_slot.Given as goal
 -- the shards so far
 abbrev pub invariant-loop-number : goal.invariant-loop-number
 invariant-loop-number l =
-    l.writer.tokens ≡ l.initial.writer.tokens ++ flat_map (given_slot_text l.settlement.setup (place_of l.settlement) l.server) (range_with_len 0 l.number)
+    l.writer.tokens ≡ l.initial.writer.tokens ++ flat_map (given_slot_text l.reopening l.settlement.setup (place_of l.settlement) l.server) (range_with_len 0 l.number)

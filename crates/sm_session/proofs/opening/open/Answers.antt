@@ -22,10 +22,9 @@ returns-in-Ok-clause-asked c = λ _.
 -- Nothing was written before the journal was opened.
 pub returns-in-Ok-clause-told : goal.returns-in-Ok-clause-told
 returns-in-Ok-clause-told c = λ _.
-    let none = none_open c.args.opened.now c.is_some.result c.is_some.ensures c.if-is_some.false in
-    tells_first c.args.opened.now c.take.new.opened c.in_ok-document.field-0 c.in-Some.document c.in_ok-placement.field-0 c.in-Some-2.placement
+    tells_first c.take.new.opened c.in_ok-document.field-0 c.in-Some.document c.in_ok-placement.field-0 c.in-Some-2.placement
     c.args.writer.now.tokens _ _ c.take.new.writer.tokens
-    none c.in-Some.is c.in-Some-2.is c.in_ok-document.ensures.quiet c.in_ok-placement.ensures.quiet c.in_ok-take-in-Ok.ensures.told
+    c.in-Some.is c.in-Some-2.is c.in_ok-document.ensures.quiet c.in_ok-placement.ensures.quiet c.in_ok-take-in-Ok.ensures.told
 
 -- The document was read without a word.
 pub returns-in_default-2-clause-declined : goal.returns-in_default-2-clause-declined

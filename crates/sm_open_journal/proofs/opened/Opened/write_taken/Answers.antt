@@ -1,10 +1,10 @@
 use Rattle.std.proofs.Common.{◌++◌, ◌∙◌, ap}
 use Rattle.sm_driver.specs.Driver.{DriverModel}
-use Rattle.sm_open_journal.specs.Replies.{taken_members}
+use Rattle.sm_open_journal.specs.Replies.{moved_members}
 use Rattle.sm_open_journal.proofs.opened.Opened.write_taken.Goals as goal
 
 -- The reply from the driver that is open.
 pub returns : goal.returns
 returns c =
     c.in_ok-write_taken.ensures
-    ∙ ap (λ (d : DriverModel). c.args.writer.now.tokens ++ taken_members d c.args.id c.args.sinces.now) c.messages.ensures
+    ∙ ap (λ (d : DriverModel). c.args.writer.now.tokens ++ moved_members d c.args.id c.args.gone_on.now) c.messages.ensures

@@ -7,8 +7,12 @@ use Rattle.sm_session.proofs.session.Session.answer_object.Goals as goal
 
 pub returns-in-Ok-clause-told : goal.returns-in-Ok-clause-told
 returns-in-Ok-clause-told c =
-    told_behind c.carry_out.result (view c.args.line.now) c.id_of.result c.args.self.now c.carry_out.new.self _ _ _
-    c.id_of.ensures c.in_ok-write_id.ensures c.carry_out.ensures.told
+    let value = view c.args.line.now in
+    told_behind c.carry_out.result value c.in-Ok.command c.id_of.result c.args.self.now c.carry_out.new.self _ _ _
+    c.id_of.ensures c.in_ok-write_id.ensures
+    (read_is (Says value) _ c.in-Ok.command c.in-Ok.is c.in_ok-command.ensures.told)
+    (c.config.result, c.config.ensures, read_is (IsKnownCommand c.config.result) _ c.in-Ok.command c.in-Ok.is c.in_ok-command.ensures.known)
+    c.carry_out.ensures.asked c.carry_out.ensures.told
 
 pub returns-in-Ok-clause-answered : goal.returns-in-Ok-clause-answered
 returns-in-Ok-clause-answered c =

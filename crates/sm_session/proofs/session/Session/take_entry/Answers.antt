@@ -15,4 +15,4 @@ returns-in-Ok-clause-told c =
     (found_is (λ tree. data_of c.args.entry.now ≡ Some (view tree)) c.in_ok-tree.field-0 c.in-Some.tree c.in-Some.is c.in_ok-tree.ensures.value)
     (read_is (Says value) _ c.in-Ok.command c.in-Ok.is c.in_ok-command.ensures.told)
     (c.config.result, c.config.ensures, read_is (IsKnownCommand c.config.result) _ c.in-Ok.command c.in-Ok.is c.in_ok-command.ensures.known)
-    c.carry_out_again.ensures.told
+    c.carry_out_again.ensures.asked c.carry_out_again.ensures.told
