@@ -1,0 +1,12 @@
+"""The model of `driving_model`, with data: what servers have to do so that no acknowledged write is lost unnamed.
+
+`rules` has each duty with a switch, `copies` what a server has of a shard and how copies compare, `following` who
+copies from whom and who is counted, `asking` questions between replicas, `serving` what is executed, acknowledged and
+shown, `reopening` what may be lost and who is told so, `laws` what may never be seen. `plays` has a worked play for
+each rule.
+
+smpland has not the lines that these rules need yet (docs/DATA.md): `driving_model` is what it does today.
+
+What it leaves out: more than five servers; a disk that goes back and does not know it; a server that was given up and
+comes back with its slots; forged messages. Whom a follower finds as the one that serves is read off the world.
+"""

@@ -1,0 +1,48 @@
+"""Clients: what was executed, acknowledged and seen, and how many copies each acknowledged write was promised."""
+from __future__ import annotations
+
+from driving_model.clients import PassedWrite, Seal, Write
+
+
+class Writes:
+    """For each shard its one list of executed writes, those that were acknowledged, and those that some reply showed.
+
+    A write is forgotten only when its loss was named and confirmed, or when a plan has dropped the shard's last
+    replica. `promised` has of each how many copies it had at least, and `destroyed` how many were lost with their
+    disks.
+    """
+
+    def __init__(self, shard_count: int) -> None:
+        self.history: list[list[int]] = [[] for _ in range(shard_count)]
+        self.acknowledged: list[set[int]] = [set() for _ in range(shard_count)]
+        self.seen: list[set[int]] = [set() for _ in range(shard_count)]
+        self.promised: dict[int, int] = {}
+        self.destroyed: dict[int, int] = {}
+        self.requests: list[Write] = []
+        self.passed: list[PassedWrite] = []
+        self.seals: list[Seal] = []
+
+    def new_write(self, shard: int) -> Write:
+        """A request of a client with an identity of its own."""
+        self.requests.append(Write(shard, len(self.requests) + 1))
+        return self.requests[-1]
+
+    def acknowledge(self, shard: int, writes: set[int], copies: int) -> None:
+        """These writes are acknowledged, each at as many copies."""
+        self.acknowledged[shard] |= writes
+        self.promised.update(dict.fromkeys(writes, copies))
+
+    def promise_less(self, shard: int, copies: int) -> None:
+        """From now on no more copies than these are promised of any write of the shard."""
+        for write in self.acknowledged[shard]:
+            self.promised[write] = min(self.promised[write], copies)
+
+    def destroy(self, writes: list[int]) -> None:
+        """A copy of each of these writes is lost."""
+        for write in writes:
+            self.destroyed[write] = self.destroyed.get(write, 0) + 1
+
+    def keep(self, shard: int, writes: list[int]) -> None:
+        """The loss of all others is known."""
+        self.acknowledged[shard] &= set(writes)
+        self.seen[shard] &= set(writes)

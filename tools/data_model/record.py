@@ -1,0 +1,92 @@
+"""What the controller has recorded, with the numbers of copies."""
+from __future__ import annotations
+
+from collections.abc import Iterable, Sequence
+from copy import copy
+
+from driving_model import record as driving
+from driving_model.cells import ABSENT, Verb
+from driving_model.plans import Instruction, Plan
+from driving_model.record import primary_of
+
+from .commands import Document
+from .messages import Terms
+
+
+class Record(driving.Record):
+    """The placement and the plans of one epoch. Of each shard `copies` are asked for, `wanted` by the document, and
+    `lowered` is the permit or base that lowered the number last. `former` was primary before, until an order's
+    number."""
+
+    document: Document
+
+    @classmethod
+    def over(
+        cls, record: driving.Record, before: Record | None = None, copies: Iterable[int] = (), base: int = 0
+    ) -> Record:
+        """A record with the numbers of the one before, of a settlement of this base, or of its document."""
+        made = copy(record)
+        made.__class__ = cls
+        made.wanted = [made.document.wanted(it) for it in made.shards]
+        made.copies = list(copies) or [max(1, min(made.wanted[it], made.there(it))) for it in made.shards]
+        made.lowered = [base] * len(made.cells)
+        made.former: list[tuple[int, int] | None] = [None] * len(made.cells)
+        if before:
+            made.wanted, made.copies, made.lowered = list(before.wanted), list(before.copies), list(before.lowered)
+            made.former = list(before.former)
+        return made
+
+    def copy(self) -> Record:
+        """A record that can be changed beside this one."""
+        other = super().copy()
+        other.wanted, other.copies, other.lowered = list(self.wanted), list(self.copies), list(self.lowered)
+        other.former = list(self.former)
+        return other
+
+    def replicas(self, shard: int) -> frozenset[int]:
+        """Who has something of the shard."""
+        return frozenset(it for it, cell in enumerate(self.cells[shard]) if cell != ABSENT)
+
+    def there(self, shard: int) -> int:
+        """How many replicas the shard has at servers that are not recorded down."""
+        return len(self.replicas(shard) - set(self.permits))
+
+    def led_by(self, shard: int) -> int | None:
+        """Who is the shard's primary, or forwards its requests."""
+        lead = self.lead(shard)
+        return lead.owner if primary_of(self.cells[shard]) is None else primary_of(self.cells[shard])
+
+    def lower(self, shard: int, permit: int) -> None:
+        """A replica is recorded down under this permit: fewer copies are asked for."""
+        down = len(self.replicas(shard)) - self.there(shard)
+        self.copies[shard] = max(1, min(self.copies[shard], self.wanted[shard] - down))
+        self.lowered[shard] = permit
+
+    def terms(self, shard: int, ordered: frozenset[int] = frozenset()) -> Terms:
+        """What an order or a slot says of the shard."""
+        return Terms(
+            self.copies[shard], self.wanted[shard], self.lowered[shard], self.led_by(shard),
+            self.replicas(shard) | ordered, self.former[shard],
+        )
+
+    def short_of_copies(self, plan: Plan) -> int | None:
+        """The first shard of which the plan's drops may leave fewer replicas than are wanted, if that is more than
+        one."""
+        begun = [it.code for it in plan.streams]
+        running = [state.stream.code[state.at:] for _, _, state in self.running()]
+        for shard in self.shards:
+            most = sum(most_gone(shard, it) for it in (*begun, *running))
+            drops = any(most_gone(shard, it) for it in begun)
+            if drops and 1 < self.wanted[shard] and len(self.replicas(shard)) - most < self.wanted[shard]:
+                return shard
+        return None
+
+
+def most_gone(shard: int, code: Sequence[Instruction]) -> int:
+    """How many replicas of the shard a stream has at most dropped beyond those that it has added."""
+    gone = most = 0
+    for it in code:
+        if it.shard == shard and it.verb in (Verb.DROP, Verb.ADD, Verb.PREPARE_ADD):
+            gone += 1 if it.verb is Verb.DROP else -1
+            most = max(most, gone)
+    return most

@@ -1,0 +1,138 @@
+"""The rules for data: over those of `driving_model`, each with a switch and a sentence on the duty.
+
+`driving_model` is what smpland asks for today. Its rules on data stand for less than these, and are replaced.
+"""
+from __future__ import annotations
+
+from dataclasses import dataclass, fields, replace
+
+from driving_model import rules as driving
+from driving_model.rules import rule
+
+# The rules of `driving_model` that say less, or otherwise, what the rules here say.
+REPLACED = frozenset({
+    "copies_acknowledge", "old_owner_acknowledges", "survivor_rank", "survivor_position", "carried_copy",
+})
+
+
+@dataclass(frozen=True)
+class Rules(driving.Rules):
+    """Which rules are in force."""
+
+    # Whoever executes writes.
+    durable_first: bool = rule("A write leaves a server, to whomever, only when it is durable there.")
+    own_durable: bool = rule("Whoever acknowledges a write counts itself first, and only if it has the write durably.")
+    enough_acknowledge: bool = rule("A write is acknowledged only when `copies` replicas have it.")
+    replies_wait: bool = rule("A reply, to whatever request, goes out only when all that it saw is acknowledged.")
+    # Whom it counts.
+    told_flushed: bool = rule("A follower tells of what it has durably, and of nothing more.")
+    part_untold: bool = rule("Of a copy that is not whole a follower tells nothing.")
+    told_whole: bool = rule("A replica counts only if by views its whole copy is a beginning of the counter's list.")
+    counted_settled: bool = rule(
+        "A follower counts only on a connection that it began when it was settled at the primary's last reopening."
+    )
+    connections_numbered: bool = rule(
+        "A follower numbers its connections; what comes by an earlier one than the newest heard is not heard."
+    )
+    # Copies that come.
+    views_resumed: bool = rule(
+        "A copy goes on only if its view and position make it a beginning of its source; others are made anew."
+    )
+    lesser_waits: bool = rule("Who has more than its source waits, and gives nothing up.")
+    anew_of_acknowledger: bool = rule(
+        "Where there is a primary, who has no whole copy copies only from who may acknowledge: it, or a new owner at "
+        "its cut."
+    )
+    anew_beside: bool = rule("A copy that replaces another one is made beside it, and takes its place when whole.")
+    # Leave to drop.
+    drop_granted: bool = rule("A drop commits only with leave, unless nobody else is named as a replica.")
+    leave_of_all: bool = rule("Leave asks for the full number of copies at others, also while fewer acknowledge.")
+    leave_of_whole: bool = rule("Without another primary only a replica with a whole copy gets leave.")
+    leave_of_earlier: bool = rule("Leave asks that others have also what the primary had when it started.")
+    leave_at_cut: bool = rule("A new owner below its cut gives nobody leave.")
+    leaver_silent: bool = rule("From its question to the end of the drop the leaver tells nobody what it has.")
+    leaver_uncounted: bool = rule("Who gives leave counts the leaver no more, and who has leave answers nobody.")
+    leave_numbered: bool = rule("An answer gives leave for the question whose number it names, and for no other one.")
+    grant_ends: bool = rule(
+        "A new connection begins when the order at work ends, whatever was granted, and counts again."
+    )
+    lower_asks_first: bool = rule(
+        "Of two that ask each other for leave the one with the higher number answers, and asks anew."
+    )
+    # Becoming a primary.
+    change_compares: bool = rule("`change` to primary commits only if nobody that was asked has more.")
+    change_by_count: bool = rule("It asks all replicas but `copies` less one, and not each one.")
+    change_counts_whole: bool = rule("Of those asked only whole copies count.")
+    former_counts: bool = rule("Or the former primary has told its copy, which it has kept since it was primary.")
+    copy_of_greatest: bool = rule(
+        "Without a primary a copy is made anew only from one that could be changed to primary."
+    )
+    change_begins_view: bool = rule("Who becomes primary by `change` begins a view with the order's number.")
+    begins_alone: bool = rule("`add` of a primary begins empty, and only if nobody else is named as a replica.")
+    # Losses.
+    primary_has_data: bool = rule("A server is restored as the primary of a shard only if it has a whole copy of it.")
+    loss_renews: bool = rule("An Unknown server that loses data makes a new nonce.")
+    empty_is_down: bool = rule(
+        "A server that is restored without a copy of a shard of its own is recorded down until its copies are whole."
+    )
+    doubt_told: bool = rule("A server that knows its disk to have gone back tells its copies as in doubt.")
+    doubt_kept: bool = rule("A copy in doubt is the heir if no other one is left, and no settlement deletes it.")
+    # What a reopening compares.
+    position_wins: bool = rule("A shard without a primary goes to the greatest copy, whatever its server's role.")
+    views_compared: bool = rule("Of two copies the one of the later view is greater, and then the longer one.")
+    views_below: bool = rule("A copy whose view is at or above the reopening's base is refused: begin above it.")
+    unknown_data_counts: bool = rule("A copy that an Unknown server still has counts like any other.")
+    members_awaited: bool = rule(
+        "For a shard without a primary each silent replica is awaited, or lost, unless enough others are left, or the "
+        "shard is named as lost."
+    )
+    loss_named: bool = rule(
+        "If as many replicas are gone (lost, or without a whole copy) as have each write, the shard is named."
+    )
+    loss_confirmed: bool = rule("`confirm` repeats each shard that is named, or is refused.")
+    asked_after: bool = rule(
+        "If a server that may have served a shard tells no copy, all are asked once more, by another reopening."
+    )
+    ordered_counted: bool = rule("A server that was sent an order which brings it a replica counts as having one.")
+    replaced_counted: bool = rule("Replicas and numbers of copies that a replaced reopening has settled count as well.")
+    copies_kept: bool = rule("A reopening takes no whole copy from a replica: it stays, at least as a secondary.")
+    # The number of copies.
+    copies_at_heir: bool = rule("A new primary asks for no more copies than were told at just its view and position.")
+    copies_left: bool = rule("A primary that stays asks for as many copies less as replicas go by the reopening.")
+    down_lowers: bool = rule("An approval lowers the number by the replicas that are recorded down.")
+    lower_numbered: bool = rule(
+        "A primary lowers its number only for a permit above its base and above the last that it lowered or raised for."
+    )
+    raise_stored: bool = rule("A primary stores that it asks for all copies again before it says so.")
+    copied_named: bool = rule("`copied` names base and nonce of the primary's last slots, and what lowered the number.")
+    copied_at_rest: bool = rule(
+        "`copied` is not taken while an unfinished stream names the shard: its orders carry a number."
+    )
+    drops_leave_copies: bool = rule("A plan may not begin if its drops may leave fewer replicas than wanted.")
+    # Fences.
+    fence_bounded: bool = rule("A server with slots takes no fence further than 2^20 epochs above its base.")
+
+    def without(self, *names: str) -> Rules:
+        """The same rules without these."""
+        unknown = set(names) - set(rule_names())
+        if unknown:
+            raise ValueError(f"no such rules: {', '.join(sorted(unknown))}")
+        return replace(self, **{name: False for name in names})
+
+
+SOUND = Rules()
+
+
+def rule_names() -> list[str]:
+    """The names of all rules that are in force here."""
+    return [it.name for it in fields(Rules) if it.name not in REPLACED]
+
+
+def data_rule_names() -> list[str]:
+    """The names of the rules for data alone."""
+    return [it for it in rule_names() if it not in {at.name for at in fields(driving.Rules)}]
+
+
+def sentence_of(name: str) -> str:
+    """What a rule says."""
+    return next(it.metadata["sentence"] for it in fields(Rules) if it.name == name)
