@@ -19,7 +19,7 @@ sys.path.insert(0, os.path.join(ROOT, "python"))
 from smplan import agent  # noqa: E402  (the path comes first)
 from smplan.agent import VACANT, Answer, Call, Cell  # noqa: E402
 from smplan.control import DONE, Controller, Session, SessionEnded  # noqa: E402
-from smplan.control_agent import order_of, slot_of  # noqa: E402
+from smplan.control_agent import assignment_of, order_of, slots_of  # noqa: E402
 
 DOCUMENT = os.path.join(ROOT, "examples", "drain-berlin-1.json")
 PROGRAM = [sys.executable, os.path.join(ROOT, "tools", "smpland_model.py"), "-"]
@@ -44,10 +44,8 @@ class Servers:
         return base.number if base.known and not base.fenced else None
 
     async def restore(self, told):
-        name, journal = told["server"], int(told["journal"], 16)
-        answer, self.bases[name] = agent.restore(self.bases[name], journal, told["fence"], told["base"], int(told["nonce"], 16))
-        if answer == Answer.TAKEN:
-            self.slots[name] = {it["shard"]: agent.place(VACANT, slot_of(it, self.numbers)) for it in told["slots"]}
+        name, brought = told["server"], slots_of(told, self.numbers)
+        _, self.bases[name], self.slots[name] = agent.take(self.bases[name], assignment_of(told), self.slots[name], brought)
         return DONE
 
     async def order(self, told):

@@ -6,10 +6,11 @@ import sys
 from typing import List, Optional
 
 from . import __version__
+from .command_line import Parser
 from .failure import Failure
 
 # Each module adds its commands with `add_parser(subparsers)`.
-MODULES = ["show", "explain", "documents", "reports", "restart", "repair"]
+MODULES = ["show", "explain", "documents", "reports", "restart", "repair", "planning", "import_command", "export_kafka"]
 
 EPILOG = """\
 DOCUMENT and REPORT are files; - or nothing is standard input. The tools run smplan where they need its answer. They take
@@ -20,7 +21,7 @@ exit status: 0 done, 1 the answer is no, 2 bad input or a fault of the command l
 
 def parser() -> argparse.ArgumentParser:
     """Returns the parser of all commands."""
-    top = argparse.ArgumentParser(
+    top = Parser(
         prog="smplan-tools",
         description="Shows plans, explains refusals, and carries documents and reports from one command to the next.",
         epilog=EPILOG,

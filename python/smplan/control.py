@@ -18,17 +18,23 @@ from collections import Counter
 from dataclasses import dataclass, field
 from typing import Any, Awaitable, Callable, Dict, List, Optional, Protocol, Sequence, Tuple
 
+from .agent import Answer
 from .control_session import Line, Session, SessionEnded, text_of
 
-__all__ = ["Controller", "Line", "Outgoing", "Pace", "Servers", "Session", "SessionEnded", "Store", "StoreLost", "Times", "BOUNDS", "DONE"]
+__all__ = ["Controller", "Line", "Outgoing", "Pace", "Servers", "Session", "SessionEnded", "Store", "StoreLost", "StoreRefused", "Times", "BOUNDS",
+           "DONE"]
 
 # What a handler says once its message is answered.
 DONE = "done"
 
-# The commands that change nothing, which need not be stored.
-ASKING = frozenset(["hello", "orders", "map", "state", "moves", "drain", "check", "since", "audit", "failed"])
+# What handlers say that is counted by its word.
+WORDS = frozenset(["working", "no answer", "cancelled", *(it.name.lower() for it in Answer)])
 
-# Stores lines behind all that were fed, and returns the lines to feed: those of others that came between, then these.
+# The commands that change nothing, which need not be stored.
+ASKING = frozenset(["hello", "orders", "map", "state", "document", "moves", "drain", "repair", "check", "since", "audit", "failed"])
+
+# Stores lines behind all that were fed, and returns the lines to feed: those of others that came between, then these. StoreRefused says that it
+# stored none of these; any other exception ends this controller's leading.
 Store = Callable[[Sequence[str]], Awaitable[Sequence[str]]]
 
 
@@ -36,8 +42,16 @@ class StoreLost(Exception):
     """The journal takes no lines of this controller: it is no longer the leader, or the store is out of reach."""
 
 
+class StoreRefused(ValueError):
+    """The journal will never take this line, as it is too long. The line was not stored, and the controller leads on."""
+
+
 class Servers(Protocol):
-    """How messages reach servers and the map's owner. Each handler may be called again with the same message, and fail."""
+    """How messages reach servers and the map's owner. Each handler may be called again with the same message, and fail.
+
+    A handler that takes longer than `Pace.timeout` is cancelled. So work that may take longer, as a copy, has to be a task of its own: a handler
+    begins it if it is not there, says "working", and a later one finds it done.
+    """
 
     async def order(self, order: Line) -> str:
         """Sends an order to its server, and returns DONE once it is answered, or what the server says else."""
@@ -63,12 +77,19 @@ class Servers(Protocol):
 
 @dataclass(frozen=True)
 class Pace:
-    """How long a handler may take, the rest before its message goes again, and how many are under way at once."""
+    """How long a handler may take; the rest before its message goes again, which doubles with each try up to the longest one; how many are under way
+    at once; how many lines are stored at once, and how many bytes of them the store takes."""
 
     timeout: float = 2.0
     again: float = 0.2
+    longest: float = 1.0
     most: int = 256
     batch: int = 64
+    batch_bytes: int = 64 << 20
+
+    def rest_behind(self, tries: int) -> float:
+        """How long a message rests that was handed out so often."""
+        return max(self.again, min(self.again * 2.0 ** min(tries - 1, 32), self.longest))
 
 
 # Bounds of the histogram of answer times, in seconds.
@@ -107,6 +128,25 @@ class Outgoing:
         return time.monotonic() - self.since
 
 
+def loss_of(why: BaseException) -> Exception:
+    """What those are told who wait for a line, whatever has befallen the store."""
+    if isinstance(why, (StoreLost, SessionEnded)):
+        return why
+    lost = StoreLost(f"the store has failed: {type(why).__name__} {why}".rstrip())
+    lost.__cause__ = why
+    return lost
+
+
+async def end_of(task: "asyncio.Future[Any]") -> Optional[BaseException]:
+    """Cancels a task unless it is done, and returns what it was ended by, none if it has a result."""
+    task.cancel()
+    await asyncio.wait([task])
+    return asyncio.CancelledError() if task.cancelled() else task.exception()
+
+
+# A line that is to be stored, and who waits for its reply.
+Waiting = Tuple[str, "asyncio.Future[Line]"]
+
 # A message by its kind, and by its stream or server.
 Key = Tuple[Any, ...]
 
@@ -136,10 +176,11 @@ class Controller:
         self.leads = False
         self.outgoing: Dict[Key, Outgoing] = {}
         self.counts: Counter[str] = Counter()
+        self.answers: Counter[str] = Counter()
         self.times = Times()
         self.proposal: Optional[Line] = None
-        self.lost: Optional[BaseException] = None
-        self.queue: List[Tuple[str, "asyncio.Future[Line]"]] = []
+        self.lost: Optional[Exception] = None
+        self.queue: List[Waiting] = []
         self.has_lines = asyncio.Event()
         self.throttle = asyncio.Semaphore(pace.most)
         self.writer: Optional["asyncio.Task[None]"] = None
@@ -152,8 +193,11 @@ class Controller:
         self.leads, self.lost = True, None
         self.writer = asyncio.create_task(self.write())
         await self.refresh()
-        state = await self.session.ask({"do": "state"})
-        self.proposal = state.get("state", {}).get("reopening", {}).get("proposal")
+        await self.session.ask({"do": "state"}, self.remember_proposal)
+
+    def remember_proposal(self, reply: Line) -> None:
+        """Takes up what was proposed before this controller led."""
+        self.proposal = reply.get("state", {}).get("reopening", {}).get("proposal")
 
     async def rest(self) -> None:
         """Stops acting. What is under way may yet arrive, which does no harm."""
@@ -166,7 +210,7 @@ class Controller:
         await asyncio.gather(*tasks, return_exceptions=True)
         self.fail_queue(StoreLost("this controller does not lead"))
 
-    def fail_queue(self, why: BaseException) -> None:
+    def fail_queue(self, why: Exception) -> None:
         """Lets everyone know who waits for a line to be stored."""
         queue, self.queue = self.queue, []
         for _, waiting in queue:
@@ -179,7 +223,9 @@ class Controller:
 
     def reconcile(self, reply: Line) -> None:
         """Makes what is under way the same as what is outstanding."""
-        self.heed(reply)
+        if not self.leads:
+            return
+        self.send_all(reply)
         present = {key_of(kind, it): it for kind, it in self.messages_of(reply)}
         for key, outgoing in list(self.outgoing.items()):
             if key[0] != "restore" and not is_same(present.get(key, {}), outgoing.message):
@@ -199,6 +245,8 @@ class Controller:
             raise StoreLost("this controller does not lead")
         self.counts["lines"] += 1
         text = text_of({**command, "id": f"{self.name}-{self.counts['lines']}"})
+        if len(text) > self.pace.batch_bytes:
+            raise StoreRefused(f"the line is too long: it has {len(text)} bytes, and the journal takes {self.pace.batch_bytes}")
         waiting: "asyncio.Future[Line]" = asyncio.get_running_loop().create_future()
         self.queue.append((text, waiting))
         self.has_lines.set()
@@ -221,18 +269,42 @@ class Controller:
         """Stores and feeds what is queued, all that came together at once, until the store is lost."""
         while True:
             await self.has_lines.wait()
-            batch, self.queue = self.queue[:self.pace.batch], self.queue[self.pace.batch:]
-            if not self.queue:
-                self.has_lines.clear()
+            batch = self.next_batch()
             try:
-                await self.write_batch(batch)
-            except (StoreLost, SessionEnded, OSError) as why:
-                self.lost = why
+                await self.write_or_refuse(batch)
+            except (Exception, asyncio.CancelledError) as why:  # (a store is others' code: whatever befalls it, this one leads no longer)
+                if not self.leads:
+                    raise
+                self.lost = loss_of(why)
                 self.queue = batch + self.queue
-                self.fail_queue(why)
+                self.fail_queue(self.lost)
                 return
 
-    async def write_batch(self, batch: List[Tuple[str, "asyncio.Future[Line]"]]) -> None:
+    def next_batch(self) -> List[Waiting]:
+        """Takes from the queue what is stored at once."""
+        count = bytes_of = 0
+        for text, _ in self.queue[:self.pace.batch]:
+            bytes_of += len(text)
+            if count and bytes_of > self.pace.batch_bytes:
+                break
+            count += 1
+        batch, self.queue = self.queue[:count], self.queue[count:]
+        if not self.queue:
+            self.has_lines.clear()
+        return batch
+
+    async def write_or_refuse(self, batch: List[Waiting]) -> None:
+        """Stores a batch, or, if the store refuses it, each line alone; tells whose line is refused."""
+        try:
+            await self.write_batch(batch)
+        except StoreRefused as why:
+            if len(batch) > 1:
+                for line in batch:
+                    await self.write_or_refuse([line])
+            elif not batch[0][1].done():
+                batch[0][1].set_exception(why)
+
+    async def write_batch(self, batch: List[Waiting]) -> None:
         """Stores a batch, then feeds what the store returns, and acts on each reply."""
         fed = await self.store([text for text, _ in batch])
         waiting = dict(batch)
@@ -262,21 +334,24 @@ class Controller:
         return found
 
     def heed(self, reply: Line) -> None:
-        """Acts on a reply: sends what goes out, and forgets what a reopening has ended."""
+        """Acts on the reply to a line that was stored: sends what goes out, and forgets what a reopening has ended."""
         if not self.leads:
             return
         if reply.get("fence") or "opened" in reply:
             self.proposal = None
             self.forget_all()
-        if "proposal" in reply:
-            self.proposal = reply["proposal"]
-        if reply.get("settle"):
-            self.proposal = None
+        self.proposal = reply.get("proposal", self.proposal)
         if "restore" in reply:
             self.send("restore", reply["restore"])
+        self.send_all(reply)
+        self.counts["ended"] += len(reply.get("ended") or [])
+
+    def send_all(self, reply: Line) -> None:
+        """Sends all messages that a reply has. Once something is settled, what was proposed is confirmed."""
+        if reply.get("settle"):
+            self.proposal = None
         for kind, message in self.messages_of(reply):
             self.send(kind, message)
-        self.counts["ended"] += len(reply.get("ended") or [])
 
     def forget(self, key: Key) -> None:
         """Sends a message no longer."""
@@ -308,12 +383,16 @@ class Controller:
         while self.leads and self.outgoing.get(key) is outgoing:
             line = await self.attempt(key[0], outgoing)
             if line is None:
-                await asyncio.sleep(self.pace.again)
+                await asyncio.sleep(self.pace.rest_behind(outgoing.tries))
                 continue
             self.times.add(outgoing.age)
             try:
                 if line:
                     await self.do(line)
+            except StoreRefused as why:
+                outgoing.said = str(why)
+                await asyncio.sleep(self.pace.rest_behind(outgoing.tries))
+                continue
             except (StoreLost, SessionEnded):
                 return
             if self.outgoing.get(key) is outgoing:
@@ -324,14 +403,20 @@ class Controller:
         """Hands a message out once. Returns the line that records its answer (an empty one where none is due), none if there was none."""
         outgoing.tries += 1
         self.counts[kind if outgoing.tries == 1 else f"{kind} again"] += 1
-        try:
-            async with self.throttle:
-                return await asyncio.wait_for(self.hand_out(kind, outgoing), self.pace.timeout)
-        except asyncio.TimeoutError:
+        async with self.throttle:
+            handling = asyncio.ensure_future(self.hand_out(kind, outgoing))
+            try:
+                await asyncio.wait([handling], timeout=self.pace.timeout)
+                is_late = not handling.done()
+            finally:
+                why = await end_of(handling)
+        if is_late:
             outgoing.said = "no answer"
-        except Exception as why:  # (handlers are others' code, and whatever befalls them the message goes again)
-            outgoing.said = f"{type(why).__name__} {why}".strip()
-        return None
+        elif why is not None:  # (handlers are others' code: whatever befalls them, the message goes again)
+            outgoing.said = "cancelled" if isinstance(why, asyncio.CancelledError) else f"{type(why).__name__} {why}".strip()
+        line = handling.result() if why is None else None
+        self.answers[DONE if line is not None else outgoing.said if outgoing.said in WORDS else "else"] += 1
+        return line
 
     async def hand_out(self, kind: str, outgoing: Outgoing) -> Optional[Line]:
         """Calls the handler of a message, and returns the line that records the answer."""

@@ -1,9 +1,9 @@
-"""Turns what a session sends into what the agent takes."""
+"""Turns what a session sends into what the agent takes, and slots back."""
 from __future__ import annotations
 
-from typing import Any, Dict, Mapping
+from typing import Any, Dict, Mapping, Union
 
-from .agent import Call, Cell, Order, Role, Slot
+from .agent import Call, Cell, Order, Restoration, Role, Settlement, Slot
 
 
 def role_of(word: Any) -> Role:
@@ -30,3 +30,29 @@ def slot_of(told: Dict[str, Any], numbers: Mapping[str, int]) -> Slot:
         cell=Cell[told["cell"].upper()], party=numbers[other] if other is not None else 0, handover=told.get("handover", 0),
         load=told.get("load", 0),
     )
+
+
+def told_of(shard: str, slot: Slot, names: Mapping[int, str], position: int, reached: bool) -> Dict[str, Any]:
+    """Returns what a server tells of a slot when it is fenced: with the shard's position, and whether a new owner has reached its cut. `names` are the
+    servers' by their numbers."""
+    told: Dict[str, Any] = {"shard": shard, "cell": Cell(slot.cell).name.lower(), "last": slot.last, "load": slot.load, "position": position}
+    if slot.cell in (Cell.PREPARED, Cell.FORWARDING):
+        told.update(party=names[slot.party], handover=slot.handover)
+    if slot.cell == Cell.FORWARDING:
+        told["cut"] = slot.cut
+    if slot.cell == Cell.PREPARED:
+        told["reached"] = reached
+    return told
+
+
+def slots_of(told: Dict[str, Any], numbers: Mapping[str, int]) -> Dict[str, Slot]:
+    """Returns the slots that a restore or a settle brings, by shard."""
+    return {it["shard"]: slot_of(it, numbers) for it in told["slots"]}
+
+
+def assignment_of(told: Dict[str, Any]) -> Union[Settlement, Restoration]:
+    """Returns a restore, which names the last reopening by its `fence`, or a settle, as the agent takes it."""
+    journal, nonce = int(told["journal"], 16), told["nonce"]
+    if "fence" in told:
+        return Restoration(journal, told["fence"], told["base"], int(nonce, 16))
+    return Settlement(journal, told["base"], None if nonce is None else int(nonce, 16))

@@ -5,18 +5,18 @@ import argparse
 import importlib
 import os
 import sys
-from typing import List, Optional
+from typing import List, Optional, Tuple
 
 from .failure import Failure
 
 # Each module adds its commands with `add_parser(subparsers)`.
-MODULES = ["control_drain", "control_watch", "control_audit"]
+MODULES = ["control_run", "control_operate", "control_restart", "control_reopen", "control_repair", "control_drain", "control_watch", "control_audit", "gate_command", "control_campaign", "control_rolling"]
 
 
 def parser() -> argparse.ArgumentParser:
     """Returns the parser of all commands."""
     top = argparse.ArgumentParser(
-        prog="smplan-control", description="Drains servers, watches a controller, and audits its journal.",
+        prog="smplan-control", description="Runs a controller of servers that speak HTTP, and does with a running one what operators do.",
         epilog="exit status: 0 done, 1 the answer is no, 2 bad input or a fault of the command line, 3 a controller or a program does not answer, 130 interrupted",
     )
     subparsers = top.add_subparsers(metavar="COMMAND", required=True)
@@ -25,9 +25,17 @@ def parser() -> argparse.ArgumentParser:
     return top
 
 
+def split(words: List[str]) -> Tuple[List[str], List[str]]:
+    """Returns the words before `--`, and the command behind it."""
+    at = words.index("--") if "--" in words else len(words)
+    return words[:at], words[at + 1:]
+
+
 def main(words: Optional[List[str]] = None) -> int:
     """Runs one command, and returns its exit status."""
+    words, command = split(sys.argv[1:] if words is None else words)
     told = parser().parse_args(words)
+    told.command = command
     try:
         status = told.run(told)
         sys.stdout.flush()

@@ -7,24 +7,17 @@ import time
 from dataclasses import dataclass
 from typing import Any, Callable, Dict, List, Optional
 
-from .control_http import fetch, leads
+from .control_leader import Refused, add_options, controllers_of
 from .failure import Failure
 from .reading import did_you_mean
 
 Line = Dict[str, Any]
 Post = Callable[[str, Line], Line]
 
-# Refusals that may be over once a running plan has ended. (A plan is untrue if another one ended since it was made.)
-PASSING = frozenset(["Held", "Taken", "ShortRoom", "ShortSpare", "TooManyPlans", "Untrue"])
-
-
-class Refused(Failure):
-    """A line was refused, or bad."""
-
-    def __init__(self, reply: Line) -> None:
-        told = reply.get("refused") or reply.get("bad") or {}
-        super().__init__(told.get("text") or str(reply), 1)
-        self.kind = told.get("kind")
+# Refusals that may be over once a running plan has ended; and those that may be over at once: a plan is untrue if another one ended since it was made,
+# and a server is unknown until it has got its slots.
+PASSING = frozenset(["Held", "Taken", "ShortRoom", "ShortSpare", "TooManyPlans"])
+SHORT = frozenset(["Untrue", "Unknown"])
 
 
 def moves_of(plan: Line, server: str) -> List[Line]:
@@ -77,7 +70,8 @@ class Campaign:
         """Waits a moment if a running plan may be why a line was refused; raises the refusal otherwise, and once this takes longer than the patience."""
         plans = self.post("/ask", {"do": "state"}).get("state", {}).get("plans", [])
         running = [it["name"] for it in plans if it["is"] == "running"]
-        if why.kind not in PASSING or not (running or why.kind == "Untrue") or (self.patience is not None and self.waited > self.patience):
+        may_pass = why.kind in SHORT or (why.kind in PASSING and running)
+        if not may_pass or (self.patience is not None and self.waited > self.patience):
             raise why
         if not self.waited:
             self.tell(f"waits for {', '.join(running) or 'a moment'}: {why}")
@@ -125,10 +119,11 @@ class Campaign:
 
 def run(told: argparse.Namespace) -> int:
     """Runs the command. The first interrupt ends the campaign behind the present plan."""
-    url = told.controller.rstrip("/")
-    if not leads(url):
-        raise Failure(f"{url}: this controller does not lead; ask the next controller", 3)
-    campaign = Campaign(lambda path, line: fetch(url + path, line), told.server, told.batch, told.pause, told.stop)
+    from .control_campaign import run_drain  # (which imports this module)
+    if is_for_several(told):
+        told.servers, told.batch = told.server, told.batch or 64
+        return run_drain(told)
+    campaign = Campaign(controllers_of(told).post, told.server[0], told.batch or 4, told.pause, told.stop)
 
     def stop(*_: object) -> None:
         campaign.is_stopped = True
@@ -137,6 +132,11 @@ def run(told: argparse.Namespace) -> int:
 
     signal.signal(signal.SIGINT, stop)
     return campaign.run()
+
+
+def is_for_several(told: argparse.Namespace) -> bool:
+    """Whether servers are to be emptied together, or a choice is to be made that the proved planner does not make."""
+    return len(told.server) > 1 or told.server[0].startswith("region:") or told.prefer_secondary or bool(told.avoid) or told.before is not None
 
 
 def at_least(least: float, kind: Callable[[str], float] = float) -> Callable[[str], float]:
@@ -151,15 +151,19 @@ def at_least(least: float, kind: Callable[[str], float] = float) -> Callable[[st
 
 def add_parser(subparsers: Any) -> None:
     """Adds the command."""
+    from .control_campaign import add_choices
     parser = subparsers.add_parser(
         "drain", help="empties a server by small plans, one after the other",
         epilog="example: smplan-control drain berlin-1 --controller http://10.0.0.7:9200 --batch 2 --pause 5",
         description="Empties a server of its replicas by plans of a few moves each, and waits for plans that are in its way. The first interrupt ends "
-        "it behind the present plan. Exit status 0: the server was empty. 1: it stopped before that, or a plan was refused.",
+        "it behind the present plan. If another controller leads meanwhile, it goes on there. Exit status 0: the server was empty. 1: it stopped before "
+        "that, or a plan was refused.",
     )
-    parser.add_argument("server", help="the server's name")
-    parser.add_argument("--controller", required=True, metavar="URL", help="the leading controller's HTTP port")
-    parser.add_argument("--batch", type=at_least(1, int), default=4, metavar="N", help="moves in a plan (4)")
+    parser.add_argument("server", nargs="+", metavar="SERVER", help="the server's name; several, or region:R, are emptied together, the greatest loads first")
+    add_options(parser)
+    add_choices(parser)
+    parser.add_argument("--prefer-secondary", action="store_true", help="change the roles of primaries first, and copy secondaries alone")
+    parser.add_argument("--batch", type=at_least(1, int), metavar="N", help="moves in a plan (4; of several servers 64, and 1 %% of all load or four of the largest replicas)")
     parser.add_argument("--pause", type=at_least(0), default=1.0, metavar="SECONDS", help="rest between two plans (1)")
     parser.add_argument("--stop", type=at_least(0), metavar="SECONDS", help="begin no further plan once one, or waiting for others' plans, takes longer than this")
     parser.set_defaults(run=run)

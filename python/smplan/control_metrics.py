@@ -63,11 +63,13 @@ def of_controller(controller: Controller) -> List[str]:
     oldest = [({"kind": kind}, max((it.age for key, it in outgoing if key[0] == kind), default=0.0)) for kind in kinds]
     count = [({"kind": kind}, float(sum(key[0] == kind for key, _ in outgoing))) for kind in kinds]
     events = [({"event": name}, float(value)) for name, value in sorted(controller.counts.items())]
+    answers = [({"said": word}, float(value)) for word, value in sorted(controller.answers.items())]
     return [
         *metric("leads", "gauge", "whether this controller acts", [({}, float(controller.leads))]),
         *metric("outstanding", "gauge", "messages that are not answered", count),
         *metric("outstanding_age_seconds", "gauge", "age of the oldest message that is not answered", oldest),
         *metric("events_total", "counter", "what this controller did", events),
+        *metric("answers_total", "counter", "answers to messages by what was said", answers),
         *histogram("answer_seconds", "how long a message took to be answered, repetitions included", controller.times),
     ]
 

@@ -4,7 +4,7 @@ from __future__ import annotations
 import json
 from typing import Any, Awaitable, Dict
 
-from .control import ASKING, Controller, Line, Outgoing, SessionEnded, StoreLost
+from .control import ASKING, Controller, Line, Outgoing, SessionEnded, StoreLost, StoreRefused
 from .control_http import Page, Route
 from .control_metrics import metrics_of
 
@@ -30,6 +30,8 @@ def routes_of(controller: Controller) -> Dict[str, Route]:
     async def told(doing: Awaitable[Line]) -> Page:
         try:
             return Page.of(await doing)
+        except StoreRefused as why:
+            return Page.of({"fault": str(why)}, 413)
         except (StoreLost, SessionEnded) as why:
             return Page.of({"fault": str(why)}, 409)
 

@@ -4,10 +4,12 @@ from __future__ import annotations
 import argparse
 import sys
 import time
-from typing import Any, Dict, List
+from typing import Any, Dict, List, Optional, Tuple
 
 from .control_drain import at_least
 from .control_http import fetch, leads
+from .control_leader import add_options, token_of, urls_of
+from .failure import Failure
 from .words import counted
 
 Line = Dict[str, Any]
@@ -68,11 +70,11 @@ def screen(state: Line, outgoing: List[Line], most: int = 15, leads: bool = True
 
 def run(told: argparse.Namespace) -> int:
     """Runs the command, until it is interrupted."""
-    url = told.controller.rstrip("/")
+    urls, token = [it.rstrip("/") for it in urls_of(told)], token_of(told)
     try:
         while True:
-            is_leader = leads(url)
-            text = screen(fetch(url + "/ask", {"do": "state"})["state"], fetch(url + "/outgoing"), leads=is_leader)
+            url, is_leader = leader_of(urls, token)
+            text = screen(fetch(url + "/ask", {"do": "state"}, token=token)["state"], fetch(url + "/outgoing", token=token), leads=is_leader)
             sys.stdout.write(("\033[H\033[J" if sys.stdout.isatty() and not told.once else "") + text)
             sys.stdout.flush()
             if told.once:
@@ -82,9 +84,24 @@ def run(told: argparse.Namespace) -> int:
         return 0
 
 
+def leader_of(urls: List[str], token: Optional[str]) -> Tuple[str, bool]:
+    """Returns the controller that leads, otherwise the first that answers, and whether it leads."""
+    found, fault = [], Failure("no controller is named")
+    for url in urls:
+        try:
+            if leads(url, token):
+                return url, True
+            found.append(url)
+        except Failure as why:
+            fault = why
+    if not found:
+        raise fault
+    return found[0], False
+
+
 def run_metrics(told: argparse.Namespace) -> int:
     """Prints the figures once."""
-    sys.stdout.write(fetch(told.controller.rstrip("/") + "/metrics"))
+    sys.stdout.write(fetch(urls_of(told)[0].rstrip("/") + "/metrics", token=token_of(told)))
     return 0
 
 
@@ -96,7 +113,7 @@ def add_parser(subparsers: Any) -> None:
         description="Shows what a controller does until it is interrupted: of each server its load (#), room that plans hold (+) and free room (.), "
         "running plans, and messages that are not answered, the oldest first.",
     )
-    parser.add_argument("--controller", required=True, metavar="URL", help="a controller's HTTP port; one that does not lead has no messages")
+    add_options(parser)
     parser.add_argument("--every", type=at_least(0), default=1.0, metavar="SECONDS", help="rest before it is shown anew (1)")
     parser.add_argument("--once", action="store_true", help="show it once")
     parser.set_defaults(run=run)
@@ -105,5 +122,5 @@ def add_parser(subparsers: Any) -> None:
         epilog="example: smplan-control metrics --controller http://10.0.0.7:9200",
         description="Prints a controller's figures once, as it serves them at /metrics.",
     )
-    parser.add_argument("--controller", required=True, metavar="URL", help="a controller's HTTP port")
+    add_options(parser)
     parser.set_defaults(run=run_metrics)

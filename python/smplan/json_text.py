@@ -96,13 +96,16 @@ def read(data: bytes) -> Any:
         text = data.decode("utf-8")
     except UnicodeDecodeError as why:
         raise BadText(f"byte {why.start}", "the bytes are not UTF-8") from None
+    if not text.strip():
+        raise BadText("document", "the input is empty")
     if text.startswith("\ufeff"):
         raise BadText("line 1, column 1", "a byte order mark stands in front")
     _check_depth(text)
     try:
         value = json.loads(text, parse_int=_whole, parse_float=_float, parse_constant=_constant, object_pairs_hook=_object)
     except json.JSONDecodeError as why:
-        raise BadText(place_in(text, why.pos), f"no JSON: {why.msg}") from None
+        is_comment = text.startswith(("//", "/*", "#"), why.pos)
+        raise BadText(place_in(text, why.pos), f"no JSON: {'a comment, which JSON has not' if is_comment else why.msg}") from None
     except (ValueError, RecursionError) as why:
         raise BadText("document", f"no JSON: {why}") from None
     _check_strings([value])

@@ -39,3 +39,11 @@ for (const cell of document.querySelectorAll("[data-goto]")) {
     step.animate([{ outline: "3px solid var(--accent)" }, { outline: "3px solid transparent" }], 1600);
   });
 }
+// All streams in words are opened, or closed, together.
+for (const button of document.querySelectorAll("button.all")) {
+  button.addEventListener("click", () => {
+    const is_open = button.textContent === "open all";
+    for (const it of button.closest("section").querySelectorAll("details.words")) it.open = is_open;
+    button.textContent = is_open ? "close all" : "open all";
+  });
+}

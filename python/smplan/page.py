@@ -11,6 +11,7 @@ from typing import AbstractSet, Dict, List, Optional, Sequence, Tuple
 from .model import Document, Spot
 from .placement import Finding, Placement
 from .story import Story
+from .width import most_at_once
 from .words import carried, counted, in_words, label, rights_in_words
 
 FOLDER = Path(__file__).parent
@@ -33,6 +34,9 @@ KINDS = {
 }
 LEGEND = [("add", "add a replica"), ("drop", "drop one"), ("hand", "hand a primary over"), ("role", "change a role"), ("map", "publish in the map"),
           ("signal", "signal or wait")]
+REPLICAS = [("primary", "primary"), ("secondary", "secondary"), ("others", "replicas that stay")]
+# How many streams are shown in words at once; of more each is folded away.
+OPEN_STREAMS = 3
 
 
 def esc(text: object) -> str:
@@ -291,12 +295,13 @@ def servers_html(placements: Sequence[Placement], names: Sequence[str], shards: 
     rows, known = [], set(shards)
     for name in names:
         region = placements[0].document.servers[name].region
+        led = " → ".join(dict.fromkeys(str(list(it.replicas[name].values()).count("primary")) for it in placements))
         bars = []
         for it in placements:
             other = next((one for one in placements if one is not it), None)
             bars.append(f"<td>{bar_html(it, name, known, other)}</td>")
-        rows.append(f'<tr data-server="{esc(name)}"><th scope="row"><b>{esc(name)}</b><em>{esc(region)}</em></th>{"".join(bars)}</tr>')
-    head = f'<tr><th>server</th>{"".join(f"<th>{it}</th>" for it in heads)}</tr>'
+        rows.append(f'<tr data-server="{esc(name)}"><th scope="row"><b>{esc(name)}</b><em>{esc(region)}</em></th>{"".join(bars)}<td class="number">{led}</td></tr>')
+    head = f'<tr><th>server</th>{"".join(f"<th>{it}</th>" for it in heads)}<th>primaries</th></tr>'
     return folded(rows, "server", f'<div class="wide"><table class="servers">{head}', "</table></div>")
 
 
@@ -336,6 +341,9 @@ def tiles_html(story: Story) -> str:
         changes = story.changes()
         added = [it for it in changes if it.before is None]
         dropped = sum(it.after is None for it in changes)
+        at_once = most_at_once(plan, story.document)
+        if at_once:
+            tiles += [(at_once.in_all, "most copies at once"), (at_once.at_server, "most at a server"), (at_once.chain, "load copied one after the other")]
         tiles += [(len(added), "replica to add"), (dropped, "replica to drop"), (sum(story.document.shards[it.shard].load for it in added), "load to copy")]
     return '<div class="tiles">' + "".join(f'<div class="tile"><b>{count}</b><span>{tile_name(count, name)}</span></div>' for count, name in tiles) + "</div>"
 
@@ -343,7 +351,7 @@ def tiles_html(story: Story) -> str:
 def tile_name(count: int, name: str) -> str:
     """Returns the noun of a count, whose first word is in the plural unless it is one."""
     noun, *rest = name.split(" ")
-    return " ".join([noun if count == 1 or noun == "load" else f"{noun}s", *rest])
+    return " ".join([noun if count == 1 or noun in ("load", "most") else f"{noun}s", *rest])
 
 
 def findings_html(findings: Sequence[Finding]) -> str:
@@ -367,16 +375,23 @@ def signals_html(story: Story) -> str:
     return f'<section><details{" open" if len(plan.signals) <= 12 else ""}><summary><h2>Signals</h2></summary><div class="wide"><table>{"".join(rows)}</table></div></details></section>'
 
 
+def legend_html(keys: Sequence[Tuple[str, str]]) -> str:
+    """What the colours mean."""
+    spans = "".join(f'<span class="key {kind}">{text}</span>' for kind, text in keys)
+    return f'<div class="legend">{spans}</div>'
+
+
 def words_html(story: Story) -> str:
     """Each stream's rights and steps in words."""
-    parts = []
+    parts, is_open = [], " open" if len(story.plan.streams) <= OPEN_STREAMS else ""
     for number, stream in enumerate(story.plan.streams):
         holds = "".join(f"<li>{esc(it)}</li>" for it in rights_in_words(stream.holds)) or "<li>nothing</li>"
         steps = "".join(
             f"<li><b>{esc(label(it))}</b> {esc(in_words(story.plan, Spot(number, at), story.hold_before(Spot(number, at))))}</li>" for at, it in enumerate(stream.code)
         )
-        parts.append(f'<details class="words"><summary>Stream {number}</summary><h4>holds at its beginning</h4><ul>{holds}</ul><h4>does</h4><ol start="0">{steps}</ol></details>')
-    return f'<section><h2>In words</h2>{"".join(parts)}</section>' if parts else ""
+        parts.append(f'<details class="words"{is_open}><summary>Stream {number}</summary><h4>holds at its beginning</h4><ul>{holds}</ul><h4>does</h4><ol start="0">{steps}</ol></details>')
+    button = "" if is_open else '<p class="note"><button type="button" class="all">open all</button></p>'
+    return f'<section><h2>In words</h2>{button}{"".join(parts)}</section>' if parts else ""
 
 
 def player_html(story: Story) -> str:
@@ -390,18 +405,17 @@ def player_html(story: Story) -> str:
 def plan_html(plan: PlanPage, heading: str) -> str:
     story = plan.story
     boxes = boxes_of(story)
-    legend = "".join(f'<span class="key {kind}">{text}</span>' for kind, text in LEGEND)
     head = f'<article class="plan"><header><h1>{esc(heading)}</h1>{badge_html(plan.verdict)}</header>{tiles_html(story)}{findings_html(plan.findings)}'
-    lanes = f'<section><h2>Streams</h2><p class="note">In a round every stream that can makes its next step. An arrow is a signal, which hands rights on.</p>' \
-            f'<div class="legend">{legend}</div>{player_html(story)}{overview_html(story, boxes)}{lanes_html(story, boxes)}</section>'
+    lanes = f'<section><h2>Streams</h2><p class="note">In each round, every stream that is able to makes one step. An arrow is a signal, which hands rights on.</p>' \
+            f'{legend_html(LEGEND)}{player_html(story)}{overview_html(story, boxes)}{lanes_html(story, boxes)}</section>'
     body = ""
     if story.document:
         ends = [story.before, story.after]
         names, shards = fullest_first(story), story.shards_touched()
         if names:
             body += f'<section><h2>Load over the rounds</h2><p class="note">The dashed line is the server\'s room.</p>{charts_html(story)}</section>'
-            body += f'<section><h2>Servers, before and after</h2><p class="note">A bar is as long as the server\'s room. Outlined replicas come, go, or change their role.</p>' \
-                    f'{servers_html(ends, names, shards)}</section>'
+            body += f'<section><h2>Servers, before and after</h2><p class="note">A bar is as long as the server\'s room. Outlined replicas come, go, or change their role. ' \
+                    f'Point at one for its name.</p>{legend_html(REPLICAS)}{servers_html(ends, names, shards)}</section>'
         if shards:
             body += f"<section><h2>Shards, before and after</h2>{shards_html(ends, shards)}</section>"
     return head + lanes + body + signals_html(story) + words_html(story) + "</article>"

@@ -1,6 +1,7 @@
 """`ask-restart`: may this server be restarted now?"""
 import argparse
 import json
+import os
 import re
 from typing import Any, List, Tuple
 
@@ -28,6 +29,14 @@ def shards_at(report: Report, server: str) -> List[str]:
     return found
 
 
+def led_by(report: Report, server: str) -> List[str]:
+    """Returns the shards that nobody serves while a server is down."""
+    return [
+        shard["name"] for shard in report.lists.get("shards", [])
+        if any(it["server"] == server and it["state"] in ("primary", "forwarding") for it in shard["cells"])
+    ]
+
+
 def reason(document: Document, server: str, answer: str, report: Report) -> str:
     """Returns why a restart is denied, in words."""
     if answer == "denied 1 AlreadyDown":
@@ -51,6 +60,8 @@ def reason(document: Document, server: str, answer: str, report: Report) -> str:
 
 
 def ask(arguments: argparse.Namespace) -> int:
+    if not os.path.exists(arguments.document) and os.path.isfile(arguments.server):
+        raise Failure(f"the document comes first: smplan-tools ask-restart {arguments.server} {arguments.document}")
     document, server = read_document(arguments.document), arguments.server
     if server not in document.servers:
         raise Failure(f"no server is named '{server}'{did_you_mean(server, document.servers)}")
@@ -65,6 +76,9 @@ def ask(arguments: argparse.Namespace) -> int:
     if answers[0] == "approved":
         shards = shards_at(report, server)
         print(f"approved: {server} may be restarted now" + (f"; while it is down: {', '.join(shards)}" if shards else "; it has no replicas"))
+        led = led_by(report, server)
+        if led:
+            print(f"clients of {', '.join(led)} wait meanwhile: {server} leads; 'smplan-tools demote' makes others lead first")
         return 0
     print(f"{answers[0]}: {reason(document, server, answers[0], report)}")
     return 1

@@ -17,6 +17,7 @@ from .model import CALLS, Document, Json, Spot, plan_of
 from .placement import Finding, Placement, opening_findings
 from .story import Change, Story
 from .verdict import holding_findings, plan_findings
+from .width import most_at_once
 from .words import counted, in_words, label, rights_in_words
 
 SIGNS = {"add": "+", "drop": "-", "change": "~"}
@@ -36,8 +37,8 @@ def kind_of(change: Change) -> str:
     return "add" if change.before is None else "drop" if change.after is None else "change"
 
 
-def summary(story: Story) -> List[str]:
-    """Returns what the plan comes to, in a line or two."""
+def summary(story: Story, rate: Optional[int] = None) -> List[str]:
+    """Returns what the plan comes to, in a few lines. `rate` is the load that a copy moves in a second."""
     plan = story.plan
     calls = [it for stream in plan.streams for it in stream.code if it.do in CALLS]
     size = f"{counted(len(plan.streams), 'stream')}, {counted(len(calls), 'call')} to {counted(len({it.server for it in calls}), 'server')}, " \
@@ -46,9 +47,11 @@ def summary(story: Story) -> List[str]:
         return [f"Plan: {size}"]
     kinds = [kind_of(it) for it in story.changes()]
     copied = sum(story.document.shards[it.shard].load for it in story.changes() if it.before is None)
+    at_once = most_at_once(story.plan, story.document)
     return [
         f"Plan: {counted(kinds.count('add'), 'replica')} to add, {kinds.count('drop')} to drop, {kinds.count('change')} to change role; load {copied} to copy",
         f"      {size}",
+        *([f"      {at_once}" + (f", at least {at_once.chain / rate:.0f} s" if rate else "")] if at_once else []),
     ]
 
 
@@ -69,11 +72,11 @@ def replica_lines(story: Story) -> List[str]:
 def server_lines(story: Story) -> List[str]:
     """Returns the load of each server that the plan touches: before, after, and the most under way."""
     loads = story.loads
-    rows = [["server", "region", "room", "load", "after", "most"]]
+    rows = [["server", "region", "room", "load", "after", "most", "primaries"]]
     for name in story.servers_touched():
         server = story.before.document.servers[name]
         over = "  above its room" if max(it[name] for it in loads) > server.room else ""
-        rows.append([name, server.region, str(server.room), str(loads[0][name]), str(loads[-1][name]), str(max(it[name] for it in loads)) + over])
+        rows.append([name, server.region, str(server.room), str(loads[0][name]), str(loads[-1][name]), str(max(it[name] for it in loads)), story.led(name) + over])
     return table(rows, right=(2, 3, 4, 5))
 
 
@@ -95,9 +98,9 @@ def stream_lines(story: Story, number: int) -> List[str]:
     return lines
 
 
-def text_of(story: Story) -> str:
+def text_of(story: Story, rate: Optional[int] = None) -> str:
     """Returns a plan for people."""
-    lines = summary(story)
+    lines = summary(story, rate)
     if story.document:
         lines += ["", *(replica_lines(story) or ["  no replica moves"]), "", *server_lines(story)]
     for number in range(len(story.plan.streams)):
@@ -105,19 +108,24 @@ def text_of(story: Story) -> str:
     return "\n".join(lines)
 
 
-def placement_text(document: Document) -> str:
-    """Returns the placement of a document without a plan."""
+def room_lines(document: Document) -> List[str]:
+    """Returns the load and the free room of each server of a document without a plan."""
     placement = Placement(document)
     rows = [["server", "region", "room", "load", "free", ""]]
     for name, server in document.servers.items():
         numbers = placement.numbers(name)
         rows.append([name, server.region, str(server.room), str(numbers.load), str(numbers.free), "down" if server.down else ""])
-    lines = [f"No plan: {counted(len(document.servers), 'server')}, {counted(len(document.shards), 'shard')}", "", *table(rows, right=(2, 3, 4)), ""]
+    return [f"No plan: {counted(len(document.servers), 'server')}, {counted(len(document.shards), 'shard')}", "", *table(rows, right=(2, 3, 4))]
+
+
+def placement_text(document: Document) -> str:
+    """Returns the placement of a document without a plan."""
+    placement = Placement(document)
     shards = [["shard", "load", "live", "floor", "listed", "replicas"]]
     for name, shard in document.shards.items():
         cells = ", ".join(f"{server} ({state})" for server, state in placement.cells[name].items()) or "none"
         shards.append([name, str(shard.load), str(len(placement.live(name))), str(shard.floor), shard.listed or "none", cells])
-    return "\n".join([*lines, *table(shards, right=(1, 2, 3))])
+    return "\n".join([*room_lines(document), "", *table(shards, right=(1, 2, 3))])
 
 
 # ---- which plans are shown, and what the program says of them
@@ -180,7 +188,7 @@ def pictures_or_none(text: PlanText, given: Optional[str] = None) -> List[Pictur
         return []
 
 
-def texts_of(text: PlanText, pictures: List[Picture]) -> List[str]:
+def texts_of(text: PlanText, pictures: List[Picture], rate: Optional[int] = None) -> List[str]:
     """Returns what is printed of each plan, or of a document without one."""
     if not pictures and text.document:
         return [placement_text(text.document)]
@@ -188,7 +196,19 @@ def texts_of(text: PlanText, pictures: List[Picture]) -> List[str]:
     for number, picture in enumerate(pictures):
         head = f"== plan {number} of {len(pictures)} ==\n" if len(pictures) > 1 else ""
         said = f"\n\nsmplan check: {picture.verdict}" if picture.verdict else ""
-        found.append(f"{head}{text_of(picture.story)}{said}")
+        found.append(f"{head}{text_of(picture.story, rate)}{said}")
+    return found
+
+
+def summaries_of(text: PlanText, pictures: List[Picture], rate: Optional[int] = None) -> List[str]:
+    """Returns what each plan comes to, without its replicas and steps; of a document without one the servers' loads."""
+    if not pictures and text.document:
+        return ["\n".join(room_lines(text.document))]
+    found = []
+    for it in pictures:
+        loads = ["", *server_lines(it.story)] if it.story.document else []
+        said = ["", f"smplan check: {it.verdict}"] if it.verdict else []
+        found.append("\n".join([*summary(it.story, rate), *loads, *said]))
     return found
 
 
@@ -242,9 +262,16 @@ def show(arguments: argparse.Namespace) -> int:
             raise Failure("the document has no plan", 1)
         print("\n".join(mermaid.chart(it.story) for it in pictures))
         return 0
-    shown = "\n\n".join(texts_of(text, pictures))
+    shown = "\n\n".join((summaries_of if arguments.summary else texts_of)(text, pictures, arguments.rate))
     print(painted(shown) if sys.stdout.isatty() and "NO_COLOR" not in os.environ else shown)
     return 0
+
+
+def rate_of(text: str) -> int:
+    """How a rate is read."""
+    if not text.isascii() or not text.isdigit() or int(text) == 0:
+        raise argparse.ArgumentTypeError(f"{text} is no whole number above 0")
+    return int(text)
 
 
 def add_parser(subparsers: Any) -> None:
@@ -258,7 +285,9 @@ def add_parser(subparsers: Any) -> None:
     )
     program.add_option(parser)
     parser.add_argument("document", nargs="?", default="-", metavar="DOCUMENT", help="a document, or a plan by itself (standard input)")
+    parser.add_argument("--summary", action="store_true", help="print what the plan comes to, and the servers' loads, without each replica and step")
     parser.add_argument("--mermaid", action="store_true", help="print a Mermaid chart")
     parser.add_argument("--html", metavar="FILE", help="write a page that needs no network")
+    parser.add_argument("--rate", type=rate_of, metavar="N", help="load that a copy moves in a second, for the least time that the copies take")
     parser.add_argument("--title", metavar="TEXT", help="the heading of the page (the document's name)")
     parser.set_defaults(run=show)

@@ -91,6 +91,11 @@ class Story:
         order = list(self.document.servers) if self.document else sorted(named)
         return [name for name in order if name in named]
 
+    def led(self, server: str) -> str:
+        """Returns how many shards a server leads, before and after if that changes."""
+        counts = [list(it.replicas[server].values()).count("primary") for it in (self.before, self.after)]
+        return " -> ".join(map(str, dict.fromkeys(counts)))
+
     def shards_touched(self) -> List[str]:
         named = {it.shard for stream in self.plan.streams for it in stream.code if it.shard}
         order = list(self.document.shards) if self.document else sorted(named)

@@ -73,7 +73,7 @@ class ControlTest(unittest.IsolatedAsyncioTestCase):
         return controller
 
     async def until_idle(self, controller):
-        async with asyncio.timeout(5):
+        async with asyncio.timeout(60):
             while controller.outgoing:
                 await asyncio.sleep(0.005)
 

@@ -186,13 +186,13 @@ class LeaderTest(unittest.TestCase):
                 return Page(b"# HELP smplan_leads whether this controller acts\n# TYPE smplan_leads gauge\nsmplan_leads 0\n", "text/plain")
 
             server = await serve("127.0.0.1", 0, {"GET /metrics": metrics})
-            url = "http://127.0.0.1:%d" % server.sockets[0].getsockname()[1]
+            url = "http://127.0.0.1:%d" % server.port
             with contextlib.redirect_stderr(io.StringIO()) as err:
                 status = await asyncio.to_thread(control_commands.main, ["drain", "a", "--controller", url + "/"])
             server.close()
             return status, err.getvalue().replace(url, "URL")
 
-        self.assertEqual(asyncio.run(told()), (3, "smplan-control: URL: this controller does not lead; ask the next controller\n"))
+        self.assertEqual(asyncio.run(told()), (3, "smplan-control: URL: this controller does not lead\n"))
 
 
 class CommandLineTest(unittest.TestCase):
@@ -226,7 +226,7 @@ class ServeTest(unittest.TestCase):
                 return Page(b"out of order\n", "text/plain", 503)
 
             server = await serve("127.0.0.1", 0, {"POST /do": conflict, "POST /ask": broken})
-            url = "http://127.0.0.1:%d" % server.sockets[0].getsockname()[1]
+            url = "http://127.0.0.1:%d" % server.port
             found = []
             for path in ("/do", "/ask", "/nowhere"):
                 try:
@@ -237,7 +237,7 @@ class ServeTest(unittest.TestCase):
             return found
 
         self.assertEqual(asyncio.run(told()), [
-            ("/do: this controller does not lead; ask the next controller", 3), ("/ask: out of order", 3), ("/nowhere: no such page", 3),
+            ("/do: this controller does not lead", 3), ("/ask: out of order", 3), ("/nowhere: no such page", 3),
         ])
 
 

@@ -88,6 +88,13 @@ class AskRestart(unittest.TestCase):
         self.assertEqual((1, "denied 4 ShardCap shard sessions"), self.ask("placement", "oslo-1"))
         self.assertEqual((1, "denied 2 Engaged stream 0"), self.ask("play-restart-beside-a-plan", "oslo-1"))
 
+    def test_shards_that_nobody_serves_meanwhile(self):
+        told = tools("ask-restart", str(example("placement")), "berlin-2").out
+        self.assertIn("clients of orders wait meanwhile: berlin-2 leads; 'smplan-tools demote' makes others lead first", told)
+        demoted = json.loads(tools("demote", str(example("placement")), "berlin-2").out)
+        with written(demoted) as path, written(program("run", demoted)) as report, written(tools("next", path, report).out) as after:
+            self.assertNotIn("wait meanwhile", tools("ask-restart", after, "berlin-2").out)
+
     def test_the_numbers_behind_a_denial(self):
         value = load(example("placement")) | {"log": 1}
         with written(value) as path:

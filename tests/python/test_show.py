@@ -56,6 +56,9 @@ class Text(unittest.TestCase):
     def test_what_a_drain_comes_to(self):
         out = tools("show", str(example("drain-berlin-1"))).out
         self.assertIn("Plan: 2 replicas to add, 2 to drop, 0 to change role; load 70 to copy", out)
+        self.assertIn("      at most 2 copies at once, 2 at a server; load 40 is copied one after the other\n", out)
+        self.assertIn("berlin-1  berlin   100    70      0    70  1 -> 0", out)
+        self.assertIn("load 40 is copied one after the other, at least 10 s\n", tools("show", "--rate", "4", str(example("drain-berlin-1"))).out)
         self.assertIn("berlin-3  berlin   100     0     70    70", out)
         self.assertIn("1  prepare_drop  berlin-1 forwards requests for accounts to berlin-3", out)
         self.assertTrue(out.endswith("smplan check: accepted: calls 6 streams 2\n"))
@@ -165,7 +168,7 @@ class Charts(unittest.TestCase):
 class CommandLine(unittest.TestCase):
     def test_help_names_each_command(self):
         out = tools("--help").out
-        for command in ("show", "explain", "put-plan", "next", "json", "ask-restart", "repair"):
+        for command in ("show", "explain", "put-plan", "next", "json", "ask-restart", "repair", "demote", "drain", "balance", "scale", "reach", "undo"):
             self.assertIn(f"    {command}", out)
             done = tools(command, "--help")
             self.assertEqual((0, True), (done.status, "example: " in done.out), command)

@@ -1,0 +1,126 @@
+"""The journal in etcd: one line a key, and each append one transaction that nobody else's append can come between."""
+from __future__ import annotations
+
+import asyncio
+from collections import Counter
+from dataclasses import dataclass
+from typing import List, Sequence
+
+from .control import StoreLost, StoreRefused
+from .control_etcd import Entry, Etcd, EtcdFault, EtcdRefused, end_of, has_value, is_absent, put
+
+# The bytes of all lines of an append: below the 1.5 MiB that etcd takes in a request, keys included.
+MOST_BYTES = 1 << 20
+
+
+class JournalLost(StoreLost):
+    """Lines that were stored are not there any longer, as after a restore of an etcd from a backup."""
+
+
+@dataclass(frozen=True)
+class Keys:
+    """The keys of one service in etcd."""
+
+    prefix: str = "smplan/"
+
+    @property
+    def journal(self) -> str:
+        """What the keys of all lines begin with."""
+        return f"{self.prefix}journal/"
+
+    @property
+    def leader(self) -> str:
+        """The key under which the leader's name stands."""
+        return f"{self.prefix}leader"
+
+    def line(self, place: int) -> str:
+        """The key of a line, whose places begin at 1."""
+        return f"{self.journal}{place:012d}"
+
+
+class EtcdJournal:
+    """A reader and writer of the journal. `place` is that of the last line which it has handed on, and `last` this line."""
+
+    def __init__(self, etcd: Etcd, leader: str, tries: int = 12, keys: Keys = Keys()) -> None:
+        self.etcd, self.leader, self.tries, self.keys = etcd, leader, tries, keys
+        self.place, self.last = 0, ""
+        self.counts: Counter[str] = Counter()
+
+    async def lines_after(self, may_lag: bool = False) -> List[str]:
+        """Reads the lines behind what was handed on; if it may lag, perhaps without the last ones."""
+        lines: List[str] = []
+        while True:
+            place = self.place + len(lines)
+            found = await self.etcd.range(self.keys.line(place or 1), end_of(self.keys.journal), limit=500, may_lag=may_lag)
+            new = self.behind(found, place, lines[-1] if lines else self.last, may_lag)
+            lines += new
+            if len(found) < 500:
+                return lines
+
+    def behind(self, found: List[Entry], place: int, last: str, may_lag: bool) -> List[str]:
+        """Returns the lines behind a place, of what was read from it on. That line has to be as it was, and there is no gap."""
+        if place and not found and may_lag:
+            return []
+        if place and (not found or (found[0].key, found[0].value) != (self.keys.line(place), last)):
+            raise JournalLost(f"line {place} of the journal is not there any longer, or is another one")
+        new = found[1:] if place else found
+        for at, it in enumerate(new, place + 1):
+            if it.key != self.keys.line(at):
+                raise JournalLost(f"line {at} of the journal is not there, and {it.key} is")
+        return [it.value for it in new]
+
+    def hand_on(self, lines: List[str]) -> List[str]:
+        """Counts lines as handed on."""
+        if lines:
+            self.place, self.last = self.place + len(lines), lines[-1]
+        return lines
+
+    async def read(self, may_lag: bool = False) -> List[str]:
+        """Reads and hands on the lines that are new."""
+        return self.hand_on(await self.lines_after(may_lag))
+
+    async def append(self, lines: Sequence[str]) -> List[str]:
+        """Stores lines behind all others. Returns those of others that came between, then these. If it fails nothing is handed on; if etcd refuses
+        them they are not stored."""
+        ahead: List[str] = []
+        for _ in range(self.tries):
+            refusal = None
+            try:
+                if await self.attempt(ahead, lines):
+                    return self.hand_on([*ahead, *lines])
+            except EtcdRefused as why:
+                refusal = why
+            try:
+                ahead = await self.lines_after()
+            except EtcdFault:
+                continue
+            if lines[0] in ahead:
+                self.counts["appends that went through unanswered"] += 1
+                return self.hand_on(ahead)
+            if refusal:
+                raise StoreRefused(str(refusal))
+            await self.need_leadership()
+        raise StoreLost("the journal is out of reach")
+
+    async def attempt(self, ahead: Sequence[str], lines: Sequence[str]) -> bool:
+        """Tries one transaction; whether it is known to have gone through. The line before has to be there."""
+        place, last = self.place + len(ahead), ahead[-1] if ahead else self.last
+        guards = [is_absent(self.keys.line(place + 1)), has_value(self.keys.leader, self.leader)]
+        guards += [has_value(self.keys.line(place), last)] if place else []
+        try:
+            return await self.etcd.transact(guards, [put(self.keys.line(place + 1 + it), line) for it, line in enumerate(lines)])
+        except EtcdRefused:
+            raise
+        except EtcdFault:
+            self.counts["appends without an answer"] += 1
+            await asyncio.sleep(0.02)
+            return False
+
+    async def need_leadership(self) -> None:
+        """Fails if another one leads."""
+        try:
+            leader = await self.etcd.get(self.keys.leader)
+        except EtcdFault:
+            return
+        if leader is None or leader.value != self.leader:
+            raise StoreLost("another controller leads")

@@ -1,0 +1,197 @@
+"""`reopen`: gives servers up for good, shows what a reopening proposes, and confirms it if whoever sits there agrees."""
+from __future__ import annotations
+
+import argparse
+import json
+import sys
+import time
+from typing import Any, Dict, List, Optional
+
+from .control_document import without_servers
+from .control_drain import at_least
+from .control_leader import Controllers, Line, Refused, add_options, agrees, controllers_of
+from .control_operate import add_json, printed
+from .failure import Failure
+from .files import read_value
+from .reading import did_you_mean
+from .words import counted
+
+CLOSED = ("Nothing is confirmed. Primaries serve on, and shards in a handover wait; nothing moves or restarts until a reopening is confirmed. "
+          "`reopen --go-on` shows this proposal again, `reopen --lost ..` takes its place.")
+
+
+def listed(names: List[str]) -> str:
+    """Names, or none."""
+    return ", ".join(names) or "none"
+
+
+# ---- before it is said
+
+def document_to_open(controllers: Controllers, path: Optional[str], lost: List[str]) -> Line:
+    """Returns the document of the reopening: a file's, or the service's as the controller tells it, without the servers that are given up."""
+    document = read_value(path) if path else controllers.post("/document")
+    names = [it["name"] for it in document["servers"]]
+    recorded = [it["server"] for it in controllers.state().get("servers", [])]
+    for server in lost:
+        if server not in names and server not in recorded:
+            raise Failure(f"no server is named '{server}'{did_you_mean(server, names)}")
+    return without_servers(document, lost)
+
+
+def refuse_living(controllers: Controllers, lost: List[str], wait: float) -> None:
+    """Fails if a server that is to be given up still answers: it would serve beside the one that takes its place."""
+    until = time.monotonic() + wait
+    for server in lost:
+        while controllers.post("/base", {"server": server}).get("answers"):
+            if time.monotonic() >= until:
+                raise Failure(f"{server} still answers, and may still serve: switch it off first. (If it is only to be emptied: drain {server})", 1)
+            controllers.sleep(1.0)
+
+
+def needs(document: Line, lost: List[str], state: Line) -> str:
+    """What the reopening does, in words, before it is said."""
+    running = [it["name"] for it in state.get("plans", []) if it["is"] == "running"]
+    ends = f"It ends {counted(len(running), 'plan')} ({', '.join(running)})." if running else "No plan runs."
+    asked = [it["name"] for it in document["servers"]]
+    given_up = f"Given up for good: {', '.join(lost)}, which must be off and stay off." if lost else "No server is given up."
+    return f"{given_up} Asked what they have: {', '.join(asked)}. {ends} Until it is confirmed nothing moves or restarts."
+
+
+# ---- the proposal
+
+def primary_of(cells: List[Line]) -> Optional[str]:
+    """The server that serves a shard: its primary, or the old owner in a handover."""
+    return next((it["server"] for it in cells if it["state"] in ("primary", "forwarding")), None)
+
+
+def proposal_lines(proposal: Line, before: Dict[str, List[Line]], gone: List[str]) -> List[str]:
+    """Returns a proposal in words: what is lost, what may be incomplete, what is below its floor, who did not answer."""
+    lines, incomplete = [], []
+    for it in proposal["cells"]:
+        old, new = primary_of(before.get(it["shard"], [])), primary_of(it["cells"])
+        cells = ", ".join(f"{cell['server']} {cell['state']}" for cell in it["cells"]) or "nobody has it"
+        lines.append(f"  {it['shard']:<16} {cells}" + (f"  (primary before: {old or 'none'})" if old != new else ""))
+        if old in gone and it["shard"] not in proposal["lost"]:
+            incomplete.append(it["shard"])
+    bare = [it["shard"] for it in proposal["cells"] if it["cells"] and primary_of(it["cells"]) is None]
+    found = ["proposed:", *lines, f"lost, as nobody who is left has all: {listed(proposal['lost'])}"]
+    if incomplete:
+        found.append(f"may lack writes that {' or '.join(gone)} alone had acknowledged: {', '.join(incomplete)}")
+    if bare:
+        found.append(f"without a primary, secondaries alone: {', '.join(bare)}; promote the one that has most writes by a plan")
+    found.append(f"with fewer live replicas than their floor: {listed([floor_text(it) for it in proposal['floors']])}")
+    return [*found, f"down, silent, and left as recorded: {listed(proposal['carried'])}"]
+
+
+def floor_text(told: Any) -> str:
+    """A shard whose floor is lowered."""
+    return " ".join(str(it) for it in told.values()) if isinstance(told, dict) else str(told)
+
+
+def wait_for_proposal(controllers: Controllers, base: int, patience: float) -> Line:
+    """Waits until enough servers have told what they have, and returns the proposal."""
+    until, told_waiting = time.monotonic() + patience, None
+    while True:
+        reopening = controllers.state().get("reopening") or {}
+        if reopening.get("base", base) != base:
+            raise Failure(f"another reopening has taken the place of this one: base {reopening['base']}", 1)
+        if "proposal" in reopening:
+            return reopening["proposal"]
+        waiting = ["the map" if it is None else it for it in reopening.get("waiting", [])]
+        if time.monotonic() >= until:
+            raise Failure(f"{listed(waiting)} did not answer within {patience:g} s. {CLOSED} A server that never answers is lost: name it with --lost", 1)
+        if waiting != told_waiting and waiting:
+            print(f"waits for {', '.join(waiting)}", file=sys.stderr, flush=True)
+            told_waiting = waiting
+        controllers.sleep(0.3)
+
+
+def wait_until_open(controllers: Controllers, patience: float) -> Line:
+    """Waits until everyone has taken what was confirmed, and returns the state."""
+    until = time.monotonic() + patience
+    while True:
+        state = controllers.state()
+        if state.get("is") == "open":
+            return state
+        if time.monotonic() >= until:
+            waiting = ["the map" if it is None else it for it in (state.get("reopening") or {}).get("waiting", [])]
+            raise Failure(f"confirmed, but {listed(waiting)} did not take it within {patience:g} s: see `smplan-control watch`", 1)
+        controllers.sleep(0.3)
+
+
+# ---- the command
+
+def confirm(controllers: Controllers, arguments: argparse.Namespace, base: int, before: Line) -> int:
+    """Shows the proposal, confirms it if that is agreed to, and waits until the service is open."""
+    proposal = wait_for_proposal(controllers, base, arguments.wait)
+    cells = {it["shard"]: it["cells"] for it in before.get("shards", [])}
+    recorded = [it["server"] for it in before.get("servers", [])]
+    gone = [it for it in recorded if it in arguments.lost] if arguments.lost else []
+    text = "\n".join(proposal_lines(proposal, cells, gone))
+    print(text, file=sys.stderr if arguments.json else sys.stdout, flush=True)
+    if proposal["lost"] and arguments.yes and not arguments.accept_loss:
+        raise Failure(f"{', '.join(proposal['lost'])} would be lost: only --accept-loss says yes to that. {CLOSED}", 1)
+    try:
+        is_agreed = agrees("Confirm this?", arguments.yes)
+    except Failure as why:
+        raise Failure(f"{why}. {CLOSED}", 1) from None
+    if not is_agreed:
+        print(CLOSED)
+        return 1
+    reply = controllers.post("/do", {"do": "confirm", "base": base})
+    if "refused" in reply or "bad" in reply:
+        raise Failure(f"{Refused(reply)}. {CLOSED}", 1)
+    state = wait_until_open(controllers, arguments.wait)
+    short = [it["shard"] for it in state["shards"] if it["live"] <= it["floor"]]
+    printed(arguments, {"opened": {"epoch": state["epoch"]}, "proposal": proposal},
+            f"open: epoch {state['epoch']}" + (f"; at their floor: {', '.join(short)}: `smplan-control repair` brings replicas back" if short else ""))
+    return 0
+
+
+def reopen(arguments: argparse.Namespace) -> int:
+    """Runs the command."""
+    controllers = controllers_of(arguments)
+    before = controllers.state()
+    present = before.get("reopening")
+    if arguments.go_on:
+        if present is None:
+            raise Failure("no reopening is under way", 1)
+        return confirm(controllers, arguments, present["base"], before)
+    if not arguments.lost and not arguments.document:
+        raise Failure("name the servers that are lost for good with --lost, or a --document to open")
+    document = document_to_open(controllers, arguments.document, arguments.lost)
+    line = {"do": "reopen", "document": document, "lost": arguments.lost, "why": arguments.why}
+    if arguments.dry_run:
+        printed(arguments, line, f"{needs(document, arguments.lost, before)}\n{json.dumps(document, indent=2)}")
+        return 0
+    refuse_living(controllers, arguments.lost, 0.0)
+    if present is not None:
+        print(f"a reopening is under way (base {present['base']}): this one takes its place", file=sys.stderr)
+    if not agrees(f"{needs(document, arguments.lost, before)} Begin?", arguments.yes):
+        return 1
+    reply = controllers.once("/do", line)
+    if "fence" not in reply:
+        raise Refused(reply)
+    return confirm(controllers, arguments, reply["fence"][0]["base"], before)
+
+
+def add_parser(subparsers: Any) -> None:
+    """Adds the command."""
+    parser = subparsers.add_parser(
+        "reopen", help="gives servers up for good, or opens another document, once its proposal is agreed to",
+        epilog="example: smplan-control reopen --lost b --why 'disk of b'",
+        description="Ends all plans, asks every server but the lost ones what it has, shows what follows, and confirms it if you agree. It refuses to give up a "
+        "server that still answers. Exit status 0: the service is open. 1: refused, not agreed to, or somebody does not answer; the service may be closed to moves "
+        "then, and it says so. 3: no controller leads.",
+    )
+    parser.add_argument("--lost", action="append", default=[], metavar="SERVER", help="a server that is off for good; may be given again")
+    parser.add_argument("--document", metavar="DOCUMENT", help="what to open, with other servers, rooms or shards; without it what the controller has recorded")
+    parser.add_argument("--why", default="reopen", metavar="TEXT", help="kept in the journal")
+    parser.add_argument("--dry-run", action="store_true", help="show the document and who would be lost, and send nothing")
+    parser.add_argument("--go-on", action="store_true", help="show the proposal of the reopening that is under way")
+    parser.add_argument("--yes", action="store_true", help="do not ask")
+    parser.add_argument("--accept-loss", action="store_true", help="with --yes: confirm also if shards are lost")
+    parser.add_argument("--wait", type=at_least(0), default=120.0, metavar="SECONDS", help="wait so long for answers (120)")
+    add_options(parser)
+    add_json(parser)
+    parser.set_defaults(run=reopen)

@@ -1,0 +1,151 @@
+"""`smplan-control run --etcd`: one of several controllers, which follow one journal in etcd; the one that holds the lease leads."""
+from __future__ import annotations
+
+import asyncio
+import json
+import logging
+import secrets
+import ssl
+import time
+from dataclasses import dataclass, replace
+from typing import Optional, Tuple
+
+from .control import Controller, Session, SessionEnded, StoreLost
+from .control_etcd import Etcd, EtcdFault, end_of, members_of
+from .control_etcd_journal import MOST_BYTES, EtcdJournal, JournalLost, Keys
+from .control_etcd_lease import Lease
+from .control_etcd_map import EtcdMap
+from .control_http import serve
+from .control_run import Running, Settings
+
+log = logging.getLogger("smplan.run")
+
+
+@dataclass(frozen=True)
+class EtcdSettings:
+    """Where etcd is, and as whom this controller goes there."""
+
+    urls: Tuple[str, ...]
+    name: str
+    prefix: str = "smplan/"
+    lease: int = 5
+    tls: Optional[ssl.SSLContext] = None
+    user: Optional[Tuple[str, str]] = None
+
+    def client(self, timeout: float = 2.0) -> Etcd:
+        """A client, which asks first whom others ask later."""
+        return Etcd(members_of(self.urls), timeout, sum(map(ord, self.name)), self.tls, self.user)
+
+
+class AmongOthers(Running):
+    """A controller among several: hot, as its session reads the journal all the time."""
+
+    may_follow = True
+
+    def __init__(self, settings: Settings, etcd: EtcdSettings) -> None:
+        super().__init__(settings)
+        self.etcd = etcd
+        # (of this life of the process alone: what an earlier one sends late is not taken for this one's)
+        leader, keys = f"{etcd.name} {secrets.token_hex(8)}", Keys(etcd.prefix)
+        self.journal = EtcdJournal(etcd.client(), leader, keys=keys)
+        self.lease = Lease(etcd.client(), leader, etcd.lease, keys)
+        self.map = EtcdMap(etcd.client(), f"{etcd.prefix}map-base", f"{etcd.prefix}map/")
+        self.fleet.owner = self.map
+        self.mirrored = etcd.client()
+
+    async def run(self) -> int:
+        """Follows and leads until it is told to stop, 0; its session ends, 3; or etcd has lost lines, 6."""
+        session = await Session.start(self.settings.program, is_apart=True)
+        self.controller = Controller(session, self.fleet, self.journal.append, replace(self.settings.pace, batch_bytes=MOST_BYTES))
+        self.listen_to_signals()
+        mirror = asyncio.create_task(self.mirror())
+        try:
+            self.server = await serve(self.settings.host, self.settings.port, self.routes(), self.settings.token, self.settings.tls)
+            log.info("%s follows, listens at %s:%d", self.etcd.name, self.settings.host, self.server.port)
+            while not self.stopping.is_set():
+                await self.follow()
+                if not self.stopping.is_set() and await self.lease.campaign():
+                    await self.lead()
+            log.info("stops")
+            return 0
+        except JournalLost as why:
+            log.error("%s; adopt the service under a new journal (docs/SMPLAND.md, The first line of a journal)", why)
+            return 6
+        except SessionEnded as why:
+            log.error("%s", why)
+            return 3
+        except OSError as why:
+            log.error("%s:%d: %s", self.settings.host, self.settings.port, why.strerror or why)
+            return 3
+        finally:
+            mirror.cancel()
+            await self.end()
+            for it in (self.journal.etcd, self.lease.etcd, self.map.etcd, self.mirrored):
+                await it.close()
+
+    async def follow(self, seconds: float = 0.3) -> None:
+        """Feeds what is new in the journal, and rests for a moment."""
+        assert self.controller is not None
+        try:
+            await self.controller.follow(await self.journal.read(may_lag=True))
+        except EtcdFault as why:
+            log.debug("%s", why)
+        await self.rest_for(seconds)
+
+    async def rest_for(self, seconds: float) -> None:
+        """Rests, but no longer once it is to stop."""
+        try:
+            await asyncio.wait_for(self.stopping.wait(), seconds)
+        except asyncio.TimeoutError:
+            pass
+
+    async def lead(self) -> None:
+        """Leads while the lease lasts."""
+        controller = self.controller
+        assert controller is not None
+        begun, keeping = time.monotonic(), asyncio.create_task(self.lease.keep())
+        why: Optional[BaseException] = None
+        try:
+            await controller.follow(await self.journal.read())
+            await self.adopt_map()
+            await controller.lead()
+            await self.open()
+            log.info("%s leads at place %d", self.etcd.name, self.journal.place)
+            while not self.stopping.is_set() and not keeping.done() and controller.lost is None:
+                await self.rest_for(0.5)
+                await controller.refresh()
+                self.tell_of_messages()
+            why = controller.lost
+        except (EtcdFault, StoreLost, SessionEnded) as fault:
+            why = fault
+        finally:
+            keeping.cancel()
+            await controller.rest()
+            await self.lease.leave()
+            log.info("%s rests after %.0f s: %s", self.etcd.name, time.monotonic() - begun, why or ("it stops" if self.stopping.is_set() else "the lease has ended"))
+        if isinstance(why, (JournalLost, SessionEnded)):
+            raise why
+
+    async def adopt_map(self) -> None:
+        """Gives the map in etcd what a journal was opened by."""
+        assert self.controller is not None
+        state = (await self.controller.ask({"do": "state"}))["state"]
+        if state["is"] == "open":
+            await self.map.adopt(await self.controller.ask({"do": "map"}), state)
+
+    async def mirror(self) -> None:
+        """Shows the map of etcd in this machine's file, and tells the command."""
+        first = self.map.prefix
+        while True:
+            try:
+                found = {it.key[len(first):]: json.loads(it.value) for it in await self.mirrored.range(first, end_of(first))}
+                if found != self.owner.entries or not self.owner.changes:
+                    self.owner.entries = found
+                    await self.owner.show(True)
+                else:
+                    await self.owner.look()
+            except EtcdFault as why:
+                log.debug("%s", why)
+            except Exception:  # (this task has to go on whatever somebody has put into etcd)
+                log.exception("the map of etcd is not shown")
+            await asyncio.sleep(0.3)

@@ -1,0 +1,264 @@
+"""Campaigns over the model of smpland, whose orders are answered at once whenever a campaign rests."""
+import json
+import subprocess
+import sys
+import tempfile
+import unittest
+
+from fixtures import ROOT, example, load
+from smplan.control_campaign import Campaign, document_of_state, fleet_of_state
+from smplan.control_leader import Refused
+from smplan.control_rolling import Rolling, in_turn, placement_before
+from smplan.failure import Failure
+from smplan.fleet import Fleet
+from smplan.model import document_of
+from smplan.planning import servers_in, wanted_as_in
+from smplan.reach import Limits
+from smplan.targets import demote, drain, scale
+
+MODEL = [sys.executable, str(ROOT / "tools" / "smpland_model.py"), "-"]
+
+
+class Service:
+    """A session, and servers that do at once what they are told whenever somebody waits."""
+
+    def __init__(self, document):
+        self.process = subprocess.Popen(MODEL, stdin=subprocess.PIPE, stdout=subprocess.PIPE)
+        self.is_slow, self.rests, self.begun = False, [], []
+        self.do({"do": "open", "document": document, "journal": "9f2c", "epoch": 0})
+
+    def ask(self, line):
+        self.process.stdin.write(json.dumps(line).encode() + b"\n")
+        self.process.stdin.flush()
+        return json.loads(self.process.stdout.readline())
+
+    def do(self, line):
+        reply = self.ask(line)
+        if "refused" in reply or "bad" in reply:
+            raise Refused(reply)
+        self.begun += [line["name"]] if line["do"] == "begin" else []
+        return reply
+
+    def state(self):
+        return self.ask({"do": "state"})["state"]
+
+    def sleep(self, seconds):
+        self.rests.append(seconds)
+        for order in [] if self.is_slow else self.ask({"do": "orders"})["orders"]:
+            self.ask({"do": "answered", **{it: order[it] for it in ("plan", "stream", "number")}})
+
+    def post(self, path, line=None):
+        """Ends a restart, whose server is up at once. (The model takes the base of the last order.)"""
+        assert path == "/restarted", path
+        return self.ask({"do": "restarted", "base": 0, **line})
+
+    def close(self):
+        self.process.stdin.close()
+        self.process.stdout.close()
+        self.process.wait()
+
+
+def cells_of(state):
+    return {it["shard"]: sorted((cell["server"], cell["state"]) for cell in it["cells"]) for it in state["shards"]}
+
+
+def fleet_document(count=6):
+    """Six servers in three regions, and shards of three replicas."""
+    servers = [{"name": f"v{it}", "region": f"r{it % 3}", "room": 100} for it in range(6)]
+    shards = []
+    for number in range(count):
+        holders = [f"v{(number + it) % 6}" for it in range(3)]
+        cells = [{"server": it, "state": "secondary" if at else "primary"} for at, it in enumerate(holders)]
+        shards.append({"name": f"s{number}", "load": 10, "want": 3, "cap": 1, "spread": 3, "listed": holders[0], "cells": cells})
+    return {"limit": 1, "servers": servers, "shards": shards}
+
+
+class Campaigns(unittest.TestCase):
+    def service(self, document):
+        service = Service(document)
+        self.addCleanup(service.close)
+        return service
+
+    def campaign(self, service, choice, **more):
+        self.told = []
+        limits = Limits(streams=32, at_server=2, blocks=more.pop("blocks", 64))
+        return Campaign(service, "test", choice, limits, tell=self.told.append, **more)
+
+    def test_servers_are_drained_and_all_is_taken_back(self):
+        document = fleet_document()
+        service = self.service(document)
+        before = cells_of(service.state())
+        self.assertEqual(0, self.campaign(service, lambda fleet: drain(fleet, servers_in(fleet, ["v0", "v1"])), known=document).run(), self.told)
+        after = cells_of(service.state())
+        self.assertFalse([it for cells in after.values() for it in cells if it[0] in ("v0", "v1")])
+        self.assertEqual(2, len(service.begun))  # (a plan copies 1 % of the load, or four shards)
+        self.assertIn("6 replicas to copy, load 60, 33.33 % of all", self.told[0])
+        self.assertEqual(0, self.campaign(service, lambda fleet: wanted_as_in(fleet, Fleet(document_of(document)))).run(), self.told)
+        self.assertEqual(before, cells_of(service.state()))
+
+    def test_half_a_campaign_is_taken_back(self):
+        document = fleet_document()
+        service = self.service(document)
+        before = cells_of(service.state())
+        campaign = self.campaign(service, lambda fleet: drain(fleet, {0, 1}), pause=7.0)
+        sleep = service.sleep
+
+        def stopping(seconds):
+            campaign.is_stopped = campaign.is_stopped or seconds == 7.0
+            sleep(seconds)
+        service.sleep = stopping
+        self.assertEqual(1, campaign.run())
+        self.assertEqual((1, "stopped after 1 plan"), (len(service.begun), self.told[-1]))
+        service.sleep = sleep
+        self.assertNotEqual(before, cells_of(service.state()))
+        self.assertEqual(0, self.campaign(service, lambda fleet: wanted_as_in(fleet, Fleet(document_of(document)))).run(), self.told)
+        self.assertEqual(before, cells_of(service.state()))
+
+    def test_leaders_leave_without_a_copy(self):
+        service = self.service(fleet_document())
+        self.assertEqual(0, self.campaign(service, lambda fleet: demote(fleet, {0, 3})).run())
+        self.assertFalse([it for cells in cells_of(service.state()).values() for it in cells if it in (("v0", "primary"), ("v3", "primary"))])
+        self.assertEqual(1, len(service.begun))
+        self.assertIn("0 replicas to copy", self.told[0])
+        self.assertIn("the primary of s0, s3 changes by two roles", self.told[1])
+
+    def test_shards_of_running_plans_wait(self):
+        service = self.service(fleet_document(3))
+        fleet = fleet_of_state(service.state(), None)
+        wanted = demote(fleet, {0})
+        other = self.campaign(service, lambda _: wanted)
+        other.choose(True)
+        leg = next(other.reach(fleet, set()).legs())
+        service.do({"do": "begin", "plan": leg.streams.plan(), "name": "other"})
+        service.is_slow = True
+        waits = []
+
+        def waiting(seconds):
+            waits.append(seconds)
+            service.is_slow = len(waits) < 3
+            Service.sleep(service, seconds)
+        service.sleep = waiting
+        self.assertEqual(0, self.campaign(service, lambda it: drain(it, {0, 1})).run(), self.told)
+        self.assertFalse([it for cells in cells_of(service.state()).values() for it in cells if it[0] in ("v0", "v1")])
+
+    def test_what_others_move_meanwhile_is_not_moved_back(self):
+        service = self.service(fleet_document())
+        campaign = self.campaign(service, lambda fleet: demote(fleet, {0}))
+        other = self.campaign(service, lambda fleet: drain(fleet, {1}))
+        whole, chosen = campaign.choose, []
+
+        def choose(is_first):
+            whole(is_first)
+            if not chosen:
+                chosen.append(dict(campaign.wishes))
+                self.assertEqual(0, other.run())
+        campaign.choose = choose
+        self.assertEqual(0, campaign.run(), self.told)
+        cells = cells_of(service.state())
+        self.assertFalse([it for row in cells.values() for it in row if it == ("v0", "primary") or it[0] == "v1"], cells)
+        self.assertEqual(["s0"], list(chosen[0]))
+
+    def test_what_is_left_is_told(self):
+        service = self.service(load(example("placement")))
+        self.assertEqual(1, self.campaign(service, lambda fleet: demote(fleet, {2})).run())
+        self.assertIn("left: sessions keeps its primary at oslo-1: it has no other replica", self.told)
+        self.assertEqual(1, self.campaign(service, lambda fleet: scale(fleet, {fleet.shard_of["orders"]: 3})).run())
+        self.assertEqual([], service.begun)
+
+    def test_a_reopening_ends_it(self):
+        document = fleet_document()
+        service = self.service(document)
+
+        def reopening(_):
+            if not service.rests:
+                service.rests.append(0)
+                service.do({"do": "reopen", "document": document, "lost": [], "why": "test"})
+        service.sleep = reopening
+        self.assertEqual(1, self.campaign(service, lambda fleet: drain(fleet, {0}), patience=1.0).run())
+        self.assertIn("a reopening has broken the plan off", self.told)
+        with self.assertRaisesRegex(Failure, "a reopening is under way"):
+            self.campaign(service, lambda fleet: drain(fleet, {0}), patience=1.0).run()
+
+    def test_patience_ends_it(self):
+        service = self.service(fleet_document())
+        service.is_slow = True
+        self.assertEqual(1, self.campaign(service, lambda fleet: drain(fleet, {0}), patience=0.0).run())
+        self.assertTrue(any("the plan takes longer than 0 s" in it for it in self.told), self.told)
+
+
+class Rollings(unittest.TestCase):
+    def service(self, document):
+        service = Service(document)
+        self.addCleanup(service.close)
+        return service
+
+    def rolling(self, service, command, **more):
+        found = Rolling(service, command, "r7", None, **more)
+        self.told = []
+        found.tell = self.told.append
+        return found
+
+    def test_each_server_goes_down_once_it_leads_nothing(self):
+        service, led = self.service(fleet_document()), []
+        before = cells_of(service.state())
+        whole = service.do
+
+        def do(line):
+            if line["do"] == "approve":
+                led.append([name for name, cells in cells_of(service.state()).items() if (line["server"], "primary") in cells])
+            return whole(line)
+        service.do = do
+        fleet = fleet_of_state(service.state(), None)
+        servers = in_turn(fleet, set(range(6)))
+        self.assertEqual(["v0", "v3", "v1", "v4", "v2", "v5"], servers)
+        self.assertEqual(0, self.rolling(service, ["true", "{}"]).run(servers, fleet), self.told)
+        self.assertEqual([[]] * 6, led)
+        self.assertEqual(before, cells_of(service.state()))
+        self.assertIn("v5 is up: 6 of 6 servers", self.told)
+
+    def test_it_goes_on_where_it_stopped(self):
+        service = self.service(fleet_document())
+        fleet = fleet_of_state(service.state(), None)
+        before = cells_of(service.state())
+        with self.assertRaisesRegex(Failure, "the command ended with 1; v0 keeps permit"):
+            self.rolling(service, ["false"]).run(["v0", "v1"], fleet)
+        self.assertEqual(0, self.rolling(service, ["true"]).run(["v0", "v1"], fleet))
+        self.assertEqual(before, cells_of(service.state()))
+        self.assertEqual(0, self.rolling(service, ["false"]).run(["v0", "v1"], fleet))  # (both have been restarted)
+
+    def test_a_server_that_still_leads_is_let_alone(self):
+        service = self.service(load(example("placement")))
+        fleet = fleet_of_state(service.state(), None)
+        with self.assertRaisesRegex(Failure, "oslo-1 leads sessions: nobody would serve them; --go-on"):
+            self.rolling(service, ["true"]).run(["oslo-1"], fleet)
+
+    def test_the_placement_of_before_is_kept(self):
+        service = self.service(fleet_document())
+        with tempfile.TemporaryDirectory() as folder:
+            first = placement_before(f"{folder}/was.json", service.state(), None)
+            self.assertEqual(0, Campaign(service, "demote", lambda fleet: demote(fleet, {0}), Limits(), tell=lambda _: None).run())
+            self.assertEqual(first.cells, placement_before(f"{folder}/was.json", service.state(), None).cells)
+
+
+class Recorded(unittest.TestCase):
+    def test_without_a_document_shards_keep_as_many_regions_as_now(self):
+        service = Service(load(example("placement")))
+        self.addCleanup(service.close)
+        value = document_of_state(service.state(), None)
+        self.assertEqual([(2, 1, 2), (2, 1, 1), (1, 0, 1)], [(it["want"], it["cap"], it["spread"]) for it in value["shards"]])
+        known = load(example("placement"))
+        self.assertEqual([it["cells"] for it in known["shards"]], [it["cells"] for it in document_of_state(service.state(), known)["shards"]])
+
+    def test_room_that_plans_hold_is_not_there(self):
+        state = {
+            "limit": 1, "log": {"places": 100, "free": 60}, "plans": [],
+            "servers": [{"server": "a", "region": "r", "room": 10, "load": 4, "held": 3, "permit": None}, {"server": "b", "region": "r", "room": 10, "load": 4, "held": 0, "permit": 7}],
+            "shards": [{"shard": "s", "load": 4, "live": 1, "floor": 1, "listed": "a",
+                        "cells": [{"server": "a", "state": "forwarding", "other": "b", "number": 1}, {"server": "b", "state": "prepared", "other": "a", "number": 1}]}],
+        }
+        fleet = fleet_of_state(state, None)
+        self.assertEqual(([3, 6], [False, True], 60), ([fleet.free(it) for it in range(2)], fleet.is_down, fleet.document.log))
+
+
+if __name__ == "__main__":
+    unittest.main()

@@ -1,0 +1,274 @@
+"""Controllers over an etcd that misbehaves: whatever it answers is told as a fault that they know; and one of several controllers, by smplan-control run."""
+import asyncio
+import json
+import logging
+import os
+import pathlib
+import signal
+import sys
+import tempfile
+import unittest
+
+ROOT = pathlib.Path(__file__).resolve().parents[2]
+sys.path[:0] = [str(ROOT), str(ROOT / "tests/cluster")]
+from cluster.controllers.etcd import Etcd, EtcdFault  # noqa: E402  (the path comes first)
+from cluster.controllers.journal import LEADER, EtcdJournal, JournalLost, key_of  # noqa: E402
+from cluster.controllers.member import Member, Settings  # noqa: E402
+from cluster.wire import Cluster  # noqa: E402
+from smplan.control import Pace, StoreRefused  # noqa: E402
+from smplan.control_etcd_journal import Keys  # noqa: E402
+from smplan.control_etcd_map import EtcdMap  # noqa: E402
+from smplan.control_run import Settings as RunSettings  # noqa: E402
+from smplan.control_run_etcd import AmongOthers, EtcdSettings  # noqa: E402
+from test_controllers import FakeEtcd  # noqa: E402
+
+# (asyncio tells in its debug mode of each step that a busy machine made slow)
+logging.getLogger("asyncio").setLevel(logging.ERROR)
+
+
+def page(text, status="200 OK"):
+    """An answer over HTTP."""
+    return f"HTTP/1.1 {status}\r\nContent-Length: {len(text)}\r\n\r\n{text}".encode()
+
+
+class OddEtcd(unittest.IsolatedAsyncioTestCase):
+    """A client of an etcd whose answers are written here."""
+
+    async def client(self, *answers):
+        """Answers come in turn, the last one again and again. `asked` has the paths."""
+        self.asked, self.tokens = [], []
+
+        async def serve(reader, writer):
+            try:
+                while head := await reader.readuntil(b"\r\n\r\n"):
+                    await reader.readexactly(int(head.lower().split(b"content-length:")[1].split()[0]))
+                    self.asked.append(head.split()[1].decode())
+                    self.tokens.append(head.split(b"Authorization: ")[1].split()[0].decode() if b"Authorization: " in head else "")
+                    writer.write(answers[min(len(self.asked), len(answers)) - 1])
+            except EOFError:
+                writer.close()
+
+        server = await asyncio.start_server(serve, "127.0.0.1", 0)
+        etcd = Etcd([server.sockets[0].getsockname()[:2]])
+
+        async def close():
+            await etcd.close()
+            server.close()
+            await asyncio.sleep(0.01)
+
+        self.addAsyncCleanup(close)
+        return etcd
+
+    async def test_what_is_no_answer_is_a_fault(self):
+        pages = [page("<html>502 Bad Gateway</html>", "502 Bad Gateway"), page("[]"), page("[" * 100_000), b"HTTP/1.1\r\n\r\n",
+                 b"HTTP/1.1 200 OK\r\nField: " + b"x" * 100_000 + b"\r\n\r\n", page("\xff")]
+        for answer in pages:
+            etcd = await self.client(answer)
+            with self.subTest(answer=answer[:60]), self.assertRaises(EtcdFault):
+                await etcd.transact([], [])
+
+    async def test_answers_without_their_members_are_faults(self):
+        for text in ('{"kvs":[{}]}', '{"kvs":[{"key":"x","version":"1","mod_revision":"1"}]}', '{"kvs":7}', '{"result":[]}'):
+            etcd = await self.client(page(text))
+            for asked in (lambda it: it.get("k"), lambda it: it.changes("a", "b", 0), lambda it: it.grant(2), lambda it: it.keep_alive("7")):
+                try:
+                    await asked(etcd)
+                except EtcdFault:
+                    pass
+
+    async def test_a_token_that_has_ended_is_asked_for_anew(self):
+        etcd = await self.client(
+            page('{"token":"t1"}'), page('{"succeeded":true}'), page('{"message":"etcdserver: invalid auth token","code":16}', "401 Unauthorized"),
+            page('{"token":"t2"}'), page('{"succeeded":true}'))
+        etcd.user = "k0", "secret"
+        self.assertTrue(await etcd.transact([], []))
+        with self.assertRaises(EtcdFault):
+            await etcd.transact([], [])
+        self.assertTrue(await etcd.transact([], []))
+        self.assertEqual(self.tokens, ["", "t1", "t1", "", "t2"])
+        self.assertEqual([it.rsplit("/", 1)[1] for it in self.asked], ["authenticate", "txn", "txn", "authenticate", "txn"])
+
+    async def test_a_line_that_etcd_refuses_for_good_is_tried_once(self):
+        refusals = [
+            '{"error":"etcdserver: request is too large","message":"etcdserver: request is too large","code":3}',
+            '{"message":"grpc: received message larger than max (2800000 vs. 2097152)","code":8}',
+        ]
+        for refusal in refusals:
+            etcd = await self.client(page(refusal, "400 Bad Request"), page("{}"))
+            with self.subTest(refusal=refusal), self.assertRaises(StoreRefused):
+                await EtcdJournal(etcd, "k0").append(["a"])
+            self.assertEqual(self.asked, ["/v3/kv/txn", "/v3/kv/range"])
+
+
+# A session that proposes what it is told to, until this is confirmed.
+PROPOSER = """
+import json, sys
+for line in sys.stdin:
+    told = json.loads(line)
+    print(json.dumps({"proposal": told.get("proposal")} if told["do"] in ("fenced", "confirm") else {"state": {}}), flush=True)
+"""
+
+
+class LeasingEtcd(FakeEtcd):
+    """An etcd in memory, whose keys under a lease are deleted with it."""
+
+    async def revoke(self, lease):
+        await super().revoke(lease)
+        for it in (LEADER, "x/leader"):
+            self.keys.pop(it, None)
+
+    async def close(self):
+        """Has no connections."""
+
+
+class LostLinesTest(unittest.IsolatedAsyncioTestCase):
+    """An etcd that was restored from a backup: lines that were stored are gone, or are others."""
+
+    async def journals(self):
+        etcd = FakeEtcd()
+        etcd.put(LEADER, "k0")
+        writer, reader = EtcdJournal(etcd, "k0"), EtcdJournal(etcd, "k1")
+        await writer.append(["a", "b", "c"])
+        self.assertEqual(await reader.read(may_lag=True), ["a", "b", "c"])
+        return etcd, writer, reader
+
+    async def test_nothing_is_written_behind_lines_that_are_gone(self):
+        etcd, writer, reader = await self.journals()
+        del etcd.keys[key_of(3)]
+        with self.assertRaisesRegex(JournalLost, "line 3 of the journal is not there any longer"):
+            await writer.append(["d"])
+        self.assertNotIn(key_of(4), etcd.keys)
+        self.assertEqual(await reader.read(may_lag=True), [])
+        with self.assertRaises(JournalLost):
+            await reader.read()
+
+    async def test_another_line_in_its_place(self):
+        etcd, writer, reader = await self.journals()
+        etcd.put(key_of(3), "x")
+        for doing in (writer.append(["d"]), reader.read(), reader.read(may_lag=True)):
+            with self.assertRaisesRegex(JournalLost, "or is another one"):
+                await doing
+
+    async def test_a_gap(self):
+        etcd, _, reader = await self.journals()
+        etcd.put(key_of(5), "e")
+        for fresh in (reader, EtcdJournal(etcd, "k2")):
+            with self.assertRaisesRegex(JournalLost, "line 4 of the journal is not there"):
+                await fresh.read(may_lag=True)
+
+    async def test_services_side_by_side(self):
+        etcd = FakeEtcd()
+        journals = []
+        for prefix in ("x/", "y/"):
+            etcd.put(f"{prefix}leader", "k0")
+            journals.append(EtcdJournal(etcd, "k0", keys=Keys(prefix)))
+        for it in journals:
+            await it.append([it.keys.prefix])
+        self.assertEqual([await EtcdJournal(etcd, "k1", keys=it.keys).read() for it in journals], [["x/"], ["y/"]])
+
+
+class EtcdMapTest(unittest.IsolatedAsyncioTestCase):
+    """What a journal was opened by is shown once."""
+
+    async def test_adopted_once(self):
+        etcd = FakeEtcd()
+        owner, state = EtcdMap(etcd), {"journal": "9f2c", "fence": 0, "is": "open"}
+        await owner.adopt({"map": [{"shard": "s", "to": "a", "version": 0}]}, state)
+        publication = {"journal": "9f2c", "fence": 0, "shard": "s", "to": "b", "version": 1}
+        self.assertEqual([await owner.publish(publication) for _ in range(2)], ["done"] * 2)
+        await owner.adopt({"map": [{"shard": "s", "to": "a", "version": 0}]}, state)
+        self.assertEqual(json.loads(etcd.keys["smplan/map/s"].value), {"to": "b", "version": 1})
+
+
+class MemberTest(unittest.IsolatedAsyncioTestCase):
+    """A controller process over an etcd in memory."""
+
+    async def asyncSetUp(self):
+        self.etcd, self.log = LeasingEtcd(), []
+        settings = Settings("k0", (sys.executable, "-c", PROPOSER), Cluster(etcd=("http://localhost:1",)), follow=0.01, pace=Pace(), confirm=True, log=self.log.append)
+        self.member = Member(settings)
+        self.member.journal.etcd = self.member.lease.etcd = self.member.owner.etcd = self.etcd
+        await self.member.start()
+        self.running = asyncio.create_task(self.member.run())
+        self.addAsyncCleanup(self.end)
+        await self.until(lambda: self.log)
+
+    async def end(self):
+        self.running.cancel()
+        await asyncio.wait([self.running])
+
+    async def until(self, condition):
+        async with asyncio.timeout(60):
+            while not condition():
+                await asyncio.sleep(0.01)
+
+    def stored(self):
+        return [it.value for key, it in sorted(self.etcd.keys.items()) if key != LEADER]
+
+    async def test_sigterm_gives_the_lease_back(self):
+        self.assertEqual((self.etcd.keys[LEADER].value, len(self.etcd.leases)), ("k0", 1))
+        os.kill(os.getpid(), signal.SIGTERM)
+        async with asyncio.timeout(60):
+            await self.running
+        self.assertEqual((LEADER in self.etcd.keys, self.etcd.leases), (False, set()))
+        self.assertIsNotNone(self.member.controller.session.process.returncode)
+
+    async def test_a_proposal_with_lost_shards_is_left_to_the_operator(self):
+        for base, lost in ((100, ["s", "t"]), (200, [])):
+            await self.member.command({"do": "fenced", "proposal": {"base": base, "lost": lost}})
+            await asyncio.sleep(1.2)
+        self.assertEqual(sum('"do":"confirm","base":200' in it for it in self.stored()), 1)
+        self.assertEqual(sum('"do":"confirm"' in it for it in self.stored()), 1)
+        self.assertEqual([it for it in self.log if it.startswith("leaves")], ["leaves the proposal of base 100 to an operator: shards that nobody has whole: s, t"])
+
+
+class AmongOthersTest(unittest.IsolatedAsyncioTestCase):
+    """`smplan-control run --etcd`, over an etcd in memory."""
+
+    def controller(self, etcd, name, folder):
+        at = pathlib.Path(folder) / name
+        at.mkdir()
+        (at / "fleet.json").write_text(json.dumps({"servers": {"a": {"number": 1, "url": "http://127.0.0.1:1"}}, "map": {"file": f"{at}/map.json"}}))
+        document = {"limit": 1, "servers": [{"name": "a", "region": "r", "room": 9}],
+                    "shards": [{"name": "s", "load": 1, "want": 1, "cap": 0, "spread": 1, "listed": "a", "cells": [{"server": "a", "state": "primary"}]}]}
+        settings = RunSettings(f"{at}/fleet.json", (sys.executable, f"{ROOT}/tools/smpland_model.py", "-"), "127.0.0.1", 0, document)
+        found = AmongOthers(settings, EtcdSettings(("http://localhost:1",), name, "x/", 2))
+        found.journal.etcd = found.lease.etcd = found.map.etcd = found.mirrored = etcd
+        found.listen_to_signals = lambda: None
+        return found
+
+    async def until(self, condition, seconds=30):
+        async with asyncio.timeout(seconds):
+            while not condition():
+                await asyncio.sleep(0.05)
+
+    async def test_the_next_one_leads_at_once_and_shows_the_map(self):
+        logging.getLogger("smplan.run").setLevel(logging.CRITICAL)
+        etcd = LeasingEtcd()
+        with tempfile.TemporaryDirectory() as folder:
+            both = [self.controller(etcd, it, folder) for it in ("k0", "k1")]
+            tasks = [asyncio.create_task(it.run()) for it in both]
+            for it in both:
+                self.addCleanup(it.stopping.set)
+            await self.until(lambda: any(it.controller and it.controller.leads and it.owner.entries for it in both))
+            first = next(it for it in both if it.controller.leads)
+            second = next(it for it in both if it is not first)
+            for it in both:
+                await self.until(lambda it=it: (it.owner.read() or {}).get("entries") == {"s": {"to": "a", "version": 0}})
+            first.stopping.set()
+            self.assertEqual(await tasks[both.index(first)], 0)
+            await self.until(lambda: second.controller.leads)
+            self.assertEqual(json.loads((await second.health(b"")).body)["leads"], True)
+            del etcd.keys["x/journal/000000000001"]
+            async with asyncio.timeout(30):
+                while True:
+                    try:
+                        await second.controller.do({"do": "new_epoch"})
+                    except Exception as why:
+                        self.assertIsInstance(why, JournalLost)
+                        break
+            self.assertEqual(await asyncio.wait_for(tasks[both.index(second)], 30), 6)
+
+
+if __name__ == "__main__":
+    unittest.main()
