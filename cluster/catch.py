@@ -3,20 +3,18 @@ from __future__ import annotations
 
 import argparse
 import asyncio
-import os
 import shutil
 import sys
-import tempfile
 import time
-from pathlib import Path
 
 from cluster.controllers.bugs import BUGS as CONTROLLER_BUGS
+from cluster.faults.parts import storm_of
 from cluster.faults.reopenings import NotOpened
 from cluster.launch.cluster import ROUGH, program_of
+from cluster.launch.directory import add_directory, new_directory
 from cluster.launch.operator import NoLeader
 from cluster.launch.processes import NotReady
-from cluster.launch.shape import Shape
-from cluster.run import Run, Settings, add_load, add_session
+from cluster.run import Run, Settings, add_load, add_session, shape_of
 from cluster.servers.bugs import BUGS as SERVER_BUGS
 from cluster.wire import Failed
 
@@ -38,6 +36,9 @@ PARTS_OF = {
     "commit-after-fence": REOPENINGS,
     "settle-twice": REOPENINGS,
     "cut-unheeded": tuple((share, "break_following") for share in OFTEN),
+    "acknowledge-alone": ((0.1, "lose_lagging"), (0.5, "lose_lagging")),
+    "impatient": ((0.1, "lose_lagging"), (0.5, "lose_lagging")),
+    "heed-nothing": ((0.1, "reopen_while_down"), (0.4, "reopen_while_down"), (0.7, "reopen_while_down")),
 }
 # How many of the moves are changes of roles, if not as many as otherwise.
 SWAPS_OF = {"change-while-writing": 0.9, "no-numbers": 0.5}
@@ -45,15 +46,15 @@ SWAPS_OF = {"change-while-writing": 0.9, "no-numbers": 0.5}
 MANY_COPIES = {**ROUGH, "order": {**ROUGH["order"], "repeat": 0.5}}
 # Nobody is asked twice unless a reply is lost.
 MANY_LOSSES = {**ROUGH, "client": {**ROUGH["client"], "drop": 0.02}}
-RATES_OF = {"no-numbers": MANY_COPIES, "slot-deleted": MANY_COPIES, "no-identities": MANY_LOSSES}
+RATES_OF = {"no-numbers": MANY_COPIES, "slot-deleted": MANY_COPIES, "no-identities": MANY_LOSSES, "copy-without-identities": MANY_LOSSES}
 # How many plans there are at once, if not as many as otherwise. (then there are shards that the parts can hand over)
 WORKERS_OF = {"fence-while-passed": 1, "cut-unheeded": 1, "commit-after-fence": 4, "settle-twice": 2}
 # How many moves a plan has at most, if not as many as otherwise. (a plan of many stands still where one of its servers hears no order, and then no order is at work)
 MOVES_OF = {"commit-after-fence": 1}
 
 
-# The words for a run that gave no verdict.
-NO_END = "the run did not come to its end"
+# The words for a run that gave no verdict, and for one that did not come to what is harmful.
+NO_END, LEFT_OUT = "the run did not come to its end", "nothing, and a loss was left out"
 
 
 def most_telling(faults: list[str]) -> str | None:
@@ -63,15 +64,17 @@ def most_telling(faults: list[str]) -> str | None:
 
 async def first_violation(bug: str, seed: int, told: argparse.Namespace) -> str | None:
     """Runs once with a bug, or as it would be with the bug, and returns the first violation."""
-    directory = Path(tempfile.mkdtemp(prefix=f"catch-{bug}-", dir="/dev/shm" if os.access("/dev/shm", os.W_OK) else None))
-    shape = Shape(servers=told.servers, shards=told.shards, clients=told.clients, seed=seed)
-    parts, swaps = PARTS_OF.get(bug, PARTS), SWAPS_OF.get(bug, 0.2)
-    rates = RATES_OF.get(bug, ROUGH)
-    settings = Settings(directory, shape, program_of(told.program), told.seconds, rates, parts, () if told.sound else (bug,), WORKERS_OF.get(bug, 3),
-                        MOVES_OF.get(bug, 4), pause=told.pause, is_quiet=True, swaps=swaps, is_busy=told.busy, ending=25.0, patience=40.0)
+    directory = new_directory(f"catch-{bug}-", told.dir)
+    shape = shape_of(told, seed)
+    recipe = "a storm" if told.storm else bug
+    parts = storm_of(seed) if told.storm else PARTS_OF.get(bug, PARTS)
+    settings = Settings(directory, shape, program_of(told.program), told.seconds, RATES_OF.get(recipe, ROUGH), parts, () if told.sound else (bug,),
+                        WORKERS_OF.get(recipe, 3), MOVES_OF.get(recipe, 4), pause=told.pause, is_quiet=True, swaps=SWAPS_OF.get(recipe, 0.2), is_busy=told.busy,
+                        ending=25.0, patience=40.0)
     try:
         result = await Run(settings).run()
-        return most_telling(result.verdict.faults)
+        found = most_telling(result.verdict.faults)
+        return found if found is not None else LEFT_OUT if result.counts["losses left out"] else None
     except (NotReady, NotOpened, NoLeader, Failed, OSError, TimeoutError) as why:
         return f"{NO_END}: {type(why).__name__} {why}"
     finally:
@@ -85,7 +88,7 @@ def try_bug(bug: str, told: argparse.Namespace) -> bool:
         begun = time.monotonic()
         found.append(asyncio.run(first_violation(bug, seed, told)))
         print(f"{bug}, seed {seed}, {time.monotonic() - begun:.0f} s: {found[-1] or 'nothing'}"[:300], flush=True)
-    caught = [it for it in found if it and not it.startswith(NO_END)]
+    caught = [it for it in found if it and not it.startswith((NO_END, LEFT_OUT))]
     unended = [it for it in found if it and it.startswith(NO_END)]
     print(f"{bug}: found in {len(caught)} of {told.runs} runs{': ' + caught[0][:200] if caught else ''}"
           f"{f' ({len(unended)} without an end: {unended[0][:200]})' if unended else ''}", flush=True)
@@ -103,6 +106,8 @@ def main() -> int:
     parser.add_argument("--shards", type=int, default=16)
     parser.add_argument("--clients", type=int, default=8)
     add_load(parser)
+    add_directory(parser)
+    parser.add_argument("--storm", action="store_true", help="have the parts of a run of a storm, and nothing that is made for the bug")
     parser.add_argument("--sound", action="store_true", help="plant no bug: nothing is to be found then")
     add_session(parser)
     told = parser.parse_args()

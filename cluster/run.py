@@ -8,9 +8,9 @@ import json
 import os
 import shlex
 import shutil
+import signal
 import subprocess
 import sys
-import tempfile
 import time
 from collections import Counter
 from collections.abc import Awaitable, Callable
@@ -19,15 +19,19 @@ from pathlib import Path
 
 from cluster.controllers.etcd import EtcdFault
 from cluster.faults.handovers import HandoverStory
+from cluster.faults.parts import EVERY, OUTSIDE, drawn, evenly
 from cluster.faults.reopenings import NotOpened
 from cluster.launch.cluster import CALM, ROOT, ROUGH, LocalCluster, program_of
-from cluster.launch.figures import at, handover_waits, in_words, lines_of, order_waits, rate_of, request_waits, unacknowledged
+from cluster.launch.directory import add_directory, new_directory
+from cluster.launch.figures import Handover, at, copied, handovers_of, lines_of, of_handovers, order_waits, rate_of, request_waits, unacknowledged, without_service
 from cluster.launch.moving import Mover
 from cluster.launch.operator import NoLeader, Operator
 from cluster.launch.processes import NotReady
+from cluster.launch.report import SHOWN, listed, seconds_of, service_line, situations_line, trust_lines
 from cluster.launch.shape import Shape, document_of
 from cluster.launch.situations import situations_of
-from cluster.launch.verdict import Verdict, judge
+from cluster.launch.verdict import Evidence, Verdict, judge
+from cluster.launch.watcher import Watcher
 from cluster.wire import Failed
 
 # The whole story, by the share of a run at which each part begins.
@@ -40,6 +44,8 @@ REST = 0.08
 # What begins only when everything else of the story has ended: without a server that is lost for good, no other one may be restarted.
 LAST = ("lose_server",)
 JOURNAL_BITS = 64
+# For how many seconds a shard may be without service, if no server that had it was given up.
+OUTAGE, OUTAGE_IF_BUSY = 12.0, 60.0
 # The exit status of a run that a slow machine kept from its end.
 NO_VERDICT = 4
 # The session in Python, which decides if there is no built one, and is compared with the one that decides.
@@ -82,12 +88,16 @@ class Result:
     counts: Counter[str] = field(default_factory=Counter)
     failovers: list[float] = field(default_factory=list)
     waits: list[float] = field(default_factory=list)
-    handovers: list[float] = field(default_factory=list)
+    handovers: list[Handover] = field(default_factory=list)
     situations: Counter[str] = field(default_factory=Counter)
     rates: dict[str, float] = field(default_factory=dict)
     orders_a_second: float = 0.0
     # From each leader's death to the next order.
     pauses: list[float] = field(default_factory=list)
+    # How many bytes of data each copy of a shard had.
+    copies: list[int] = field(default_factory=list)
+    # For each shard the longest time without service, in seconds.
+    gaps: dict[str, float] = field(default_factory=dict)
 
 
 class Run:
@@ -100,6 +110,7 @@ class Run:
         self.operator = Operator(self.cluster.pages, settings.patience or (240.0 if settings.is_busy else 90.0))
         self.mover = Mover(self.operator, settings.shape.seed, settings.swaps)
         self.story = HandoverStory(self.cluster, self.operator, self.mover, settings.shape.seed, self.tell)
+        self.watcher = Watcher(self.cluster.members)
         self.verdict: Verdict | None = None
         # Spans of time, by what went on in them.
         self.spans: dict[str, list[tuple[int, int]]] = {"at rest": [], "while a server is drained": []}
@@ -114,6 +125,7 @@ class Run:
         """Runs all of it, and ends every process."""
         try:
             await self.cluster.start()
+            self.watcher.start()
             shape = self.settings.shape
             self.tell(f"{shape.servers} servers, {shape.controllers} controllers and {len(self.cluster.members)} members of etcd run; the session is {self.cluster.program}")
             self.tell("pages are at " + ", ".join(f"http://127.0.0.1:{it}/ ({name})" for name, it in self.cluster.pages.items()))
@@ -127,9 +139,15 @@ class Run:
             program = shlex.split(self.cluster.program)
             floors = {it["name"]: it["want"] - it["cap"] for it in document_of(self.settings.shape)["shards"]}
             reference = None if "smpland_model.py" in self.cluster.program else shlex.split(REFERENCE)
-            self.verdict = await judge(self.cluster, self.operator, program, reference, self.story.alive, floors, self.story.permits)
+            is_whole = await self.story.wait_for_replicas(self.story.alive, 60.0 if self.settings.is_busy else 20.0)
+            self.watcher.end()
+            story = self.story
+            evidence = Evidence(story.alive, floors, story.permits, self.watcher.seen, story.shown, story.compacted_at)
+            self.verdict = await judge(self.cluster, self.operator, program, reference, evidence)
+            self.verdict.need(is_whole, "secondaries do not come to have all writes")
             return self.result(counts)
         finally:
+            self.watcher.end()
             await self.cluster.end()
 
     async def harm(self) -> None:
@@ -139,6 +157,7 @@ class Run:
         self.spans["at rest"].append((begun, time.monotonic_ns()))
         moving = asyncio.create_task(self.mover.run(self.settings.workers, self.settings.moves))
         showing = asyncio.create_task(self.show())
+        telling = asyncio.create_task(self.mover.tell_moves(self.cluster.moving))
         start = time.monotonic()
         doing: list[asyncio.Task[None]] = []
         for share, name in self.settings.parts:
@@ -147,7 +166,7 @@ class Run:
             await asyncio.sleep(self.settings.seconds)
             await asyncio.gather(*doing)
         except BaseException:
-            for task in (moving, showing, *doing):
+            for task in (moving, showing, telling, *doing):
                 task.cancel()
             raise
         self.moved_for = time.monotonic() - start
@@ -158,6 +177,7 @@ class Run:
             orders = (await self.operator.state()).get("orders", [])
             self.tell("plans do not come to their end: " + "; ".join(f"{it['what']} to {it['to']}, {it['said']}" for it in orders))
         showing.cancel()
+        telling.cancel()
 
     async def do_at(self, when: float, name: str, before: tuple[asyncio.Task[None], ...]) -> None:
         """Does a part of the story at a time, or once others have ended."""
@@ -196,6 +216,15 @@ class Run:
                   f"{len(told.get('orders', []))} orders outstanding, some {size // 110} requests", end="", flush=True)
             await asyncio.sleep(0.5)
 
+    def judge_service(self, asked: list[dict], gaps: dict[str, float]) -> None:
+        """Who is slow is a violation, too: on a machine with other work only a shard without service for very long."""
+        assert self.verdict is not None
+        failures = unacknowledged(asked, self.story.forsaken)
+        if failures and not self.settings.is_busy:
+            self.verdict.faults.append(f"{failures} requests were not acknowledged within 10 s")
+        longest = OUTAGE_IF_BUSY if self.settings.is_busy else OUTAGE
+        self.verdict.faults += [f"{shard} was without service for {gap:.0f} s" for shard, gap in gaps.items() if gap > longest and shard not in self.story.forsaken]
+
     def result(self, faults: dict[str, int]) -> Result:
         """Gathers the figures."""
         assert self.verdict is not None
@@ -207,40 +236,41 @@ class Run:
         by_span = {name: rate_of(asked, spans) for name, spans in self.spans.items() if spans}
         histories = lines_of(where / "histories.jsonl")
         situations = situations_of(histories, self.verdict.replies, self.verdict.counts + self.story.counts)
-        failures = unacknowledged(asked, self.story.forsaken)
-        if failures and not self.settings.is_busy:
-            self.verdict.faults.append(f"{failures} requests were not acknowledged within 10 s")
+        self.judge_service(asked, gaps := without_service(asked))
         orders = self.verdict.counts["orders"] / self.moved_for if self.moved_for else 0.0
-        return Result(self.verdict, clients, counts, self.story.failovers, request_waits(asked), handover_waits(histories), situations, by_span, orders,
-                      order_waits(histories, self.story.deaths))
+        return Result(self.verdict, clients, counts, self.story.failovers, request_waits(asked), handovers_of(histories, asked), situations, by_span, orders,
+                      order_waits(histories, self.story.deaths), copied(histories), gaps)
 
 
-def seconds_of(times: list[float]) -> str:
-    """Times in words."""
-    return ", ".join(f"{it:.1f} s" for it in times) or "none"
-
-
-def report(result: Result) -> str:
+def report(result: Result, details: bool = False) -> str:
     """Writes the figures and the verdict."""
-    verdict, counts = result.verdict, result.counts
-    harm = {it: count for it, count in sorted(counts.items()) if it.split(" ")[-1] in ("dropped", "repeated", "delayed")}
-    killed = [f"{count} {what}" for what, count in sorted(counts.items()) if "killed" in what or "stopped" in what or "lost" in what or what == "restarts"]
+    verdict, counts, waits = result.verdict, result.counts, result.waits
+    harm = {it: count for it, count in counts.items() if it.split(" ")[-1] in ("dropped", "repeated", "delayed")}
+    harmed = {it: count for it, count in counts.items() if any(word in it for word in ("killed", "stopped", "lost", "replaced", "crash", "restarts", "full", "went on", "rolled back", "cut off"))}
+    compared = {it: verdict.counts[f"servers: {it}"] for it in ("answers compared", "replicas compared")} | {"audits": verdict.counts["servers audited"]}
     lines = [
-        f"requests     {result.clients.get('requests', 0)}, {result.clients.get('failures', 0)} not acknowledged within 10 s; "
-        f"median {1000 * at(result.waits, 0.5):.0f} ms, 99 % {1000 * at(result.waits, 0.99):.0f} ms, worst {1000 * at(result.waits, 1.0):.0f} ms",
-        f"rates        {', '.join(f'{rate:.0f} requests a second {name}' for name, rate in result.rates.items())}; {result.orders_a_second:.1f} orders a second",
-        f"moves        {counts['moves']} in {counts['plans']} plans, {verdict.counts['orders']} orders, {verdict.counts['lines of the journal']} lines of the journal",
-        f"handovers    {len(result.handovers)}; a shard's requests were held back {in_words(result.handovers)}",
-        f"messages     {sum(harm.values())} harmed: " + ", ".join(f"{count} {what}" for what, count in harm.items()),
-        f"processes    {', '.join(killed) or 'none harmed'}",
+        f"requests     {result.clients.get('requests', 0):,}; {', '.join(f'{rate:.0f} a second {name}' for name, rate in result.rates.items())}",
+        f"waits        median {1000 * at(waits, 0.5):.0f} ms, 99 % {1000 * at(waits, 0.99):.0f} ms, worst {1000 * at(waits, 1.0):.0f} ms; "
+        f"{result.clients.get('failures', 0)} not acknowledged within 10 s",
+        f"service      {service_line(result.gaps)}",
+        f"moves        {counts['moves']} in {counts['plans']} plans; {verdict.counts['orders']} orders, {result.orders_a_second:.1f} a second; "
+        f"{len(result.copies)} copies of shards, {sum(result.copies) / 1e6:.1f} MB, the largest {max(result.copies, default=0) / 1e6:.1f} MB",
+        f"handovers    {of_handovers(result.handovers)}",
+        f"harm         {sum(harm.values()):,} messages lost, late or twice; {listed(harmed)}",
         f"failovers    {seconds_of(result.failovers)}; from a leader's death to the next order {seconds_of(result.pauses)}",
-        f"compared     {verdict.counts['replies compared with the reference']} replies with the reference, {verdict.counts['servers: answers compared']} "
-        f"answered orders, {verdict.counts['servers: replicas compared']} replicas, "
-        f"{verdict.counts['clients: pushes acknowledged']} acknowledged pushes, {verdict.counts['servers audited']} audits",
-        f"situations   {'; '.join(f'{count} x {what}' for what, count in sorted(result.situations.items()))}",
-        f"verdict      {len(verdict.faults)} violations",
+        f"alone        {verdict.counts['servers: alone']} requests acknowledged while a member was away for more than 3 s",
+        f"situations   {situations_line(result.situations)}",
+        f"compared     {listed(compared)}, {verdict.counts['replies compared with the reference']} replies with the reference",
+        *(details_of(result, harm) if details else ()),
+        *trust_lines(verdict.faults, verdict.counts),
     ]
-    return "\n".join([*lines, *(f"  {it}" for it in verdict.faults[:20])])
+    return "\n".join([*lines, *(f"  {it}" for it in verdict.faults[:SHOWN])])
+
+
+def details_of(result: Result, harm: dict[str, int]) -> list[str]:
+    """What befell messages, by the kind of link, and the situations that came up."""
+    return [f"             {', '.join(f'{count} {what}' for what, count in sorted(harm.items()))}",
+            *(f"             {count} x {what}" for what, count in sorted(result.situations.items()))]
 
 
 def knows_reopenings(path: Path) -> bool:
@@ -258,32 +288,47 @@ def default_program() -> str:
 
 def add_session(parser: argparse.ArgumentParser) -> None:
     """Adds the options that say which session decides."""
-    parser.add_argument("--program", default=default_program(), help="the session's command line (%(default)s)")
+    parser.add_argument("--program", default=default_program(), help="the session's command line (default %(default)s)")
     parser.add_argument("--session", dest="program", metavar="PATH", type="{} -".format, default=argparse.SUPPRESS, help="a built smpland, which decides")
 
 
 def add_load(parser: argparse.ArgumentParser) -> None:
     """Adds the options that say how much is asked of the machine."""
-    parser.add_argument("--pause", type=float, default=Settings.pause, metavar="SECONDS", help="how long a client rests between two requests (%(default)s)")
+    parser.add_argument("--pause", type=float, default=Settings.pause, metavar="SECONDS", help="how long a client rests between two requests (default %(default)s)")
+    parser.add_argument("--hot-clients", type=int, default=48, help="how many clients never rest, and use shards that are being moved (default %(default)s)")
+    parser.add_argument("--largest", type=int, default=200_000, metavar="BYTES", help="how large the text is that each shard has, at most (default %(default)s)")
     parser.add_argument("--busy", action="store_true", help="the machine has other work: waits are longer, and slow requests are no violations")
+
+
+def shape_of(told: argparse.Namespace, seed: int) -> Shape:
+    """The cluster and its load as the command line says."""
+    return Shape(servers=told.servers, shards=told.shards, clients=told.clients, seed=seed, hot_clients=told.hot_clients, largest=told.largest)
 
 
 def arguments() -> argparse.Namespace:
     """Reads the command line."""
     parser = argparse.ArgumentParser(prog="cluster.run", description="Runs a cluster under load, moves it and harms it, and checks what came of it.")
     add_session(parser)
-    parser.add_argument("--seconds", type=float, default=60.0, help="how long things are moved and harmed (%(default)s); start, rest and checks come on top")
-    parser.add_argument("--servers", type=int, default=8, help="how many servers (%(default)s)")
-    parser.add_argument("--shards", type=int, default=64, help="how many shards (%(default)s)")
-    parser.add_argument("--clients", type=int, default=16, help="how many clients (%(default)s)")
-    parser.add_argument("--seed", type=int, default=1, help="what the harm is drawn by (%(default)s)")
+    parser.add_argument("--seconds", type=float, default=60.0, help="how long things are moved and harmed (default %(default)s); start, rest and checks come on top")
+    parser.add_argument("--servers", type=int, default=8, help="how many servers (default %(default)s)")
+    parser.add_argument("--shards", type=int, default=64, help="how many shards (default %(default)s)")
+    parser.add_argument("--clients", type=int, default=16, help="how many clients (default %(default)s)")
+    parser.add_argument("--seed", type=int, default=1, help="what the harm is drawn by (default %(default)s)")
     parser.add_argument("--calm", action="store_true", help="no message is harmed")
     add_load(parser)
+    add_directory(parser)
     names = ", ".join(dict.fromkeys(name for _, name in WHOLE))
-    parser.add_argument("--parts", type=parts_of, default=WHOLE, metavar="PART,..", help=f"what happens; if it is missing everything: {names}")
+    parser.add_argument("--parts", type=parts_of, default=WHOLE, metavar="PART,..",
+                        help=f"what happens, of {', '.join(EVERY)}, or what the rules do not survive: {', '.join(OUTSIDE)} (default {names})")
+    parser.add_argument("--details", action="store_true", help="also tell what befell messages, and which situations came up")
+    parser.add_argument("--draw", type=int, metavar="COUNT", help="have so many parts instead, drawn by the seed")
     parser.add_argument("--bug", action="append", default=[], help="plant a bug, which the checkers are to find")
     parser.add_argument("--keep", type=Path, metavar="DIR", help="keep logs and histories there")
-    return parser.parse_args()
+    told = parser.parse_args()
+    if told.draw is not None:
+        told.parts = drawn(told.seed, told.draw)
+        print(f"cluster: seed {told.seed} draws {', '.join(name for _, name in told.parts)}", flush=True)
+    return told
 
 
 def parts_of(text: str) -> tuple[tuple[float, str], ...]:
@@ -292,19 +337,21 @@ def parts_of(text: str) -> tuple[tuple[float, str], ...]:
     for name in names:
         if name != "drain" and not inspect.iscoroutinefunction(getattr(HandoverStory, name, None)):
             raise argparse.ArgumentTypeError(f"no part is named {name}")
-    return tuple((0.1 + 0.8 * it / len(names), name) for it, name in enumerate(names))
+    return evenly(names)
 
 
 def main() -> int:
     """Runs once, and returns 0 if there was no violation, 1 if there was one, and NO_VERDICT if something did not come in time."""
     told = arguments()
-    directory = Path(tempfile.mkdtemp(prefix="cluster-", dir="/dev/shm" if os.access("/dev/shm", os.W_OK) else None))
-    shape = Shape(servers=told.servers, shards=told.shards, clients=told.clients, seed=told.seed)
+    # (ended like this, it ends its processes and deletes its data as well)
+    signal.signal(signal.SIGTERM, signal.default_int_handler)
+    directory = new_directory("cluster-", told.dir)
+    shape = shape_of(told, told.seed)
     settings = Settings(directory, shape, program_of(told.program), told.seconds, CALM if told.calm else ROUGH, told.parts, tuple(told.bug),
                         pause=told.pause, is_busy=told.busy)
     try:
         result = asyncio.run(Run(settings).run())
-        print(report(result))
+        print(report(result, told.details))
         return 1 if result.verdict.faults else 0
     except NotOpened as why:
         print(f"cluster: {why}", file=sys.stderr)

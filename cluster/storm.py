@@ -4,30 +4,27 @@ from __future__ import annotations
 import argparse
 import asyncio
 import json
-import os
-import random
 import shutil
 import signal
 import sys
-import tempfile
 import time
 from collections import Counter
 from dataclasses import dataclass, field
 from pathlib import Path
 
+from cluster.faults.parts import storm_of
 from cluster.faults.reopenings import NotOpened
 from cluster.launch.cluster import CALM, ROUGH, program_of
+from cluster.launch.directory import add_directory, new_directory
+from cluster.launch.figures import in_words
 from cluster.launch.operator import NoLeader
 from cluster.launch.processes import NotReady
-from cluster.launch.shape import Shape
 from cluster.launch.situations import SITUATIONS
-from cluster.run import Result, Run, Settings, add_load, add_session, in_words
+from cluster.run import Result, Run, Settings, add_load, add_session, shape_of
 from cluster.wire import Failed
 
 # How long a run may take beside its harm, in seconds: one whose processes were ended by somebody else would not end.
 LONGEST = 1200.0
-# What may happen in a run, and how often.
-HARM = (("kill_leader", 1), ("freeze_leader", 1), ("kill_member", 1), ("crash_server", 2), ("restart_server", 5), ("drain", 1))
 
 
 @dataclass
@@ -49,27 +46,9 @@ class Sums:
         self.counts["requests"] += int(result.clients.get("requests", 0))
         self.counts["requests not acknowledged"] += int(result.clients.get("failures", 0))
         self.failovers += result.failovers
-        self.handovers += result.handovers
+        self.handovers += [it.longest for it in result.handovers if it.requests]
         if result.verdict.faults:
             self.failed.append(f"seed {seed}: {len(result.verdict.faults)} violations, the first: {result.verdict.faults[0]}")
-
-
-# What happens in some runs beside HARM, by the rest of the seed divided by 3.
-MORE = (("reopen_behind_leader", "break_following"), ("reopen_before_write", "reopen_behind_cut"), ("reopen_before_write", "reopen_behind_cut"))
-
-
-def parts_of(seed: int) -> tuple[tuple[float, str], ...]:
-    """The harm of a run: everything of HARM at times of its own, some of MORE, and at the end in two of three runs a server that is lost, otherwise a reopening in
-    handovers. In each second run two of the restarts are of one server, while messages come late."""
-    dice = random.Random(f"parts {seed}")
-    names = [name for name, count in HARM for _ in range(count)] + list(MORE[seed % 3])
-    if "reopen_behind_leader" in names:
-        names.remove("freeze_leader")
-    if seed % 2 == 0:
-        names.remove("restart_server")
-        names[names.index("restart_server")] = "forget_twice"
-    last = "reopen_amid_passing" if seed % 3 == 2 else "lose_server"
-    return tuple(sorted([*((dice.uniform(0.05, 0.75), name) for name in names), (0.8, last)]))
 
 
 class Storm:
@@ -97,10 +76,10 @@ class Storm:
     async def run_once(self, seed: int) -> None:
         """Makes one run, and keeps its folder if something was wrong."""
         told, begun = self.told, time.monotonic()
-        directory = Path(tempfile.mkdtemp(prefix=f"storm-{seed}-", dir="/dev/shm" if os.access("/dev/shm", os.W_OK) else None))
-        shape = Shape(servers=told.servers, shards=told.shards, clients=told.clients, seed=seed)
+        directory = new_directory(f"storm-{seed}-", told.dir)
+        shape = shape_of(told, seed)
         rates = CALM if told.calm else ROUGH
-        settings = Settings(directory, shape, program_of(told.program), told.seconds, rates, parts_of(seed), tuple(told.bug), pause=told.pause,
+        settings = Settings(directory, shape, program_of(told.program), told.seconds, rates, storm_of(seed), tuple(told.bug), pause=told.pause,
                             is_quiet=True, is_busy=told.busy)
         try:
             async with asyncio.timeout(LONGEST + told.seconds):
@@ -123,7 +102,7 @@ class Storm:
         """Appends the figures of a run to the file that was named."""
         counts = result.counts + result.verdict.counts
         figures = {"seed": seed, "faults": result.verdict.faults, "situations": result.situations, "counts": counts, "failovers": result.failovers,
-                   "handovers": result.handovers, "clients": result.clients}
+                   "handovers": [it.longest for it in result.handovers], "clients": result.clients}
         with self.told.figures.open("a") as file:
             file.write(json.dumps(figures) + "\n")
 
@@ -135,7 +114,7 @@ def report(sums: Sums) -> str:
         f"{sums.runs} runs, {len(sums.failed)} with violations",
         f"{counts['requests']} requests, {counts['requests not acknowledged']} not acknowledged; {counts['moves']} moves, {counts['orders']} orders, "
         f"{counts['restarts']} restarts, {counts['failovers']} failovers, {counts['reopenings']} openings and reopenings",
-        f"handovers held requests back {in_words(sums.handovers)}; failovers took {in_words(sums.failovers)}",
+        f"the longest wait of a client in a handover: {in_words(sums.handovers)}; failovers took {in_words(sums.failovers)}",
         "situations, each with the number of runs in which it came up:",
         *(f"  {sums.situations[it]:4} {it}" for it in SITUATIONS),
         *sums.failed,
@@ -156,6 +135,7 @@ def arguments() -> argparse.Namespace:
     parser.add_argument("--clients", type=int, default=16)
     parser.add_argument("--calm", action="store_true")
     add_load(parser)
+    add_directory(parser)
     parser.add_argument("--bug", action="append", default=[])
     parser.add_argument("--keep", type=Path, metavar="DIR", help="keep the folders of runs with violations there")
     parser.add_argument("--figures", type=Path, metavar="FILE", help="append the figures of each run, a JSON object a line")

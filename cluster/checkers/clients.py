@@ -1,5 +1,6 @@
 """What the clients saw, and nothing else: each key is a list of values that were pushed, in one order that fits what
-every client saw and when.
+every client saw and when; or a text that one client sets again and again, of which each read has the last, or the one
+that is being set.
 
 `python3 -m cluster.checkers.clients HISTORY..` reads the load generator's lines. Exit status 1 if anything is wrong.
 """
@@ -8,11 +9,14 @@ from __future__ import annotations
 import argparse
 import json
 import sys
-from collections import defaultdict
+from collections import Counter, defaultdict
 from dataclasses import dataclass
 from typing import Iterable
 
-NEVER = 1 << 63
+from .texts import NEVER, faults_of_text
+
+# What is counted of requests that had a reply.
+ANSWERED = {"push": "pushes acknowledged", "read": "reads", "set": "sets acknowledged", "get": "reads of texts"}
 
 
 @dataclass(frozen=True)
@@ -36,13 +40,13 @@ class Asked:
                      tuple(reply) if isinstance(reply, list) else reply, line.get("final", False))
 
 
-def read(paths: Iterable[str]) -> dict[str, list[Asked]]:
-    """All requests, by key."""
-    by_key: dict[str, list[Asked]] = defaultdict(list)
+def read(paths: Iterable[str]) -> dict[str, list[dict]]:
+    """All lines of requests, by key."""
+    by_key: dict[str, list[dict]] = defaultdict(list)
     for path in paths:
         with open(path, encoding="utf-8") as lines:
             for line in map(json.loads, lines):
-                by_key[line["key"]].append(Asked.of(line))
+                by_key[line["key"]].append(line)
     return by_key
 
 
@@ -102,13 +106,15 @@ def out_of_time(final: tuple[str, ...], pushes: dict[str, Asked], reads: list[As
 
 def check(paths: Iterable[str], excused: frozenset[str] = frozenset()) -> tuple[list[str], dict[str, int]]:
     """All that is wrong, and how much was looked at. Shards that are excused had their last copy lost."""
-    by_key = read(paths)
-    kept = {key: asked for key, asked in by_key.items() if key.split(":")[0] not in excused}
-    found = [fault for key, asked in sorted(kept.items()) for fault in faults_of(key, asked)]
-    every = [it for asked in kept.values() for it in asked]
-    acknowledged = sum(it.is_push and it.reply is not None for it in every)
-    return found, {"keys": len(kept), "requests": len(every), "pushes acknowledged": acknowledged,
-                   "reads": sum(not it.is_push and it.reply is not None for it in every), "without reply": sum(it.reply is None for it in every)}
+    kept = {key: lines for key, lines in read(paths).items() if key.split(":")[0] not in excused}
+    found, counts = [], Counter({"keys": len(kept)})
+    for key, lines in sorted(kept.items()):
+        is_text = lines[0]["op"] in ("set", "get")
+        found += faults_of_text(key, lines) if is_text else faults_of(key, [Asked.of(it) for it in lines])
+        counts["requests"] += len(lines)
+        for line in lines:
+            counts[ANSWERED[line["op"]] if "reply" in line else "without reply"] += 1
+    return found, dict(counts)
 
 
 def main() -> int:
@@ -118,7 +124,7 @@ def main() -> int:
     parser.add_argument("--excused", default="", help="shards whose last copy was lost, with commas between")
     told = parser.parse_args()
     found, figures = check(told.history, frozenset(filter(None, told.excused.split(","))))
-    for fault in found[:50]:
+    for fault in found:
         print(fault)
     print(json.dumps({"violations": len(found), **figures}))
     return 1 if found else 0

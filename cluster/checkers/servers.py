@@ -1,11 +1,12 @@
 """What the servers did, told by their own histories, and by the journal's orders if they are given. Nothing that a
 client saw is looked at.
 
-`python3 -m cluster.checkers.servers --history FILE.. [--orders FILE --answered FILE] [--expected FILE] [--wants FILE]
-[--permits FILE]`.
+`python3 -m cluster.checkers.servers --history FILE.. [--orders FILE --answered FILE --written FILE] [--expected FILE]
+[--wants FILE] [--loads FILE] [--permits FILE]`.
 Histories are those of `python3 -m cluster.servers.history`. Orders are lines of orders as they were sent, answered are
-lines of the journal with `"do":"answered"`, expected is `{"s":{"a":"primary",..},..}` at the end, wants is
-`{"s":FLOOR,..}`, the fewest replicas that a shard may have, and permits are lines
+lines of the journal with `"do":"answered"`, written are lines `{"t":T,"line":LINE,"reply":REPLY}` of all lines of the
+journal, each with a moment at which it was there, expected is `{"s":{"a":"primary",..},..}` at the end, wants is
+`{"s":FLOOR,..}`, the fewest replicas that a shard may have, loads is `{"s":LOAD,..}`, and permits are lines
 `{"server":"a","t":T,"kind":"permit","down":true}` of restarts that were approved (at the latest then) or ended (at the
 earliest then), and `{"server":"a","t":T,"kind":"lost"}` of servers that are given up. Exit status 1 if anything is wrong.
 """
@@ -19,8 +20,11 @@ from dataclasses import dataclass, field
 from typing import Iterable, Iterator
 
 from .data import Data
+from .truth import Past, Truth
 
 STEP = 1 << 21
+# A member that has been away for so many seconds is not waited for.
+DEAD_AFTER = 3.0
 REFUSALS = ("order-already-held", "order-not-held", "order-wrong-role", "order-no-room")
 HELD = ("secondary", "primary", "forwarding", "prepared")
 
@@ -53,6 +57,7 @@ class Host:
     is_known: bool = False
     is_fenced: bool = False
     is_down: bool = False
+    is_lost: bool = False
     nonce: str | None = None
     settled: set[int] = field(default_factory=set)
     shards: dict[str, At] = field(default_factory=lambda: defaultdict(At))
@@ -70,16 +75,19 @@ class Shard:
 class Checker:
     """Walks through all histories in the order of time."""
 
-    def __init__(self, wants: dict[str, int]) -> None:
-        self.wants = wants
+    def __init__(self, wants: dict[str, int], loads: dict[str, int] | None = None) -> None:
+        self.wants, self.loads = dict(wants), loads or {}
         self.hosts: dict[str, Host] = {}
         self.shards: dict[str, Shard] = defaultdict(Shard)
         self.faults: list[str] = []
         self.commits: Counter[tuple[int, int, int, int]] = Counter()
         self.committed: dict[tuple[int, int, int], dict] = {}
         self.begun: dict[tuple[str, str, int], int] = {}
+        # (by its stream the last order that was done, and when; and when each order began first)
+        self.turns: dict[tuple[int, int, int], tuple[int, int]] = {}
+        self.first_begins: dict[tuple[int, int, int, int], int] = {}
         self.counts: Counter[str] = Counter()
-        self.epoch = 0
+        self.epoch = self.begun_epoch = 0
 
     def fault(self, event: dict, text: str) -> None:
         """Notes what is wrong."""
@@ -133,6 +141,7 @@ class Checker:
         if not host.is_fenced or event["base"] in host.settled:
             self.fault(event, "a settle that was taken twice, or without a fence")
         host.settled.add(event["base"])
+        host.is_lost = False
         self.set_slots(host, event)
 
     def on_restore(self, host: Host, event: dict) -> None:
@@ -159,10 +168,19 @@ class Checker:
                 self.shards[name].data.cut_back(at.position)
         self.look_at_primaries(event, event["slots"])
 
+    def look_at_epoch(self, event: dict) -> None:
+        """With the first order behind a reopening everybody is settled: each shard has as many replicas as it may have at least."""
+        if event["number"] // STEP > self.begun_epoch:
+            self.begun_epoch = event["number"] // STEP
+            for shard in self.wants:
+                self.look_at_floor(event, shard)
+
     # -- orders
 
     def on_begin(self, host: Host, event: dict) -> None:
         """Work begins: it has to end with all writes that were executed by now."""
+        self.look_at_epoch(event)
+        self.first_begins.setdefault((event["number"] // STEP, event["plan"], event["stream"], event["number"]), event["t"])
         self.begun[(host.name, event["shard"], event["number"])] = self.shards[event["shard"]].data.length
 
     def on_commit(self, host: Host, event: dict) -> None:
@@ -179,15 +197,30 @@ class Checker:
             self.fault(event, "an order has its effect at a server that is fenced or Unknown")
         if event["state"] not in LEADS.get((event["call"], at.state), ()):
             self.fault(event, f"{event['call']} makes {at.state} {event['state']}")
-        if event["used"] > event["room"]:
-            self.fault(event, f"{event['used']} is more than the room of {event['room']}")
         self.look_at_copy(host, event, at.state)
+        self.look_at_turn(event)
         if event["state"] in ("absent", "forwarding", "secondary") or at.state in ("absent", "secondary"):
             at.tenure += 1
         at.state, at.last, at.position = event["state"], number, event["position"]
+        self.look_at_room(host, event)
         self.look_at_primaries(event, [shard])
         if event["state"] == "absent":
             self.look_at_floor(event, shard)
+
+    def look_at_room(self, host: Host, event: dict) -> None:
+        """The loads of all that a server has fit into its room, and so does what it says that they are."""
+        used = sum(self.loads.get(name, 0) for name, at in host.shards.items() if at.state != "absent")
+        if max(used, event["used"]) > event["room"]:
+            self.fault(event, f"{max(used, event['used'])} is more than the room of {event['room']}")
+
+    def look_at_turn(self, event: dict) -> None:
+        """The orders of a stream are done one after the other: the next one begins when the one before is done, as its answer lets it be sent."""
+        stream = (event["number"] // STEP, event["plan"], event["stream"])
+        first = self.first_begins.get((*stream, event["number"]), event["t"])
+        before, done = self.turns.get(stream, (0, 0))
+        if event["number"] > before and first < done:
+            self.fault(event, f"order {event['number']} began before order {before} of its stream was done")
+        self.turns[stream] = max(self.turns.get(stream, (0, 0)), (event["number"], event["t"]))
 
     def on_order_refused(self, host: Host, event: dict) -> None:
         """An order fits nothing that the server has; one that is late would be old."""
@@ -216,17 +249,26 @@ class Checker:
             self.look_at_floor(event, shard)
 
     def on_lost(self, host: Host, event: dict) -> None:
-        """It is given up, so that shards may lack replicas from now on."""
-        self.wants = {}
+        """It is given up: each shard of which it has anything may have one replica less from now on."""
+        host.is_lost = True
+        for shard, at in host.shards.items():
+            if at.state != "absent" and shard in self.wants:
+                self.wants[shard] -= 1
 
     def look_at_floor(self, event: dict, shard: str) -> None:
-        """No shard has fewer replicas at servers that may not be down than it may have. The two of a handover are one."""
-        states = Counter(it.shards[shard].state for it in self.hosts.values() if not it.is_down)
+        """No shard has fewer replicas at servers that may not be down, are not given up and have their slots than it may have. The two of a handover are one."""
+        states = Counter(it.shards[shard].state for it in self.hosts.values() if it.is_known and not it.is_down and not it.is_lost)
         count = states["secondary"] + (states["primary"] or states["forwarding"])
         if count < self.wants.get(shard, 0):
             self.fault(event, f"{shard} has {count} replicas")
 
     # -- requests
+
+    def on_alone(self, host: Host, event: dict) -> None:
+        """A write was acknowledged without some members: each has been away for so long that nobody waits for it."""
+        for name, seconds in event["without"].items():
+            if seconds < DEAD_AFTER - 0.01:
+                self.fault(event, f"write {event['position']} was acknowledged without {name}, which had been away for {seconds:.1f} s")
 
     def on_execute(self, host: Host, event: dict) -> None:
         """A write was executed: it is the next one of its shard, and its identity is new."""
@@ -256,13 +298,14 @@ class Checker:
     # -- the end
 
     def look_at_data(self, lines: Iterable[dict]) -> None:
-        """Each replica has in the end what the writes make, up to its position."""
+        """Each replica has in the end what all writes make."""
         for line in lines:
             host = self.hosts.get(line["server"])
             if host is None or not line["known"] or line["base"] < self.epoch or line["state"] not in ("primary", "secondary"):
                 continue
             self.counts["replicas compared"] += 1
-            wrong = self.shards[line["shard"]].data.difference(line["position"], line["values"])
+            data = self.shards[line["shard"]].data
+            wrong = data.difference(line["position"], line["values"]) or (f"it has {line['position']} writes of {data.length}" if line["position"] < data.length else None)
             if wrong:
                 self.faults.append(f"{line['server']} {line['shard']} in the end: {wrong}")
 
@@ -305,11 +348,13 @@ def main() -> int:
     parser.add_argument("--history", nargs="+", required=True)
     parser.add_argument("--orders")
     parser.add_argument("--answered")
+    parser.add_argument("--written")
     parser.add_argument("--expected")
     parser.add_argument("--wants")
+    parser.add_argument("--loads")
     parser.add_argument("--permits")
     told = parser.parse_args()
-    checker = Checker(json.load(open(told.wants, encoding="utf-8")) if told.wants else {})
+    checker = Checker(*(json.load(open(it, encoding="utf-8")) if it else {} for it in (told.wants, told.loads)))
     lines = list(lines_of(told.history))
     data = [it for it in lines if it["kind"] == "data"]
     checker.walk([*lines, *(lines_of([told.permits]) if told.permits else ())])
@@ -317,9 +362,15 @@ def main() -> int:
     if told.orders and told.answered:
         answered = (it for it in lines_of([told.answered]) if it.get("do", "answered") == "answered")
         checker.look_at_orders(lines_of([told.orders]), answered)
+    if told.orders and told.written:
+        truth = Truth(Past.of(lines), lines_of([told.orders]))
+        for it in lines_of([told.written]):
+            truth.look(it["line"], it["reply"], it["t"])
+        checker.faults += truth.faults
+        checker.counts += truth.counts
     if told.expected:
         checker.look_at_end(json.load(open(told.expected, encoding="utf-8")), data)
-    for fault in checker.faults[:50]:
+    for fault in checker.faults:
         print(fault)
     print(json.dumps({"violations": len(checker.faults), **checker.counts}))
     return 1 if checker.faults else 0

@@ -22,9 +22,12 @@ def load_of(words: list[str] | None = None) -> tuple[argparse.Namespace, Load]:
     parser.add_argument("--reads", type=float, default=0.3, help="how many requests are reads")
     parser.add_argument("--stray", type=float, default=0.02, help="how many attempts go to any server")
     parser.add_argument("--pause", type=float, default=0, help="seconds between a client's requests")
+    parser.add_argument("--hot-clients", type=int, default=0, help="how many clients never rest, and use shards that are being moved")
+    parser.add_argument("--moving", default="", metavar="FILE", help="which these are, each in a line")
+    parser.add_argument("--largest", type=int, default=0, help="how many bytes a shard's text has at most")
     parser.add_argument("--seed", type=int, default=1)
     told = parser.parse_args(words)
-    names = ("clients", "keys", "reads", "stray", "pause", "seed")
+    names = ("clients", "keys", "reads", "stray", "pause", "seed", "hot_clients", "moving", "largest")
     return told, Load(tuple(told.shards.split(",")), **{it: getattr(told, it) for it in names})
 
 

@@ -15,10 +15,13 @@ BUGS = {
 
 def moved_primaries(settles: list[Line]) -> list[Line]:
     """Makes of each shard's replicas the last one the primary."""
-    last = {slot["shard"]: settle["server"] for settle in settles for slot in settle.get("slots", [])}
+    last = {it["shard"]: settle["server"] for settle in settles for it in settle.get("slots", []) if it["cell"] != "absent"}
     moved = []
     for settle in settles:
-        slots = [{**it, "cell": "primary" if last[it["shard"]] == settle["server"] else "secondary"} for it in settle.get("slots", [])]
+        slots = [
+            it if it["cell"] == "absent" else {**it, "cell": "primary" if last[it["shard"]] == settle["server"] else "secondary"}
+            for it in settle.get("slots", [])
+        ]
         moved.append({**settle, "slots": slots} if "slots" in settle else settle)
     return moved
 

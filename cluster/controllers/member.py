@@ -2,9 +2,10 @@
 from __future__ import annotations
 
 import asyncio
+import signal
 import time
 from collections.abc import Callable
-from dataclasses import dataclass, field
+from dataclasses import dataclass, replace
 
 from smplan.control import Controller, Line, Pace, Session, SessionEnded, StoreLost
 
@@ -13,7 +14,7 @@ from cluster.wire import Cluster, Failed, Message
 from .bugs import move_primaries
 from .etcd import Etcd, EtcdFault, members_of
 from .fleet import Fleet, to_wire
-from .journal import EtcdJournal
+from .journal import MOST_BYTES, EtcdJournal
 from .lease import Lease
 from .map_owner import MapOwner
 
@@ -39,7 +40,7 @@ class Past:
 
     terms: int = 0
     led_since: float | None = None
-    first_order: list[float] = field(default_factory=list)
+    left_base: int | None = None
 
 
 class Member:
@@ -66,12 +67,26 @@ class Member:
     async def start(self) -> None:
         """Starts the session."""
         session = await Session.start(self.settings.program)
-        self.controller = Controller(session, self.fleet, self.store, self.settings.pace)
+        self.controller = Controller(session, self.fleet, self.store, replace(self.settings.pace, batch_bytes=MOST_BYTES))
         if "confirm-moves-primary" in self.settings.bugs:
             move_primaries(self.controller)
 
     async def run(self) -> None:
-        """Follows and leads until it is cancelled."""
+        """Follows and leads until it is cancelled, or told to end by SIGTERM: then it gives the lease back, and another one leads at once."""
+        running = asyncio.create_task(self.follow_and_lead())
+        loop = asyncio.get_running_loop()
+        loop.add_signal_handler(signal.SIGTERM, running.cancel)
+        try:
+            await asyncio.wait([running])
+        finally:
+            loop.remove_signal_handler(signal.SIGTERM)
+            running.cancel()
+            await asyncio.wait([running])
+        if not running.cancelled():
+            running.result()
+
+    async def follow_and_lead(self) -> None:
+        """Follows and leads until it is cancelled, and then closes the session."""
         assert self.controller is not None
         try:
             while True:
@@ -117,11 +132,16 @@ class Member:
             await self.lease.leave()
 
     async def confirm(self) -> None:
-        """Confirms a proposal as it stands, if this is left to the controllers."""
+        """Confirms a proposal as it stands, if this is left to the controllers. One that loses shards is an operator's to confirm."""
         assert self.controller is not None
         proposal = self.controller.proposal
-        if self.settings.confirm and proposal is not None:
+        if not self.settings.confirm or proposal is None:
+            return
+        if not proposal["lost"]:
             await self.controller.do({"do": "confirm", "base": proposal["base"]})
+        elif self.past.left_base != proposal["base"]:
+            self.past.left_base = proposal["base"]
+            self.settings.log(f"leaves the proposal of base {proposal['base']} to an operator: shards that nobody has whole: {', '.join(proposal['lost'])}")
 
     async def store(self, lines: list[str]) -> list[str]:
         """Stores lines in the journal."""

@@ -36,15 +36,32 @@ def server_rows(state: Line) -> list[Line]:
 
 
 def shard_rows(state: Line) -> list[Line]:
-    """What the page tells of shards."""
+    """What the page tells of shards. In a handover the old owner serves until the new one is the primary."""
     rows = []
     for it in state.get("shards", []):
-        cells = {cell["server"]: cell["state"] for cell in it["cells"]}
-        primary = next((server for server, word in cells.items() if word == "primary"), None)
-        moving = any(word in ("prepared", "forwarding") for word in cells.values())
-        title = ", ".join(f"{server} {word}" for server, word in cells.items())
-        rows.append({"name": it["shard"], "primary": primary, "moving": moving, "title": title})
+        servers = {cell["state"]: cell["server"] for cell in it["cells"]}
+        moving = "prepared" in servers or "forwarding" in servers
+        title = ", ".join(f"{cell['server']} {cell['state']}" for cell in it["cells"])
+        rows.append({"name": it["shard"], "serves": servers.get("primary", servers.get("forwarding")), "moving": moving, "title": title})
     return rows
+
+
+# Whom a reopening waits for, by where it is.
+WAITS = {"fence": "Have not told what they have", "confirm": "Are down, and stay as recorded if it is confirmed now", "settle": "Have not taken what they have from now on"}
+
+
+def reopening_rows(state: Line) -> list[Line]:
+    """What the page tells of a reopening under way: whom it waits for, and what it proposes."""
+    reopening = state.get("reopening")
+    if reopening is None:
+        return []
+    rows = [(WAITS[reopening["is"]], ["the map's owner" if it is None else it for it in reopening["waiting"]])]
+    proposal = reopening.get("proposal")
+    if proposal is not None:
+        floors = [f"{it['shard']} ({it['live']} of {it['floor']})" for it in proposal["floors"]]
+        primaries = [f"{it['shard']}: {next((cell['server'] for cell in it['cells'] if cell['state'] == 'primary'), 'none')}" for it in proposal["cells"]]
+        rows += [("Shards of which nobody left has all", proposal["lost"]), ("Shards with too few live replicas", floors), ("Primaries from then on", primaries)]
+    return [{"what": what, "names": ", ".join(names) or "none"} for what, names in rows]
 
 
 async def leader_of(member: Member) -> str | None:
@@ -59,19 +76,22 @@ async def leader_of(member: Member) -> str | None:
 
 
 async def figures_of(member: Member) -> Line:
-    """Returns everything that the page shows."""
-    controller = member.controller
+    """Returns everything that the page shows. Who does not lead sends no messages, and tells no `orders`: it does not know which are outstanding."""
+    controller, leads = member.controller, member.leads
     state: dict[str, Any] = {} if controller is None else (await controller.ask({"do": "state"})).get("state", {})
     orders = [] if controller is None else [order_row(key[0], it) for key, it in controller.outgoing.items()]
     figures = {
-        "name": member.settings.name, "leads": member.leads, "leader": await leader_of(member), "place": member.journal.place,
+        "name": member.settings.name, "leads": leads, "leader": await leader_of(member), "place": member.journal.place,
         "terms": member.past.terms, "servers": server_rows(state), "shards": shard_rows(state), "plans": plan_rows(state),
-        "orders": sorted(orders, key=lambda it: -it["age"]), "restarts": restart_rows(state), "is": state.get("is", "new"),
+        "restarts": restart_rows(state), "is": state.get("is", "new"),
         "counts": {} if controller is None else {**controller.counts, **member.journal.counts, **member.owner.counts},
-        "reopening": state.get("reopening"), "epoch": state.get("epoch"),
+        "reopening": reopening_rows(state), "epoch": state.get("epoch"),
     }
+    if leads:
+        figures["orders"] = sorted(orders, key=lambda it: -it["age"])
     condition = {"open": f"Epoch {state.get('epoch')}", "reopening": "A reopening is under way"}.get(state.get("is", "new"), "Nothing is opened yet")
-    return figures | {"summary": f"{condition}, line {member.journal.place} of the journal, {len(orders)} messages outstanding."}
+    messages = f"{len(orders)} message{'' if len(orders) == 1 else 's'} outstanding" if leads else "messages are known to the controller that leads"
+    return figures | {"summary": f"{condition}, line {member.journal.place} of the journal, {messages}."}
 
 
 def plan_rows(state: Line) -> list[Line]:

@@ -45,6 +45,8 @@ async def run(told: dict) -> None:
             if link.name.startswith(tuple(message.get("links", [""]))):
                 if "cut" in message:
                     link.is_cut = bool(message["cut"])
+                elif "mute" in message:
+                    link.is_mute = bool(message["mute"])
                 elif "hold" in message:
                     link.held = tuple(it.encode() for it in message["hold"])
                 elif message.get("copies"):

@@ -3,7 +3,6 @@ from __future__ import annotations
 
 import asyncio
 import time
-from collections import Counter
 from collections.abc import AsyncIterator, Awaitable, Callable
 from contextlib import AsyncExitStack, asynccontextmanager
 from dataclasses import dataclass
@@ -12,9 +11,8 @@ from smplan.control import Line
 
 from cluster.launch.plans import move_stream, plan_of
 
-from .leaders import LeaderStory
+from .outside import OutsideStory
 from .reopenings import without
-from .servers import ServerStory
 
 
 @dataclass(frozen=True)
@@ -29,19 +27,9 @@ class Handovers:
 
 # Does harm for a while, to the new owner (named first) and the old ones of handovers.
 Harm = Callable[[AsyncExitStack, str, set[str]], Awaitable[None]]
-# A shard that a server has, its state and its last write.
-Replica = tuple[str, str, int]
 
 
-def has_all(replicas: list[Replica], written: list[Replica]) -> bool:
-    """Tells whether some replicas have what some others of their shards have. (One that was the primary until now counts, too.)"""
-    roles, positions = ("primary", "secondary"), Counter[str]()
-    for shard, state, position in written:
-        positions[shard] = max(positions[shard], position if state in roles else 0)
-    return all(position >= positions[shard] for shard, state, position in replicas if state in roles)
-
-
-class HandoverStory(LeaderStory, ServerStory):
+class HandoverStory(OutsideStory):
     """The whole story."""
 
     # A server that is lost.
@@ -50,8 +38,9 @@ class HandoverStory(LeaderStory, ServerStory):
         """Gives the new owner of a handover up for good while the old one waits to hand over, and reopens without it: once, or a second time in place of the first
         one; or that server is lost between fence and settle of a reopening, and another one takes its place. Tells whether it came to that."""
         how = self.dice.choice(("once", "twice", "fenced", "fenced"))
-        async with self.restarting:
-            await self.wait_for_replicas(self.alive)
+        async with self.restarting, self.reopening:
+            if not await self.may_lose():
+                return False
             until = time.monotonic() + self.operator.patience
             while time.monotonic() < until:
                 found = await self.lose_in_handover(target, how == "fenced")
@@ -61,24 +50,6 @@ class HandoverStory(LeaderStory, ServerStory):
                 await asyncio.sleep(0.3)
             return False
 
-    async def wait_for_replicas(self, servers: list[str], seconds: float = 20.0) -> bool:
-        """Waits until all replicas have what these servers have, and tells whether they do. A server that was away for long was not waited for, so that the loss of
-        another one would take acknowledged writes along."""
-        until = time.monotonic() + seconds
-        while time.monotonic() < until:
-            written, replicas = await self.replicas(servers), await self.replicas(self.alive)
-            if written is not None and replicas is not None and has_all(replicas, written):
-                return True
-            await asyncio.sleep(0.2)
-        return False
-
-    async def replicas(self, servers: list[str]) -> list[Replica] | None:
-        """The replicas as these servers have them, or None if one of them does not answer."""
-        audits = [(await self.tell_server(name, audit={})).get("audit") for name in servers]
-        if not all(audits):
-            return None
-        return [(it["shard"], it["state"], it["position"]) for audit in audits for it in audit.get("slots", [])]
-
     async def lose_in_handover(self, target: str | None, is_fenced: bool) -> Handovers | None:
         """Kills the new owner of a handover for good, while orders to the old one are held back."""
         async with self.held_handovers(1, target) as found:
@@ -86,22 +57,11 @@ class HandoverStory(LeaderStory, ServerStory):
                 return None
             ((shard, old),) = found.olds.items()
             self.tell(f"killed {found.new} for good, which is to take {shard} from {old}{', and is fenced' if is_fenced else ''}")
-            self.lost.add(found.new)
-            self.forsaken |= set(found.olds)
-            self.mover.avoided.add(found.new)
+            self.give_up(found.new, found.state)
+            self.forsaken.setdefault(shard, time.monotonic_ns())
             self.counts["servers lost in a handover"] += 1
             self.counts["servers lost between fence and settle"] += is_fenced
             return found
-
-    async def kill_for_good(self, server: str, seconds: float = 4.0) -> bool:
-        """Kills a server once nobody else lacks a write that it executed, and lets it acknowledge none meanwhile: a secondary that it has ceased to wait for would
-        not have it. Tells whether it came to that."""
-        async with self.cut(f"client clients {server}"):
-            if not await self.wait_for_replicas([server], seconds):
-                return False
-            self.permits.append({"server": server, "t": time.monotonic_ns(), "kind": "lost"})
-            await self.cluster.processes[server].kill()
-            return True
 
     async def fence_first(self, found: Handovers) -> bool:
         """Begins a reopening without a loss, and waits until the new owner is fenced. The old one hears nothing of it, so nobody is settled."""
@@ -122,9 +82,22 @@ class HandoverStory(LeaderStory, ServerStory):
         """Hands shards over while the new owners lose the connections by which they follow, again and again, so that they hear of cuts by requests alone."""
         return await self.in_handovers(self.lossy, self.let_pass)
 
+    async def lose_behind_cut(self) -> bool:
+        """Gives the new owner of handovers up for good, under load, once it has executed requests that were passed on: the old owners have all that it acknowledged."""
+        async with self.restarting:
+            return await self.may_lose() and await self.in_handovers(self.undisturbed, self.lose_new_owner)
+
+    async def lose_new_owner(self, found: Handovers) -> bool:
+        """Kills the new owner as it is, and reopens without it."""
+        await self.lose(found.new, f"which has taken requests for {', '.join(sorted(found.olds))} over")
+        for shard in found.olds:
+            self.forsaken.setdefault(shard, time.monotonic_ns())
+        self.counts["losses of a new owner behind the cut"] += 1
+        return await self.reopen(without(found.state, self.document, self.lost), [found.new], f"{found.new} was lost behind the cut")
+
     async def in_handovers(self, harm: Harm, act: Callable[[Handovers], Awaitable[bool]]) -> bool:
         """Begins handovers, and acts once requests are passed on, while no order gets to the new owner, and harm is done to it; tells whether it came to that."""
-        async with self.restarting:
+        async with self.reopening:
             until = time.monotonic() + self.operator.patience
             while time.monotonic() < until:
                 async with AsyncExitStack() as meanwhile:

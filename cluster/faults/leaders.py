@@ -1,4 +1,4 @@
-"""Controllers and members of etcd that are killed or stopped, and reopenings before what they have written arrives."""
+"""Controllers that are killed or stopped, and reopenings before what they have written arrives."""
 from __future__ import annotations
 
 import asyncio
@@ -7,14 +7,17 @@ import time
 
 from cluster.controllers.etcd import encoded
 
+from .members import MemberStory
 from .reopenings import ReopeningStory, without
 
+# More bytes than a transaction of etcd may have.
+TOO_MUCH = 2_000_000
 # What a transaction has that writes an entry of the map: its path, and `/map/` as the gateway of etcd wants it.
 ENTRY_WRITTEN = ["/v3/kv/txn", encoded("/map/s")[:7]]
 
 
-class LeaderStory(ReopeningStory):
-    """What happens to controllers, to what they write, and to members of etcd."""
+class LeaderStory(MemberStory, ReopeningStory):
+    """What happens to controllers, and to what they write."""
 
     # Kills.
 
@@ -37,8 +40,8 @@ class LeaderStory(ReopeningStory):
         if leader is None:
             return
         self.tell(f"kill -9 {leader}, which leads")
-        self.counts["leaders killed with orders outstanding"] += bool(state["orders"])
-        self.counts["leaders killed in a write of the map"] += any(it["what"].startswith("publish") for it in state["orders"])
+        self.counts["leaders killed with orders outstanding"] += bool(state.get("orders"))
+        self.counts["leaders killed in a write of the map"] += any(it["what"].startswith("publish") for it in state.get("orders", []))
         # (its own counts end with it)
         self.counts.update({what: count for what, count in state["counts"].items() if " " in what})
         await self.cluster.processes[leader].kill()
@@ -64,14 +67,35 @@ class LeaderStory(ReopeningStory):
                 break
             await asyncio.sleep(0.04)
 
-    async def kill_member(self) -> None:
-        """Kills a member of etcd, and starts it again."""
-        name, _ = self.dice.choice(self.cluster.members)
-        self.tell(f"kill -9 {name}")
-        await self.cluster.processes[name].kill()
-        self.counts["members of etcd killed"] += 1
-        await asyncio.sleep(1.5)
-        await self.cluster.processes[name].start()
+    async def kill_controllers(self) -> None:
+        """Kills all controllers at once, and starts them again."""
+        names = self.cluster.shape.controller_names
+        self.tell("kill -9 all controllers at once")
+        self.deaths.append(time.monotonic_ns())
+        await asyncio.gather(*(self.cluster.processes[it].kill() for it in names))
+        self.counts["crashes of all controllers at once"] += 1
+        await self.cluster.processes.start(*names)
+
+    async def lose_answers_of_etcd(self) -> None:
+        """Loses what etcd answers to the leading controller, which does not know whether its lines are stored."""
+        leader = await self.leader()
+        if leader is None:
+            return
+        self.tell(f"answers of etcd to {leader}, which leads, are lost")
+        async with self.muted(f"etcd {leader} "):
+            await asyncio.sleep(self.dice.uniform(1.0, 4.0))
+        self.counts["leaders to whom etcd's answers were lost"] += 1
+
+    async def ask_too_much(self) -> None:
+        """Sends the leading controller a line that is larger than etcd takes, once."""
+        leader = await self.leader()
+        if leader is None:
+            return
+        begun = time.monotonic()
+        line = {"do": "begin", "plan": {"budget": 1, "streams": []}, "name": "x" * TOO_MUCH}
+        reply = await self.operator.post(leader, "/do", line, 20.0)
+        self.tell(f"a line of {TOO_MUCH} bytes to {leader}: {str(reply)[:80]} after {time.monotonic() - begun:.1f} s")
+        self.counts["lines that were too large"] += 1
 
     # Writes of the map that come late.
 
@@ -110,12 +134,12 @@ class LeaderStory(ReopeningStory):
 
     async def reopen_behind_leader(self) -> None:
         """Stops the leading controller while it writes the map, and reopens before it goes on: what it writes then is of an epoch before."""
-        async with self.restarting:
+        async with self.reopening:
             await self.freeze_leader(reopens=True)
 
     async def reopen_before_write(self) -> None:
         """Holds writes of the map on their way to etcd, and reopens before they arrive: they come late, behind the fence of the map."""
-        async with self.restarting:
+        async with self.reopening:
             refused = await self.proxies_count("etcd held and then refused")
             document = without(await self.state(), self.document, self.lost)
             async with self.held(ENTRY_WRITTEN, "etcd k"):

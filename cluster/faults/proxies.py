@@ -16,7 +16,7 @@ Relay = Callable[[Reader, Writer, Reader, Writer, "Link"], Awaitable[None]]
 
 @dataclass
 class Link:
-    """A way through a proxy: whose dice are rolled, and whether it is cut, so that nothing gets through. Of messages that are held, those that have all these texts,
+    """A way through a proxy: whose dice are rolled, whether it is cut, so that nothing gets through, or mute, so that nothing comes back. Of messages that are held, those that have all these texts,
     lines do not get through and requests of HTTP wait. If there are `copies`, each message that is seldom sent is kept among them, to come again."""
 
     name: str
@@ -24,6 +24,7 @@ class Link:
     host: str
     port: int
     is_cut: bool = False
+    is_mute: bool = False
     held: tuple[bytes, ...] = ()
     copies: list[bytes] | None = None
 
@@ -61,8 +62,8 @@ def is_rare(line: bytes) -> bool:
     return any(it in line[:40] for it in RARE)
 
 
-async def relay_lines(reader: Reader, writer: Writer, link: Link, outlives: bool = False) -> None:
-    """Carries lines one way, each by its own luck. A late one may outlive the connection: it comes all the same when the far end runs again."""
+async def relay_lines(reader: Reader, writer: Writer, link: Link, outlives: bool = False, is_back: bool = False) -> None:
+    """Carries lines one way, or back, each by its own luck. A late one may outlive the connection: it comes all the same when the far end runs again."""
     late: set[asyncio.Task[None]] = set()
 
     def send(line: bytes, seconds: float) -> None:
@@ -74,7 +75,7 @@ async def relay_lines(reader: Reader, writer: Writer, link: Link, outlives: bool
         task.add_done_callback(late.discard)
 
     while line := await reader.readline():
-        if link.is_cut or link.holds(line[:40]) or link.dice.drops():
+        if link.is_cut or (is_back and link.is_mute) or link.holds(line[:40]) or link.dice.drops():
             continue
         send(line, link.dice.lateness())
         if outlives and link.copies is not None and is_rare(line):
@@ -86,7 +87,7 @@ async def relay_lines(reader: Reader, writer: Writer, link: Link, outlives: bool
 
 async def relay_line_pairs(reader: Reader, writer: Writer, far: Reader, far_writer: Writer, link: Link) -> None:
     """Carries requests and replies, which are lines, both ways until one side ends."""
-    await until_one_ends(relay_lines(reader, far_writer, link, outlives=True), relay_lines(far, writer, link))
+    await until_one_ends(relay_lines(reader, far_writer, link, outlives=True), relay_lines(far, writer, link, is_back=True))
 
 
 async def until_one_ends(*ways: Awaitable[None]) -> None:
@@ -145,7 +146,7 @@ async def relay_http(reader: Reader, writer: Writer, far: Reader, far_writer: Wr
         if was_held:
             link.count("held and then done" if b'"succeeded":true' in answer else "held and then refused")
         await come_late(link)
-        if link.is_cut or link.dice.drops():
+        if link.is_cut or link.is_mute or link.dice.drops():
             return
         writer.write(answer)
         if b"\r\nconnection: close\r\n" in request.lower():
@@ -155,8 +156,8 @@ async def relay_http(reader: Reader, writer: Writer, far: Reader, far_writer: Wr
 class Side(asyncio.Protocol):
     """One side of a connection that carries bytes: it hands what it reads to the other side. A loss ends both, since a stream has no gaps."""
 
-    def __init__(self, link: Link, other: "Side | None" = None) -> None:
-        self.link, self.other = link, other
+    def __init__(self, link: Link, other: "Side | None" = None, is_far: bool = False) -> None:
+        self.link, self.other, self.is_far = link, other, is_far
         self.transport: asyncio.Transport | None = None
         # Why nothing is read: bytes are on their way late, or the other side is full.
         self.is_late = self.is_full = False
@@ -184,14 +185,19 @@ class Side(asyncio.Protocol):
 
     async def call(self) -> None:
         """Connects to the far end."""
-        self.other = Side(self.link, self)
+        self.other = Side(self.link, self, is_far=True)
         try:
             await asyncio.get_running_loop().create_connection(lambda: self.other, self.link.host, self.link.port)
         except OSError:
             self.end()
 
     def data_received(self, data: bytes) -> None:
-        """Hands bytes on, at once or late, or loses them."""
+        """Hands bytes on, at once or late, or loses them. What comes back on a mute link waits until it is that no more, as it is sent again and again."""
+        if self.is_far and self.link.is_mute:
+            self.is_late = True
+            self.read_on()
+            asyncio.get_running_loop().call_later(0.1, self.wait_while_mute, data)
+            return
         if self.link.is_cut or self.link.dice.drops():
             self.end()
             return
@@ -202,6 +208,13 @@ class Side(asyncio.Protocol):
             asyncio.get_running_loop().call_later(seconds, self.come_late, data)
         else:
             self.hand_on(data)
+
+    def wait_while_mute(self, data: bytes) -> None:
+        """Hands bytes on once the link is no longer mute."""
+        if self.link.is_mute:
+            asyncio.get_running_loop().call_later(0.1, self.wait_while_mute, data)
+        else:
+            self.come_late(data)
 
     def come_late(self, data: bytes) -> None:
         """Hands bytes on that were late, and reads on."""

@@ -7,11 +7,15 @@ from typing import Any
 
 from cluster.controllers.etcd import Etcd, end_of
 from cluster.controllers.journal import PREFIX
-from cluster.launch.plans import plan_of, promote_stream
+from cluster.launch.plans import add_stream, plan_of, promote_stream
 
 from smplan.control import Line
 
 from .story import Story
+
+
+# After so many seconds the operator confirms what controllers do not confirm by themselves.
+CONFIRMING = 2.0
 
 
 class NotOpened(Exception):
@@ -47,14 +51,26 @@ class ReopeningStory(Story):
         begun = time.monotonic()
         while time.monotonic() - begun < self.operator.patience:
             state = (await self.operator.ask({"do": "state"})).get("state", {})
+            if time.monotonic() - begun > CONFIRMING:
+                await self.confirm(state)
             if state.get("is") == "open" and state.get("fence") == base:
                 self.counts["reopenings"] += 1
                 self.tell(f"reopened within {time.monotonic() - begun:.1f} s")
                 await self.promote(state)
+                await self.refill()
                 return True
             await asyncio.sleep(0.1)
         self.tell("the reopening does not come to its end")
         return False
+
+    async def confirm(self, state: Line) -> None:
+        """Confirms what a reopening proposes, if it waits for that: a controller leaves some of it to the operator."""
+        reopening = state.get("reopening") or {}
+        if reopening.get("is") == "confirm":
+            told = {"still down": reopening["waiting"], "lost": reopening["proposal"]["lost"]}
+            self.tell("confirmed by hand" + "".join(f"; {what}: {', '.join(names)}" for what, names in told.items() if names))
+            await self.operator.do({"do": "confirm", "base": reopening["base"]})
+            self.counts["reopenings confirmed by hand"] += 1
 
     async def wait_until_fenced(self, server: str | None, seconds: float = 8.0) -> bool:
         """Waits until a server, or the map's owner, has told what it has in a reopening."""
@@ -100,6 +116,32 @@ class ReopeningStory(Story):
             state = await self.state()
         self.counts["secondaries promoted"] += len(promoted)
 
+    # Shards that lack replicas.
+
+    async def refill(self) -> None:
+        """Begins to add secondaries to shards that a loss has left with fewer replicas than they are to have, each by a plan of its own."""
+        state = await self.state()
+        rooms = self.mover.rooms(state)
+        for shard in lacking(state, self.document):
+            has = {it["server"] for it in shard["cells"]}
+            free = [it for it, room in rooms.items() if it not in has and room >= shard["load"]]
+            if free and shard["shard"] not in self.mover.busy and any(it["state"] == "primary" for it in shard["cells"]):
+                target = max(free, key=lambda it: rooms[it])
+                rooms[target] -= shard["load"]
+                reply = await self.operator.do({"do": "begin", "plan": plan_of([add_stream(shard, target)]), "name": self.name("refill")})
+                self.counts["replicas added after a loss"] += "begun" in reply
+
+    async def wait_until_whole(self, seconds: float = 15.0) -> bool:
+        """Waits until each shard has as many replicas as it is to have, and tells whether it has: the loss of one more server may take the last one otherwise."""
+        until = time.monotonic() + seconds
+        while time.monotonic() < until:
+            state = await self.state()
+            if state and not lacking(state, self.document):
+                return True
+            await self.refill()
+            await asyncio.sleep(1.0)
+        return False
+
     async def positions(self) -> dict[tuple[str, str], int]:
         """Returns the last write of each replica, by shard and server, as the servers tell it."""
         found = {}
@@ -116,19 +158,32 @@ def without_primary(state: Line, promoted: set[str]) -> list[Line]:
             if it["cells"] and it["shard"] not in promoted and all(cell["state"] == "secondary" for cell in it["cells"])]
 
 
+def lacking(state: Line, document: Line) -> list[Line]:
+    """Returns the shards that have fewer replicas than they are to have. (The two of a handover are one.)"""
+    wants = {it["name"]: it["want"] for it in document["shards"]}
+    return [it for it in state.get("shards", []) if replicas_of(it) < wants[it["shard"]]]
+
+
+def replicas_of(shard: Line) -> int:
+    """Returns how many replicas a shard has."""
+    states = [it["state"] for it in shard["cells"]]
+    return states.count("secondary") + ("primary" in states or "forwarding" in states)
+
+
 def most_written(shard: Line, positions: dict[tuple[str, str], int]) -> str:
     """Returns the server whose replica has most writes: another one would lack some that were executed."""
     return max(sorted(it["server"] for it in shard["cells"]), key=lambda name: positions.get((shard["shard"], name), -1))
 
 
-def without(state: Line, document: Line, lost: set[str]) -> Line:
-    """The document of a reopening without servers that are lost. Its cells count for servers alone that have forgotten theirs: those that are recorded."""
+def without(state: Line, document: Line, lost: set[str], emptied: frozenset[str] = frozenset()) -> Line:
+    """The document of a reopening without servers that are lost. Its cells count for servers alone that have forgotten theirs: those that are recorded, but for
+    servers that have lost their data as well."""
     recorded = {it["shard"]: it["cells"] for it in state.get("shards", [])}
     shards = []
     for shard in document["shards"]:
         cells = [
             {"server": it["server"], "state": it["state"]} for it in recorded.get(shard["name"], shard["cells"])
-            if it["server"] not in lost and it["state"] in ("primary", "secondary")
+            if it["server"] not in lost | emptied and it["state"] in ("primary", "secondary")
         ]
         listed = next((it["server"] for it in cells if it["state"] == "primary"), None)
         shards.append({**shard, "cells": cells, "listed": listed})

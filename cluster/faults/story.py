@@ -11,6 +11,7 @@ from cluster.launch.cluster import LocalCluster
 from cluster.launch.moving import Mover
 from cluster.launch.operator import Operator
 from cluster.launch.shape import document_of
+from cluster.launch.shown import Shown
 from cluster.wire import Address, Channel, Failed
 
 from smplan.control import Line
@@ -27,14 +28,19 @@ class Story:
         # When leaders were killed.
         self.deaths: list[int] = []
         self.lost: set[str] = set()
-        # The shards that a server which was lost was to take.
-        self.forsaken: set[str] = set()
+        # The shards that a server had, or was to take, which was lost, and since when.
+        self.forsaken: dict[str, int] = {}
         # When servers went down under a permit, came up or were given up, for the checkers.
         self.permits: list[Line] = []
         # The servers that were to forget their slots.
         self.forgetful: set[str] = set()
+        # Who takes servers away holds the first, who reopens the second; who gives a server up holds both, in this order.
         self.restarting = asyncio.Lock()
+        self.reopening = asyncio.Lock()
         self.names = 0
+        # What the map had shown when etcd's history was compacted last, and at which revision that was.
+        self.shown: Shown = {}
+        self.compacted_at = 0
         # Why the last reopening was refused.
         self.refusal: Line | None = None
         self.document = document_of(cluster.shape)
@@ -90,6 +96,15 @@ class Story:
             yield
         finally:
             await self.cluster.tell_proxies(links=links, cut=False)
+
+    @asynccontextmanager
+    async def muted(self, *links: str) -> AsyncIterator[None]:
+        """Lets nothing back through links while something is done: what is asked arrives, and the answer is lost."""
+        await self.cluster.tell_proxies(links=links, mute=True)
+        try:
+            yield
+        finally:
+            await self.cluster.tell_proxies(links=links, mute=False)
 
     @asynccontextmanager
     async def held(self, texts: list[str], *links: str) -> AsyncIterator[None]:

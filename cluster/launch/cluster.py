@@ -65,6 +65,8 @@ class LocalCluster:
     def __init__(self, directory: Path, shape: Shape, program: str, rates: dict = CALM, bugs: tuple[str, ...] = (),
                  servers: str = "cluster.servers", pause: float = 0.01) -> None:
         self.directory, self.shape, self.program, self.bugs, self.server_module, self.pause = directory, shape, program, bugs, servers, pause
+        # The file that names the shards that are being moved.
+        self.moving = directory / "moving"
         self.processes = Processes(directory / "logs", Nursery([*PYTHON, "cluster.launch.nursery"], ENVIRONMENT))
         self.free = Ports()
         self.members = add_etcd(self.processes, self.free, directory)
@@ -121,7 +123,7 @@ class LocalCluster:
         self.processes.add(name, [
             *PYTHON, "cluster.clients", "--cluster", str(self.cluster_file(name)), "--shards", ",".join(self.shape.shard_names),
             "--history", str(self.directory / f"{name}.jsonl"), "--seconds", "0", "--clients", str(self.shape.clients), "--seed", str(self.shape.seed),
-            "--pause", str(self.pause),
+            "--pause", str(self.pause), "--hot-clients", str(self.shape.hot_clients), "--moving", str(self.moving), "--largest", str(self.shape.largest),
         ], says_ready=False, has_input=True, **ENVIRONMENT)
 
     async def start(self) -> None:

@@ -3,11 +3,19 @@ from __future__ import annotations
 
 import json
 from bisect import bisect_left
-from collections.abc import Iterable
+from collections import defaultdict
+from collections.abc import Iterable, Mapping
+from dataclasses import dataclass
+from itertools import accumulate
 from pathlib import Path
 from statistics import median
 
-NANO = 1e-9
+NANO, BILLION = 1e-9, 10**9
+NEVER = 1 << 63
+# The numbers of the orders of one epoch.
+STEP = 1 << 21
+# No request of a client takes longer, in seconds.
+LONGEST = 60
 # Messages of a leader that died are no longer on their way after this time, in seconds.
 LATE = 1.0
 
@@ -20,21 +28,88 @@ def lines_of(path: Path) -> list[dict]:
         return [json.loads(it) for it in lines]
 
 
-def handover_waits(events: Iterable[dict]) -> list[float]:
-    """For each handover how many seconds requests of its shard were held back: from the moment when the old owner begins to let running ones end, until
-    it passes them on and the new owner has the writes up to the cut."""
-    held: dict[str, float] = {}
-    passing: dict[str, float] = {}
-    waits = []
+@dataclass(frozen=True)
+class Handover:
+    """A shard's primary that was handed over, and what clients met of it: the longest that one of them waited, from the first begin of its stream's work until the
+    old owner has dropped the shard, and how many requests there were meanwhile, and from the moment when the old owner lets running ones end until the new one has
+    the writes up to the cut."""
+
+    shard: str
+    begin: int
+    end: int
+    longest: float
+    requests: int
+    requests_at_cut: int
+
+
+@dataclass
+class Window:
+    """A handover as histories tell it: its first begin, the begin of `prepare_drop`, and the seal."""
+
+    shard: str
+    begin: int
+    holding: int | None = None
+    seal: int | None = None
+
+
+def windows_of(events: Iterable[dict]) -> list[tuple[Window, int]]:
+    """The handovers that came to their end, each with its end."""
+    windows: dict[tuple[int, int, int], Window] = {}
+    passing: dict[str, Window] = {}
+    found = []
     for event in sorted((it for it in events if "t" in it), key=lambda it: it["t"]):
-        shard, kind = event.get("shard", ""), event["kind"]
-        if kind == "begin" and event["call"] == "prepare_drop":
-            held[shard] = event["t"]
-        elif kind == "commit" and event["call"] == "prepare_drop" and shard in held:
-            passing[shard] = held.pop(shard)
-        elif kind == "seal" and shard in passing:
-            waits.append((event["t"] - passing.pop(shard)) * NANO)
-    return waits
+        kind, call, time = event["kind"], event.get("call"), event["t"]
+        if kind == "seal" and event["shard"] in passing:
+            passing[event["shard"]].seal = time
+        if kind not in ("begin", "commit"):
+            continue
+        stream = (event["number"] // STEP, event["plan"], event["stream"])
+        if kind == "begin" and call == "prepare_add":
+            windows.setdefault(stream, Window(event["shard"], time))
+        elif stream in windows and kind == "begin" and call == "prepare_drop":
+            window = passing[event["shard"]] = windows[stream]
+            window.holding = window.holding or time
+        elif stream in windows and kind == "commit" and call == "drop":
+            found.append((windows.pop(stream), time))
+            passing.pop(event["shard"], None)
+    return found
+
+
+def handovers_of(events: Iterable[dict], asked: Iterable[dict]) -> list[Handover]:
+    """Each handover that came to its end, by the histories of the servers and of the clients."""
+    requests: dict[str, list[tuple[int, int]]] = defaultdict(list)
+    for line in asked:
+        if not line.get("final"):
+            requests[line["shard"]].append((line["start"], line["end"]))
+    for spans in requests.values():
+        spans.sort()
+    found = []
+    for window, end in windows_of(events):
+        met = spans_within(requests[window.shard], window.begin, end)
+        at_cut = spans_within(met, window.holding, window.seal) if window.holding and window.seal else []
+        longest = max((last - first for first, last in met), default=0) / BILLION
+        found.append(Handover(window.shard, window.begin, end, longest, len(met), len(at_cut)))
+    return found
+
+
+def of_handovers(handovers: list[Handover]) -> str:
+    """What clients met of handovers, in words."""
+    met = [it for it in handovers if it.requests]
+    if not met:
+        return f"{len(handovers)}, of which none met a request"
+    return (f"{len(handovers)}; the longest wait of a client meanwhile {in_words([it.longest for it in met])}; requests met {median(it.requests for it in handovers):.0f} "
+            f"(median), {median(it.requests_at_cut for it in handovers):.0f} between the old owner's last and the new one's first")
+
+
+def spans_within(spans: list[tuple[int, int]], begin: int, end: int) -> list[tuple[int, int]]:
+    """Those of sorted spans that lie, at least in part, between two moments."""
+    first = bisect_left(spans, (begin - LONGEST * BILLION, 0))
+    return [it for it in spans[first:bisect_left(spans, (end, 0))] if it[1] > begin]
+
+
+def copied(events: Iterable[dict]) -> list[int]:
+    """How many bytes of data each copy of a shard had."""
+    return [it["bytes"] for it in events if it["kind"] == "copy"]
 
 
 def order_waits(events: Iterable[dict], deaths: Iterable[int]) -> list[float]:
@@ -44,9 +119,31 @@ def order_waits(events: Iterable[dict], deaths: Iterable[int]) -> list[float]:
     return [(begins[place] - death) * NANO for death, place in places if place < len(begins)]
 
 
-def unacknowledged(lines: Iterable[dict], forsaken: set[str]) -> int:
-    """How many requests had no reply in time, but those of shards whose new owner was lost in a handover."""
-    return sum("reply" not in it and it["shard"] not in forsaken for it in lines)
+def unacknowledged(lines: Iterable[dict], forsaken: Mapping[str, int]) -> int:
+    """How many requests had no reply in time, but those of shards whose server was lost, from then on."""
+    return sum("reply" not in it and not forsaken.get(it["shard"], NEVER) <= it["end"] for it in lines)
+
+
+def without_service(lines: Iterable[dict]) -> dict[str, float]:
+    """For each shard the longest time in seconds in which somebody waited for a reply, and nobody got one."""
+    by_shard: dict[str, list[dict]] = defaultdict(list)
+    for line in lines:
+        if not line.get("final"):
+            by_shard[line["shard"]].append(line)
+    return {shard: longest_gap(it) / BILLION for shard, it in by_shard.items()}
+
+
+def longest_gap(lines: list[dict]) -> int:
+    """The longest time without a reply in which a request was under way, of requests of one shard."""
+    ordered = sorted(lines, key=lambda it: it["end"])
+    # (of those that ended then or later, when the first began)
+    earliest = list(accumulate((it["start"] for it in reversed(ordered)), min))[::-1]
+    longest, last, behind = 0, 0, 0
+    for place, line in enumerate(ordered):
+        longest = max(longest, line["end"] - max(last, min(earliest[behind], line["end"])))
+        if "reply" in line:
+            last, behind = line["end"], place + 1
+    return longest
 
 
 def request_waits(lines: Iterable[dict]) -> list[float]:

@@ -5,6 +5,7 @@ import asyncio
 import random
 import time
 from collections import Counter
+from pathlib import Path
 from typing import Any
 
 from smplan.control import Line
@@ -42,6 +43,17 @@ class Mover:
                 self.busy -= shards
             if not ended:
                 await asyncio.sleep(0.3)
+
+    async def tell_moves(self, path: Path) -> None:
+        """Names the shards that are being moved in a file, for clients that use these, again and again."""
+        told = None
+        while True:
+            if told != self.busy:
+                told = set(self.busy)
+                part = path.with_suffix(".part")
+                part.write_text("".join(f"{it}\n" for it in sorted(told)))
+                part.replace(path)
+            await asyncio.sleep(0.05)
 
     async def state(self) -> Line:
         """What is recorded, nothing if no epoch is in force."""

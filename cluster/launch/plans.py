@@ -36,6 +36,13 @@ def swap_stream(shard: Line, primary: str, secondary: str) -> Line:
     return {"budget": 2, "holds": {"cells": cells, "crowns": [crown]}, "code": code}
 
 
+def add_stream(shard: Line, target: str) -> Line:
+    """A stream that adds a secondary to a shard."""
+    name = shard["shard"]
+    holds = {"cells": [{"shard": name, "server": target, "state": "absent"}], "room": [{"server": target, "amount": shard["load"]}]}
+    return {"budget": 1, "holds": holds, "code": [{"do": "add", "shard": name, "server": target, "role": "secondary"}]}
+
+
 def promote_stream(shard: Line, server: str) -> Line:
     """A stream that makes a secondary the primary of a shard that has none."""
     name = shard["shard"]

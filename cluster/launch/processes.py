@@ -144,6 +144,12 @@ class Process:
             assert self.running is not None
             self.running.send_signal(number)
 
+    def signal_group(self, number: int) -> None:
+        """Sends a signal to it and to what it has started, if it runs."""
+        if self.is_running:
+            assert self.running is not None
+            os.killpg(self.running.pid, number)
+
     async def end_input(self, timeout: float = 60.0) -> None:
         """Ends its input, and waits until it has ended by itself."""
         if self.running is not None and self.running.stdin is not None:
@@ -186,7 +192,7 @@ class Processes:
         """Ends all of them."""
         for process in self.by_name.values():
             if process.is_running:
-                process.signal(signal.SIGCONT)
+                process.signal_group(signal.SIGCONT)
         await asyncio.gather(*(it.kill() for it in self.by_name.values()))
         await self.nursery.end()
 

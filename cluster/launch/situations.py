@@ -13,7 +13,24 @@ SITUATIONS = (
     "a repetition while work runs", "a repetition while a copy runs", "a server that crashed without leave", "a leader killed between an order and its answer's entry",
     "a leader killed between an entry and its write of the map", "a fence that meets an order at work", "a crash while at work", "a late fence", "a late inventory",
     "a late settle", "a second reopening in place of one under way", "a server lost between fence and settle", "a late publication after a reopening", "a failover",
+    "a restart amid a reopening", "a server carried over a reopening", "a server left behind a reopening", "a primary lost while replicas lag",
+    "a primary lost while a restarted replica catches up", "a new owner lost behind the cut", "a disk replaced", "a full disk", "a slow disk", "a server stopped",
+    "answers of a server lost", "a server cut off from all but clients", "two servers at once", "all servers at once", "all controllers at once", "all of etcd at once",
+    "no quorum of etcd", "etcd's leader killed", "etcd's leader stopped", "etcd's answers to a leader lost", "etcd's history compacted",
+    "a line that is too large", "a write acknowledged while a member was away",
 )
+# What the story itself counts.
+TOLD = {
+    "a server carried over a reopening": "servers carried over a reopening", "a primary lost while replicas lag": "primaries lost while replicas lag",
+    "a primary lost while a restarted replica catches up": "primaries lost while a restarted replica catches up", "a disk replaced": "disks replaced",
+    "a full disk": "servers whose disk was full", "a slow disk": "stores stopped", "a server stopped": "servers stopped",
+    "answers of a server lost": "servers whose answers were lost", "a server cut off from all but clients": "servers cut off from all but clients",
+    "two servers at once": "crashes of two servers at once", "all servers at once": "crashes of all servers at once",
+    "all controllers at once": "crashes of all controllers at once", "all of etcd at once": "crashes of all of etcd at once",
+    "no quorum of etcd": "times without a quorum of etcd", "etcd's leader killed": "leaders of etcd killed", "etcd's leader stopped": "leaders of etcd stopped",
+    "etcd's history compacted": "compactions of etcd", "a line that is too large": "lines that were too large",
+    "etcd's answers to a leader lost": "leaders to whom etcd's answers were lost",
+}
 # What a deposed leader does to the map, as controllers and the story count it.
 DEPOSED = ("publications of one that does not lead", "map writes of one that does not lead", "map writes that a deposed leader had sent")
 # Which orders copy a shard. (one that only takes it over is done in no time)
@@ -87,6 +104,35 @@ def restores_behind_fences(events: list[dict]) -> int:
     return found
 
 
+def amid_reopenings(events: list[dict]) -> int:
+    """How many servers started between the first fence and the last settle of a reopening."""
+    first: dict[int, float] = {}
+    last: dict[int, float] = {}
+    for event in events:
+        if event["kind"] == "fence":
+            first.setdefault(event["base"], event["t"])
+        elif event["kind"] == "settle":
+            last[event["base"]] = event["t"]
+    return sum(any(begin < it["t"] < last.get(base, begin) for base, begin in first.items()) for it in events if it["kind"] == "start")
+
+
+def lost_behind_cut(events: list[dict]) -> int:
+    """How many servers ended for good when they had executed requests of a handover that were passed on, and had not become primary yet."""
+    prepared: dict[str, set[str]] = defaultdict(set)
+    executed: dict[str, set[str]] = defaultdict(set)
+    for event in events:
+        server, kind = event["server"], event["kind"]
+        if kind == "commit":
+            executed[server].discard(event["shard"])
+            (set.add if event["state"] == "prepared" else set.discard)(prepared[server], event["shard"])
+        elif kind == "execute" and event.get("passed") and event["shard"] in prepared[server]:
+            executed[server].add(event["shard"])
+        elif kind in ("forget", "settle", "restore") or (kind == "start" and not event["known"]):
+            executed[server].clear()
+            prepared[server].clear()
+    return sum(bool(it) for it in executed.values())
+
+
 def situations_of(events: list[dict], replies: Counter[str], counts: Counter[str]) -> Counter[str]:
     """How often each situation came up."""
     ordered = sorted((it for it in events if "t" in it), key=lambda it: it["t"])
@@ -114,4 +160,9 @@ def situations_of(events: list[dict], replies: Counter[str], counts: Counter[str
     found["a late publication after a reopening"] = (
         counts["publications old"] + counts["publications not_ready"] + counts["writes of the map refused behind a fence"])
     found["a failover"] = counts["failovers"]
+    found["a restart amid a reopening"] = amid_reopenings(ordered)
+    found["a server left behind a reopening"] = kinds["forget"]
+    found["a new owner lost behind the cut"] = lost_behind_cut(ordered)
+    found["a write acknowledged while a member was away"] = kinds["alone"]
+    found.update({what: counts[told] for what, told in TOLD.items()})
     return +found

@@ -17,6 +17,11 @@ from cluster.wire import Address, Channel, Failed
 
 from .cluster import ENVIRONMENT, PYTHON, LocalCluster
 from .operator import Operator
+from .shown import Shown, add_shown, shown_at
+
+
+# A line that nobody saw in time.
+NEVER = 1 << 63
 
 
 @dataclass
@@ -32,6 +37,31 @@ class Verdict:
         if not holds:
             self.faults.append(text)
 
+    def take(self, name: str, lines: list[str], errors: str) -> None:
+        """Takes what a checker printed: a line for each violation, and one with sums. Without sums it did not come to its end."""
+        short = name.rpartition(".")[2]
+        try:
+            sums = json.loads(lines[-1])
+        except (IndexError, ValueError):
+            self.faults.append(f"{name} failed: {errors[-300:]}")
+            return
+        self.counts.update({f"{short}: {what}": count for what, count in sums.items() if isinstance(count, int)})
+        self.faults += [f"{short}: {it}" for it in lines[:-1]]
+
+
+@dataclass
+class Evidence:
+    """What a run knows beside what its processes tell: the servers that are not given up, the fewest replicas that each shard may have, when servers were down or given
+    up, and when each line of the journal, by its key, was seen first."""
+
+    alive: list[str]
+    floors: dict[str, int]
+    permits: list[Line]
+    seen: dict[str, int]
+    # What the map had shown when etcd's history was compacted last, and at which revision that was.
+    shown: Shown = field(default_factory=dict)
+    compacted_at: int = 0
+
 
 @dataclass
 class Journal:
@@ -46,13 +76,13 @@ class Journal:
     audits: dict[str, Line] = field(default_factory=dict)
 
 
-async def read_journal(cluster: LocalCluster) -> list[str]:
-    """Reads the journal from etcd, without proxies."""
+async def read_journal(cluster: LocalCluster) -> dict[str, str]:
+    """Reads the journal from etcd, without proxies: its lines by their keys, in their order."""
     etcd = Etcd([("127.0.0.1", port) for _, port in cluster.members], timeout=5.0)
-    lines: list[str] = []
+    lines: dict[str, str] = {}
     after = PREFIX
     while found := await etcd.range(after, end_of(PREFIX), limit=500):
-        lines += [it.value for it in found]
+        lines |= {it.key: it.value for it in found}
         after = found[-1].key + "0"
     await etcd.close()
     return lines
@@ -108,14 +138,13 @@ async def audit_of(port: int, tries: int = 4) -> Line:
         channel.close()
 
 
-async def map_of(cluster: LocalCluster) -> dict[str, list[Line]]:
-    """Reads the published map from etcd: of each shard all its entries, the last one at the end."""
+async def map_of(cluster: LocalCluster, before: Shown, oldest: int) -> Shown:
+    """Reads the published map from etcd, with what was read of it before etcd's history was compacted."""
     etcd = Etcd([("127.0.0.1", port) for _, port in cluster.members], timeout=5.0)
-    found = {}
-    for entry in await etcd.range("/map/", end_of("/map/")):
-        found[entry.key.removeprefix("/map/")] = [json.loads(it.value) for it in await etcd.past(entry)]
-    await etcd.close()
-    return found
+    try:
+        return add_shown(before, await shown_at(etcd, oldest))
+    finally:
+        await etcd.close()
 
 
 def look_at_servers(verdict: Verdict, journal: Journal, audits: dict[str, Line]) -> None:
@@ -132,16 +161,26 @@ def look_at_servers(verdict: Verdict, journal: Journal, audits: dict[str, Line])
 
 
 def look_at_map(verdict: Verdict, journal: Journal, shown: dict[str, list[Line]]) -> None:
-    """The map shows what the journal says, and never went back."""
+    """The map shows in the end what the journal says, never showed anything that the journal did not say, and never went back."""
     for entry in journal.shown:
         found = shown.get(entry["shard"], [])
-        to = found[-1]["to"] if found else None
-        verdict.need(bool(found) and to == entry["to"], f"the map names {to} for {entry['shard']}, and is to name {entry['to']}")
+        last = (found[-1]["to"], found[-1]["version"]) if found else (None, None)
+        verdict.need(last == (entry["to"], entry["version"]), f"the map names {last[0]} for {entry['shard']} by {last[1]}, and is to name {entry['to']} by {entry['version']}")
         verdict.counts["map entries compared"] += 1
+    said = entries_said(journal.told)
     for shard, entries in shown.items():
         versions = [it["version"] for it in entries]
         verdict.need(versions == sorted(set(versions)), f"the map's entry of {shard} went back: {versions}")
+        for entry in entries:
+            verdict.need((shard, entry["to"], entry["version"]) in said, f"the map named {entry['to']} for {shard} by {entry['version']}, which nobody said")
         verdict.counts["map writes compared"] += len(versions)
+
+
+def entries_said(told: list[Line]) -> set[tuple[str, str | None, int]]:
+    """All entries that replies said are to be shown: by orders to publish, and by settles of the map's owner."""
+    orders = [it for reply in told for it in reply.get("orders", []) if it["call"] == "publish"]
+    settled = [it for reply in told for settle in reply.get("settle") or [] if settle["server"] is None for it in settle["entries"]]
+    return {(it["shard"], it["to"], it["version"]) for it in (*orders, *settled)}
 
 
 async def look_at_replicas(verdict: Verdict, operator: Operator, journal: Journal) -> None:
@@ -168,55 +207,63 @@ def write_lines(path: Path, lines: list[str]) -> Path:
 
 
 async def run_checker(verdict: Verdict, name: str, directory: Path, *words: str) -> None:
-    """Runs a checker, whose faults and last line become part of the verdict."""
+    """Runs a checker, whose violations and sums become part of the verdict."""
     pipe = asyncio.subprocess.PIPE
     done = await asyncio.create_subprocess_exec(*PYTHON, name, *words, stdout=pipe, stderr=pipe, env={**os.environ, **ENVIRONMENT})
     out, err = await done.communicate()
     lines = out.decode().splitlines()
     write_lines(directory / f"{name}.txt", lines + err.decode().splitlines())
-    if done.returncode == 0 and lines:
-        verdict.counts.update({f"{name.rpartition('.')[2]}: {what}": count for what, count in json.loads(lines[-1]).items() if isinstance(count, int)})
-        return
-    verdict.faults += [f"{name.rpartition('.')[2]}: {it}" for it in lines[:20]] or [f"{name} failed: {err.decode()[-300:]}"]
+    verdict.take(name, lines, err.decode())
 
 
 async def histories_of(cluster: LocalCluster) -> Path:
     """Prints the servers' histories, once they have ended."""
     path = cluster.directory / "histories.jsonl"
-    folders = [str(cluster.directory / it) for it in cluster.shape.server_names if (cluster.directory / it).is_dir()]
+    names = cluster.shape.server_names
+    folders = [str(it) for it in sorted(cluster.directory.iterdir()) if it.is_dir() and it.name.partition(".")[0] in names]
     with path.open("wb") as out:
         done = await asyncio.create_subprocess_exec(*PYTHON, "cluster.servers.history", *folders, stdout=out, env={**os.environ, **ENVIRONMENT})
         await done.wait()
     return path
 
 
-async def judge(cluster: LocalCluster, operator: Operator, program: list[str], reference: list[str] | None, alive: list[str], floors: dict[str, int],
-                permits: list[Line]) -> Verdict:
+def written_lines(journal: Journal, keys: list[str], seen: dict[str, int]) -> list[str]:
+    """The lines of a journal, each with a moment at which it was there, and what it got as a reply that says something of servers."""
+    told = [{it: reply[it] for it in ("approved", "up") if it in reply} for reply in journal.told]
+    return [json.dumps({"t": seen.get(key, NEVER), "line": json.loads(text), "reply": reply}) for key, text, reply in zip(keys, journal.lines, told)]
+
+
+async def judge(cluster: LocalCluster, operator: Operator, program: list[str], reference: list[str] | None, evidence: Evidence) -> Verdict:
     """Looks at everything. Ends the cluster's processes in between."""
     verdict = Verdict()
-    audits = await audits_of(cluster, alive)
-    lines = await read_journal(cluster)
-    journal = await play(program, lines, audits)
-    shown = await map_of(cluster)
+    audits = await audits_of(cluster, evidence.alive)
+    entries = await read_journal(cluster)
+    journal = await play(program, list(entries.values()), audits)
+    shown = await map_of(cluster, evidence.shown, evidence.compacted_at)
     look_at_servers(verdict, journal, audits)
     look_at_map(verdict, journal, shown)
     await look_at_replicas(verdict, operator, journal)
     verdict.replies = journal.replies
     verdict.counts["reopenings replaced"] = journal.replies["reopen: fence"] - journal.replies["settled: opened"]
-    verdict.counts["lines of the journal"] = len(lines)
+    verdict.counts["lines of the journal"] = len(entries)
     verdict.counts["orders"] = len(journal.orders)
     await cluster.end()
     await look_at_reference(verdict, reference, journal)
-    where = cluster.directory
-    write_lines(where / "journal.jsonl", lines)
-    write_lines(where / "replies.txt", [f"{count} {what}" for what, count in journal.replies.items()])
-    (where / "expected.json").write_text(json.dumps(expected_of(journal.state)))
-    (where / "floors.json").write_text(json.dumps(floors))
-    answered = write_lines(where / "answered.jsonl", [it for it in lines if json.loads(it)["do"] == "answered"])
-    orders = write_lines(where / "orders.jsonl", [json.dumps(it) for it in journal.orders])
-    down = write_lines(where / "permits.jsonl", [json.dumps(it) for it in permits])
-    histories = await histories_of(cluster)
-    await run_checker(verdict, "cluster.checkers.servers", where, "--history", str(histories), "--orders", str(orders), "--answered", str(answered),
-                      "--expected", str(where / "expected.json"), "--wants", str(where / "floors.json"), "--permits", str(down))
-    await run_checker(verdict, "cluster.checkers.clients", where, str(where / "clients.jsonl"))
+    await run_checkers(verdict, cluster, journal, list(entries), evidence)
     return verdict
+
+
+async def run_checkers(verdict: Verdict, cluster: LocalCluster, journal: Journal, keys: list[str], evidence: Evidence) -> None:
+    """Writes down what the checkers read, and runs both."""
+    where = cluster.directory
+    write_lines(where / "journal.jsonl", journal.lines)
+    write_lines(where / "replies.txt", [f"{count} {what}" for what, count in journal.replies.items()])
+    documents = {"expected": expected_of(journal.state), "wants": evidence.floors, "loads": {it["shard"]: it["load"] for it in journal.state.get("shards", [])}}
+    answered = [it for it in journal.lines if json.loads(it)["do"] == "answered"]
+    lines = {"orders": [json.dumps(it) for it in journal.orders], "answered": answered, "written": written_lines(journal, keys, evidence.seen),
+             "permits": [json.dumps(it) for it in evidence.permits]}
+    words = [f"--history={await histories_of(cluster)}"]
+    words += [f"--{name}={write_lines(where / f'{name}.json', [json.dumps(it)])}" for name, it in documents.items()]
+    words += [f"--{name}={write_lines(where / f'{name}.jsonl', it)}" for name, it in lines.items()]
+    await run_checker(verdict, "cluster.checkers.servers", where, *words)
+    await run_checker(verdict, "cluster.checkers.clients", where, str(where / "clients.jsonl"))

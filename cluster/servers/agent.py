@@ -13,11 +13,9 @@ from .native import Agent
 LIBRARY = os.environ.get("SM_AGENT")
 chosen = Agent(Path(LIBRARY).resolve()) if LIBRARY else port
 
-judge, begin, abandon, commit, seal, place = (
-    chosen.judge, chosen.begin, chosen.abandon, chosen.commit, chosen.seal, chosen.place)
-has_reached_cut, route, fence, settle, restore, heed = (
-    chosen.has_reached_cut, chosen.route, chosen.fence, chosen.settle, chosen.restore, chosen.heed)
+judge, begin, abandon, commit, seal, has_reached_cut = (
+    chosen.judge, chosen.begin, chosen.abandon, chosen.commit, chosen.seal, chosen.has_reached_cut)
+route, fence, take, heed = chosen.route, chosen.fence, chosen.take, chosen.heed
 forget = port.forget
 
-__all__ = ["VACANT", "judge", "begin", "abandon", "commit", "seal", "place", "has_reached_cut", "route", "fence", "settle", "restore",
-           "heed", "forget"]
+__all__ = ["VACANT", "judge", "begin", "abandon", "commit", "seal", "has_reached_cut", "route", "fence", "take", "heed", "forget"]

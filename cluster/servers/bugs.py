@@ -16,4 +16,9 @@ BUGS = {
     "fence-while-passed": "the server answers a fence while a passed request still runs",
     "cut-unheeded": "a new owner does not take the cut from a request that is passed on, and may follow the old one behind it",
     "change-while-writing": "change to secondary commits while requests run, and before the secondaries have all writes",
+    "acknowledge-alone": "a write is acknowledged before anybody else has it",
+    "impatient": "a write waits a fifth of a second for those who are to have it, and no longer",
+    "answer-before-done": "an order is answered when its work begins",
+    "heed-nothing": "a server that was left behind a reopening keeps its slots",
+    "copy-without-identities": "a copy lacks the identities of the requests that made it",
 }

@@ -24,6 +24,14 @@ class Elsewhere(Exception):
         self.hint = hint
 
 
+class Refused(Exception):
+    """The source sends no copy, and says why."""
+
+
+class BrokenOff(EOFError):
+    """A copy was asked for, and did not come."""
+
+
 class Following:
     """Follows one shard until it is stopped. `joined` is set once it has what there was when it came; unless it is a
     new owner, each write waits for it from then on."""
@@ -77,13 +85,19 @@ class Following:
                 await self.follow(source)
             except Elsewhere as elsewhere:
                 self.hint = elsewhere.hint or self.hint
+            except Refused as why:
+                self.shard.copy_failed(str(why))
+                self.shard.wake()
+            except BrokenOff:
+                self.shard.copy_failed()
             except (OSError, EOFError, TimeoutError):
                 pass
             self.tries += 1
             if self.joined.is_set():
                 pause, self.tries, self.hint = 0.02, 0, source
+                self.shard.copy_came()
             self.joined.clear()
-            await asyncio.sleep(pause)
+            await asyncio.sleep(max(pause, self.shard.rest_before_copy))
             pause = min(pause * 1.5, 0.4)
         if self.shard.following is self:
             self.shard.following = None
@@ -96,7 +110,7 @@ class Following:
             position, chain = (-1, "") if self.is_fresh else (self.shard.position, self.shard.chain)
             ask = {"shard": self.shard.name, "from": self.server.name, "position": position, "chain": chain, "takes_over": self.takes_over()}
             self.writer.write(line_of({"follow": ask}))
-            first = await asyncio.wait_for(read_message(reader), limits.COPYING)
+            first = await self.first_message(reader)
             await self.take_all([first or {"nothere": {}}], source)
             queue: asyncio.Queue[Message | None] = asyncio.Queue()
             reading = asyncio.create_task(self.read(reader, queue))
@@ -106,6 +120,16 @@ class Following:
                 reading.cancel()
         finally:
             self.writer.close()
+
+    async def first_message(self, reader: asyncio.StreamReader) -> Message | None:
+        """What a source says first, none if the connection ended."""
+        try:
+            message = await asyncio.wait_for(read_message(reader), limits.COPYING)
+        except TimeoutError as error:
+            raise BrokenOff from error
+        if message is None and self.is_fresh:
+            raise BrokenOff
+        return message
 
     async def read(self, reader: asyncio.StreamReader, queue: "asyncio.Queue[Message | None]") -> None:
         """Reads ahead, so that writes that came together are stored together."""
@@ -175,6 +199,8 @@ class Following:
             await self.server.seal(shard, **message["seal"])
         elif "moved" in message:
             raise Elsewhere(message["moved"]["to"])
+        elif "toolarge" in message:
+            raise Refused(f"a copy of {shard.name} has {message['toolarge']['bytes']} bytes, and one of at most {message['toolarge']['most']} can be sent")
         else:
             raise Elsewhere(message.get("nothere", {}).get("hint"))
 
@@ -182,9 +208,10 @@ class Following:
         """Puts the source's copy in place of what is here."""
         shard = self.shard
         commands = await self.store.copy_commands(shard.name, copy)
-        await self.store.save(commands, "copy", shard=shard.name, source=source, position=copy["position"])
+        await self.store.save(commands, "copy", shard=shard.name, source=source, position=copy["position"], bytes=sum(map(len, copy["keys"].values())))
         shard.position, shard.chain, shard.members, shard.away = copy["position"], copy["chain"], set(copy["members"]), {}
         self.is_fresh = False
+        shard.copy_came()
 
     async def apply(self, entries: list[Entry]) -> None:
         """Executes writes of the source, all in one transaction."""

@@ -1,7 +1,8 @@
 """Prints what a server did: `python3 -m cluster.servers.history DIR..`, once the server has ended (it starts the
 redis-server of the folder).
 
-Each line of history gets the `server`; the last lines, `data`, tell what the server has of each shard in the end.
+Each line of history gets the `server`; the last lines, `data`, tell what the server has of each shard in the end. A
+folder `a.1` is that of a disk of server a that was replaced: it tells what a did until then.
 """
 from __future__ import annotations
 
@@ -39,8 +40,9 @@ async def history_of(folder: Path) -> list[dict]:
     try:
         await store.load()
         lines = [json.loads(it) for it in await store.redis.call("LRANGE", "history", 0, -1)]
-        lines += [await data_of(store, it) for it in sorted(store.shards)]
-        return [{"server": folder.name, **it} for it in lines]
+        name, dot, _ = folder.name.partition(".")
+        lines += [await data_of(store, it) for it in sorted(store.shards)] if not dot else []
+        return [{"server": name, **it} for it in lines]
     finally:
         store.redis.close()
         child.kill()
@@ -54,5 +56,10 @@ def histories(folders: list[Path]) -> Iterator[dict]:
 
 
 if __name__ == "__main__":
+    # (a server that was rolled back tells the same twice, up to the older copy)
+    printed: set[str] = set()
     for line in histories([Path(it) for it in sys.argv[1:]]):
-        print(json.dumps(line, separators=(",", ":")))
+        text = json.dumps(line, separators=(",", ":"))
+        if text not in printed:
+            printed.add(text)
+            print(text)

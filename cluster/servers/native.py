@@ -6,8 +6,9 @@ import ctypes
 from ctypes import Structure, byref, c_uint32, c_uint64
 from dataclasses import astuple
 from pathlib import Path
+from typing import Mapping
 
-from smplan.agent import Answer, Base, Order, Request, Slot
+from smplan.agent import Answer, Base, Order, Request, Restoration, Settlement, Slot
 
 
 class Record(Structure):
@@ -48,14 +49,29 @@ class RequestRecord(Record):
     _fields_ = fields("handover cut", "party is_passed")
 
 
-class Numbers(Record):
-    """sm_reopening, and the beginnings of sm_settlement and sm_restoration"""
-    _fields_ = fields("first second third fourth", "")
+class ReopeningRecord(Record):
+    """sm_reopening"""
+    _fields_ = fields("journal number", "")
 
 
-class Settlement(Record):
-    """sm_settlement"""
-    _fields_ = fields("journal number nonce", "has_nonce reserved")
+class AssignmentRecord(Record):
+    """sm_assignment"""
+    _fields_ = fields("journal fence number nonce slots", "has_nonce kind")
+
+
+class ShardRecord(Structure):
+    """sm_shard"""
+    _fields_ = [("slot", SlotRecord), ("brought", SlotRecord)]
+
+
+SETTLE, RESTORE = 1, 2
+
+
+def assignment_of(told: Settlement | Restoration, count: int) -> AssignmentRecord:
+    """The struct of a settle or a restore that brings this number of slots."""
+    if isinstance(told, Settlement):
+        return AssignmentRecord(told.journal, 0, told.number, told.nonce or 0, count, told.nonce is not None, SETTLE)
+    return AssignmentRecord(told.journal, told.fence, told.number, told.nonce, count, 1, RESTORE)
 
 
 class Agent:
@@ -94,10 +110,6 @@ class Agent:
         """The slot once a new owner knows the old one's cut."""
         return self.changed("sm_seal", slot, handover, cut)
 
-    def place(self, slot: Slot, brought: Slot) -> Slot:
-        """The slot as a settle or a restore brings it."""
-        return self.changed("sm_place", slot, SlotRecord.of(brought))
-
     def commit(self, base: Base, slot: Slot, order: Order, at: int) -> Slot | None:
         """The slot once the work is committed, None if it is thrown away or its cut is not reached."""
         record = SlotRecord.of(slot)
@@ -130,16 +142,22 @@ class Agent:
 
     def fence(self, base: Base, journal: int, number: int, nonce: int) -> tuple[Answer, Base]:
         """What becomes of a fence."""
-        return self.based("sm_fence", base, Numbers(journal, number), nonce)
+        return self.based("sm_fence", base, ReopeningRecord(journal, number), nonce)
 
-    def settle(self, base: Base, journal: int, number: int, has_nonce: bool, nonce: int) -> tuple[Answer, Base]:
-        """What becomes of a settle."""
-        return self.based("sm_settle", base, Settlement(journal, number, nonce, has_nonce))
-
-    def restore(self, base: Base, journal: int, last_fence: int, number: int, nonce: int) -> tuple[Answer, Base]:
-        """What becomes of a restore."""
-        return self.based("sm_restore", base, Numbers(journal, last_fence, number, nonce))
+    def take(
+        self, base: Base, told: Settlement | Restoration, slots: Mapping[str, Slot], brought: Mapping[str, Slot],
+    ) -> tuple[Answer, Base, dict[str, Slot]]:
+        """What becomes of a settle or a restore, and the base and all slots afterwards."""
+        names = [*{**slots, **brought}]
+        shards = (ShardRecord * len(names))()
+        for shard, name in zip(shards, names):
+            shard.slot, shard.brought = SlotRecord.of(slots.get(name, Slot())), SlotRecord.of(brought.get(name, Slot()))
+        record = BaseRecord.of(base)
+        answer = Answer(self.call("sm_take", record, assignment_of(told, len(brought)), shards, len(names)))
+        if answer != Answer.TAKEN:
+            return answer, base, dict(slots)
+        return answer, Base(*record.members()), {name: Slot(*shard.slot.members()) for name, shard in zip(names, shards)}
 
     def heed(self, base: Base, journal: int, number: int, nonce: int) -> Base:
         """The base once a message has named the last reopening of its journal."""
-        return self.based("sm_heed", base, Numbers(journal, number), nonce)[1]
+        return self.based("sm_heed", base, ReopeningRecord(journal, number), nonce)[1]

@@ -5,7 +5,7 @@ import time
 from dataclasses import replace
 from typing import TYPE_CHECKING
 
-from smplan.agent import Answer, Base, Cell, Slot
+from smplan.agent import Answer, Base, Cell, Restoration, Settlement, Slot
 
 from ..wire import Failed, Message
 from . import agent, limits
@@ -103,10 +103,9 @@ class Reopenings:
             before = self.store.base
             if self.server.bug == "settle-twice" and before.number == told["base"] and before.known:
                 before, name = replace(before, fenced=1), None
-            answer, base = agent.settle(before, int(told["journal"], 16), told["base"], name is not None, int(name or "0", 16))
-            if answer == Answer.TAKEN:
-                await self.take(base, told["slots"], "settle", told.get("nonce"))
-            else:
+            settlement = Settlement(int(told["journal"], 16), told["base"], None if name is None else int(name, 16))
+            answer = await self.take(before, settlement, told, "settle")
+            if answer != Answer.TAKEN:
                 self.store.note("settle-" + answer.name.lower(), base=told["base"])
         if answer not in (Answer.TAKEN, Answer.AGAIN):
             raise Failed("Ignored", "it is not for this server now")
@@ -115,14 +114,13 @@ class Reopenings:
     async def restore(self, told: Message) -> Message:
         """Takes the slots that it asked for under a nonce."""
         async with self.server.changing, AllLocks(self.shards_with(told)):
-            named = self.store.base.nonce if self.server.bug == "restore-without-nonce" else int(told["nonce"], 16)
-            before = self.store.base
+            before, named = self.store.base, int(told["nonce"], 16)
             if self.server.bug == "restore-without-nonce":
-                before = agent.forget(named or 1)
-            answer, base = agent.restore(before, int(told["journal"], 16), told["fence"], told["base"], named or 1)
-            if answer == Answer.TAKEN:
-                await self.take(base, told["slots"], "restore", told["nonce"])
-            else:
+                named = before.nonce or 1
+                before = agent.forget(named)
+            restoration = Restoration(int(told["journal"], 16), told["fence"], told["base"], named or 1)
+            answer = await self.take(before, restoration, told, "restore")
+            if answer != Answer.TAKEN:
                 self.store.note("restore-ignored", nonce=told["nonce"], known=bool(self.store.base.known))
         if answer != Answer.TAKEN:
             raise Failed("Ignored", "it did not ask for this now")
@@ -134,16 +132,21 @@ class Reopenings:
             self.store.shard(slot["shard"])
         return list(self.store.shards.values())
 
-    async def take(self, base: Base, slots: list[Message], kind: str, named: str | None) -> None:
-        """Makes each slot what is brought, in one transaction with the base; what is not brought is absent. All
-        locks are held."""
-        brought = {it["shard"]: it for it in slots}
-        commands, after = [*self.store.base_commands(base), ("DEL", "old_owner")], {}
-        for shard in self.store.shards.values():
-            slot = after[shard.name] = agent.place(shard.slot, self.slot_of(brought.get(shard.name)))
-            commands += self.store.slot_commands(shard.name, slot)
+    async def take(self, before: Base, assignment: Settlement | Restoration, told: Message, kind: str) -> Answer:
+        """Takes a settle or a restore as a whole, or nothing of it. All locks are held."""
+        slots = {it.name: it.slot for it in self.store.shards.values()}
+        answer, base, after = agent.take(before, assignment, slots, {it["shard"]: self.slot_of(it) for it in told["slots"]})
+        if answer == Answer.TAKEN:
+            await self.keep(base, after, kind, told.get("nonce"))
+        return answer
+
+    async def keep(self, base: Base, after: dict[str, Slot], kind: str, named: str | None) -> None:
+        """Makes the base and each slot what they have become, in one transaction. All locks are held."""
+        commands = [*self.store.base_commands(base), ("DEL", "old_owner")]
+        for name, slot in after.items():
+            commands += self.store.slot_commands(name, slot)
             if slot.cell == Cell.ABSENT:
-                commands += await self.store.delete_commands(shard.name)
+                commands += await self.store.delete_commands(name)
         positions = {it.name: it.position for it in self.store.shards.values()}
         told = {name: [STATES[Cell(it.cell)], positions[name]] for name, it in after.items() if it.cell != Cell.ABSENT}
         await self.store.save(commands, kind, base=base.number, slots=told, nonce=hexadecimal(int(named, 16)) if named else None)
@@ -168,9 +171,7 @@ class Reopenings:
         if slot.cell == Cell.ABSENT:
             shard.position, shard.chain, shard.members = 0, "", set()
 
-    def slot_of(self, told: Message | None) -> Slot:
+    def slot_of(self, told: Message) -> Slot:
         """A slot as a settle or a restore brings it."""
-        if told is None:
-            return agent.VACANT
         party = self.server.cluster.servers[told["other"]].number if told.get("other") else 0
-        return Slot(cell=CELLS[told["state"]], party=party, handover=told.get("handover") or 0, load=told["load"])
+        return Slot(cell=CELLS[told["state"]], party=party, handover=told.get("handover") or 0, load=told.get("load") or 0)

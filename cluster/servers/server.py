@@ -192,7 +192,7 @@ class Server:
     async def heed(self, journal: int, number: int) -> None:
         """Looks at the last reopening that a message names: a server that was not settled at it turns Unknown."""
         async with self.changing:
-            if self.store.base.known and not agent.heed(self.store.base, journal, number, 1).known:
+            if self.store.base.known and not agent.heed(self.store.base, journal, number, 1).known and self.bug != "heed-nothing":
                 await self.forget()
 
     async def notice(self, told: Message) -> Message:

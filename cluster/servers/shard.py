@@ -13,6 +13,7 @@ from typing import TYPE_CHECKING, Any
 from smplan.agent import Cell, Slot
 
 from ..wire import text_of
+from . import limits
 
 if TYPE_CHECKING:
     from .following import Following
@@ -73,12 +74,32 @@ class Shard:
     work: "Work | None" = None
     source: str | None = None
     term: int = 0
+    # (how many copies of it came to nothing one after the other, why the last one was refused, and when the next one may be asked for)
+    copies_failed: int = 0
+    refusal: str = ""
+    next_copy: float = 0.0
+    # (at the source: the bytes of a copy that was too large, and until when none is made)
+    too_large: tuple[int, float] = (0, 0.0)
 
     def expect(self, members: set[str]) -> None:
         """Begins as a source: who was connected to the one before has yet to come; who was away is away."""
         now = time.monotonic()
         self.seen = {it: now - self.away.get(it, 0.0) for it in members}
         self.away = {}
+
+    def copy_failed(self, refusal: str = "") -> None:
+        """A copy has come to nothing: the next one is asked for later, and later each time."""
+        rest = min(limits.RESTING * 2 ** self.copies_failed, limits.RESTING_AT_MOST)
+        self.copies_failed, self.refusal, self.next_copy = self.copies_failed + 1, refusal, time.monotonic() + rest
+
+    def copy_came(self) -> None:
+        """A copy has come."""
+        self.copies_failed, self.refusal, self.next_copy = 0, "", 0.0
+
+    @property
+    def rest_before_copy(self) -> float:
+        """In how many seconds the next copy may be asked for."""
+        return max(0.0, self.next_copy - time.monotonic())
 
     def wake(self) -> None:
         """Lets all who wait look again."""

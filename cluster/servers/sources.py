@@ -78,10 +78,11 @@ class Sources:
                 writer.write(line_of({"moved": {"to": party}}))
                 return None
             tail = await self.store.tail_after(shard, ask["position"], ask["chain"])
-            if tail is None:
-                writer.write(line_of({"copy": await self.store.copy_of(shard)}))
-            else:
-                writer.write(line_of({"tail": [it.text() for it in tail]}))
+            first = await self.copy_line(shard) if tail is None else line_of({"tail": [it.text() for it in tail]})
+            if first is None:
+                writer.write(line_of({"toolarge": {"bytes": shard.too_large[0], "most": limits.LARGEST_COPY}}))
+                return None
+            writer.write(first)
             stream = Stream(name, writer, shard.position, ask["takes_over"])
             before = shard.streams.get(name)
             if before is not None:
@@ -90,6 +91,21 @@ class Sources:
             if shard.slot.cell == Cell.FORWARDING:
                 stream.send(self.seal(shard))
         return stream
+
+    async def copy_line(self, shard: Shard) -> bytes | None:
+        """A copy of a shard as a line; none if it is too large, or was a moment ago: it would hold requests back for nothing. The shard's lock is held."""
+        now = time.monotonic()
+        if now < shard.too_large[1]:
+            return None
+        copy = await self.store.copy_of(shard)
+        if self.server.bug == "copy-without-identities":
+            copy["done"] = {}
+        line = line_of({"copy": copy})
+        if len(line) <= limits.LARGEST_COPY:
+            return line
+        shard.too_large = (len(line), now + limits.TOO_LARGE_FOR)
+        self.store.note("copy-too-large", shard=shard.name, bytes=len(line))
+        return None
 
     async def join(self, shard: Shard, stream: Stream) -> None:
         """The follower has what there was when it came, and is told so; from now on each write waits for it, unless
@@ -170,21 +186,25 @@ class Sources:
         now = time.monotonic()
         return {it: now - shard.seen.get(it, self.start) for it in shard.members - {self.server.name} if it not in shard.streams}
 
-    def without(self, shard: Shard, position: int) -> list[str]:
-        """Who ought to have the writes up to a position, and has not acknowledged them, alive or not."""
-        streams = shard.streams
-        return sorted(it for it in shard.members - {self.server.name} if it not in streams or streams[it].acked < position)
+    def without(self, shard: Shard, position: int) -> dict[str, float]:
+        """Who ought to have the writes up to a position, and has not acknowledged them, alive or not, and for how many seconds each has been away."""
+        now, streams = time.monotonic(), shard.streams
+        missing = sorted(it for it in shard.members - {self.server.name} if it not in streams or streams[it].acked < position)
+        return {it: now - shard.seen.get(it, self.start) for it in missing}
 
     async def replicated(self, shard: Shard, position: int, term: int) -> None:
         """Waits until all who are alive have the writes up to a position, or the term has ended."""
+        if self.server.bug == "acknowledge-alone":
+            return
         silent_at = time.monotonic() + limits.SILENT_AFTER
-        while shard.term == term and (lacking := self.lacking(shard, position)):
+        impatient_at = time.monotonic() + (0.2 if self.server.bug == "impatient" else 3600)
+        while shard.term == term and (lacking := self.lacking(shard, position)) and time.monotonic() < impatient_at:
             if time.monotonic() > silent_at:
                 self.give_up(shard, lacking)
                 silent_at += limits.SILENT_AFTER
             await shard.look_again(time.monotonic() + 1)
         missing = self.without(shard, position)
-        if missing:
+        if missing and shard.term == term:
             self.store.note("alone", shard=shard.name, position=position, without=missing)
 
     def give_up(self, shard: Shard, names: list[str]) -> None:

@@ -215,7 +215,9 @@ class Store:
 
     async def tail_after(self, shard: Shard, position: int, chain: str) -> list[Entry] | None:
         """The writes behind a position, None if they are not all kept, or if the other one's writes up to there were
-        others."""
+        others, or if it has none (-1)."""
+        if position < 0:
+            return None
         if position >= shard.position:
             return [] if (position, chain) == (shard.position, shard.chain) else None
         texts = await self.redis.call("LRANGE", f"tail:{shard.name}", -(shard.position - position) - 1, -1)

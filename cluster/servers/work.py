@@ -71,7 +71,8 @@ class Orders:
         if verdict in (Answer.BEGIN, Answer.WORKING):
             if work is None:
                 raise Failed("GivenUp", "nobody works")
-            await asyncio.shield(work.done)
+            if self.server.bug != "answer-before-done":
+                await asyncio.shield(work.done)
         elif verdict != Answer.AGAIN:
             self.store.note("order-" + verdict.name.lower().replace("_", "-"), shard=shard.name, number=order.number, last=shard.slot.last)
             raise Failed(TURNED_AWAY.get(verdict, "Refused"), REFUSALS.get(verdict, ""))
@@ -181,6 +182,7 @@ class Orders:
 
     async def copy(self, shard: Shard, work: Work) -> None:
         """Copies the shard, and follows its writes from then on."""
+        self.refuse(shard)
         async with shard.lock:
             if shard.work is not work:
                 raise Failed("GivenUp", "thrown away")
@@ -188,10 +190,16 @@ class Orders:
                 shard.following.stop()
             hint = party_of(work.told) or work.told.get("primary")
             following = shard.following = Following(self.server, shard, hint, is_fresh=True)
-        try:
-            await asyncio.wait_for(following.joined.wait(), limits.COPYING)
-        except TimeoutError as error:
-            raise Failed("GivenUp", "nobody gives a copy") from error
+        deadline = time.monotonic() + limits.COPYING
+        while not following.joined.is_set():
+            if not await shard.look_again(deadline):
+                raise Failed("GivenUp", "nobody gives a copy")
+            self.refuse(shard)
+
+    def refuse(self, shard: Shard) -> None:
+        """Gives work up for which a copy was refused, until the next one may be asked for."""
+        if shard.refusal and (rest := shard.rest_before_copy):
+            raise Failed("GivenUp", f"{shard.refusal}; it is asked for again in {rest:.0f} s")
 
     # -- the commit
 

@@ -11,6 +11,7 @@ ROOT = Path(__file__).resolve().parents[2]
 sys.path[:0] = [str(ROOT), str(ROOT / "python")]
 from cluster.checkers.clients import check  # noqa: E402  (the paths come first)
 from cluster.checkers.servers import STEP, Checker  # noqa: E402
+from cluster.checkers.truth import Past, Truth  # noqa: E402
 
 # -- what clients saw: a line is (client, start, end, value or list, reply)
 
@@ -58,6 +59,32 @@ WRONG_CLIENTS = {
 WRONG_CLIENTS["stands before"] = (("a", 0, 1, "x", 2), ("b", 5, 6, "y", 1), ("c", 9, 9, None, ["y", "x"]))
 
 
+def text_lines(*told) -> list[dict]:
+    """Lines of the history of a text: (start, end, number that is set, whether it is acknowledged) or (start, end, None, number that is read); the last is final."""
+    lines = []
+    for start, end, number, reply in told:
+        line = {"client": "c", "op": "get" if number is None else "set", "shard": "s", "key": "s:text", "start": start, "end": end}
+        lines.append(line | ({} if number is None else {"value": number}) | ({} if reply is None else {"reply": reply}))
+    lines[-1]["final"] = True
+    return lines
+
+
+RIGHT_TEXTS = {
+    "a text that is set twice": ((0, 1, 1, "OK"), (2, 3, None, 1), (4, 5, 2, "OK"), (6, 7, None, 2)),
+    "a read while a text is set, with either": ((0, 1, 1, "OK"), (2, 9, 2, "OK"), (3, 4, None, 1), (5, 6, None, 2), (10, 11, None, 2)),
+    "a set without reply that comes late": ((0, 1, 1, None), (2, 3, 2, "OK"), (4, 5, None, 2), (6, 7, None, 1)),
+    "a read before anything was set": ((0, 1, None, 0), (0, 9, 1, "OK"), (10, 11, None, 1)),
+}
+WRONG_TEXTS = {
+    "set by nobody": ((0, 1, 1, "OK"), (2, 3, None, 5)),
+    "before it was set": ((0, 1, None, 1), (4, 5, 1, "OK"), (6, 7, None, 1)),
+    "a later one had been acknowledged": ((0, 1, 1, "OK"), (2, 3, 2, "OK"), (4, 5, None, 1)),
+    "or read before": ((0, 1, 1, "OK"), (2, 30, 2, None), (3, 4, None, 2), (5, 6, None, 1)),
+    "text 0 was read": ((0, 1, 1, "OK"), (4, 5, None, 0)),
+    "text: nobody could read": ((0, 1, 1, "OK"), (4, 5, None, None)),
+}
+
+
 # -- what servers did
 
 class History:
@@ -97,7 +124,7 @@ class History:
 
     def found(self, **data) -> list[str]:
         """What the servers' checker finds."""
-        checker = Checker({"s": 1})
+        checker = Checker({"s": 1}, data.get("loads"))
         checker.walk(self.lines)
         checker.look_at_data({"kind": "data", "shard": "s", "known": True, "base": STEP, **it} for it in data.get("data", ()))
         if "orders" in data:
@@ -129,6 +156,64 @@ def started(it: History, nonce: str) -> History:
     return it.add("b", "start", loses_slots=False, known=False, at_work=0, nonce=nonce)
 
 
+def early(it: History) -> History:
+    """The second order of a handover begins before the first one is done."""
+    more = {"shard": "s", "plan": 0, "stream": 0}
+    it.add("b", "begin", **more, number=STEP + 1, call="prepare_add").add("a", "begin", **more, number=STEP + 2, call="prepare_drop")
+    return it.add("b", "commit", **more, number=STEP + 1, call="prepare_add", state="prepared", position=0, used=1, room=9).add(
+        "a", "commit", **more, number=STEP + 2, call="prepare_drop", state="forwarding", position=0, used=1, room=9)
+
+
+def replicas(*positions: int) -> list[dict]:
+    """What a primary and a secondary have in the end, after the only write."""
+    return [{"server": server, "state": state, "position": position, "values": {"k": ["x"]} if position else {}}
+            for server, state, position in zip("ab", ("primary", "secondary"), positions)]
+
+
+def with_secondary(it: History) -> History:
+    """The shard has a secondary, before anything is written."""
+    return it.order("b", "add", "secondary", position=0)
+
+
+def untrue(it: History, line: dict, time: int, **reply: object) -> list[str]:
+    """What is not true of a line that was seen at a moment."""
+    truth = Truth(Past.of(it.lines), [order_line("b", 1)])
+    truth.permits[7] = "b"
+    truth.look(line, reply, time)
+    return truth.faults
+
+
+DONE = {"do": "answered", "plan": 0, "stream": 0, "number": STEP + 1}
+TOLD = {"do": "fenced", "server": "a", "base": 2 * STEP, "slots": [{"shard": "s", "cell": "primary"}]}
+UP = {"do": "restarted", "permit": 7, "base": STEP}
+
+
+def fenced_with(it: History, state: str) -> History:
+    """Another fence, at which a has the shard in some state."""
+    return it.add("a", "fence", base=2 * STEP, slots={"s": [state, 0]}, at_work=0, nonce="ma")
+
+
+RIGHT_TRUTHS = {
+    "an answer behind the commit": lambda it: untrue(it.order("b", "prepare_add", "prepared"), DONE, 8),
+    "an inventory that names what is absent": lambda it: untrue(
+        fenced_with(it, "primary"), {**TOLD, "slots": [*TOLD["slots"], {"shard": "t", "cell": "absent"}]}, 9),
+    "an inventory": lambda it: untrue(fenced_with(it, "primary"), TOLD, 9),
+    "an inventory of an Unknown server": lambda it: untrue(it, {"do": "fenced", "server": "b", "base": STEP, "unknown": "mb"}, 9),
+    "a settle that was taken": lambda it: untrue(it, {"do": "settled", "server": "b", "base": STEP}, 9),
+    "a server that is up": lambda it: untrue(it, UP, 9, up="b"),
+    "a server that asks for its slots": lambda it: untrue(it.add("b", "forget", nonce="k"), {"do": "restore", "server": "b", "nonce": "k"}, 9),
+    "a restart that is refused": lambda it: untrue(it.add("b", "forget", nonce="k"), {**UP, "base": None}, 9, refused={}),
+}
+WRONG_TRUTHS = {
+    "did prepare_add s": lambda it: untrue(it.order("b", "prepare_add", "prepared"), DONE, 6),
+    "has not done prepare_add s": lambda it: untrue(it, DONE, 9),
+    "was not fenced by then": lambda it: untrue(fenced_with(it, "primary"), TOLD, 5),
+    "a had secondary of s, and not primary": lambda it: untrue(fenced_with(it, "secondary"), TOLD, 9),
+    "had no such nonce": lambda it: untrue(it, {"do": "fenced", "server": "b", "base": STEP, "unknown": "k"}, 9),
+    "had not taken the settle": lambda it: untrue(fenced_with(it, "primary"), {"do": "settled", "server": "a", "base": 2 * STEP}, 9),
+    "had not the base": lambda it: untrue(it, {**UP, "base": STEP + 5}, 9, up="b"),
+    "had made no such nonce": lambda it: untrue(it, {"do": "restore", "server": "b", "nonce": "k"}, 9),
+}
 ANSWERED = [{"plan": 0, "stream": 0, "number": STEP + 1}]
 RIGHT_SERVERS = {
     "a handover": lambda it: it.write("a").handover().write("b").found(),
@@ -139,10 +224,17 @@ RIGHT_SERVERS = {
         {"s": ["primary", 1]}, {}).write("a", 2).found(),
     "answers": lambda it: it.order("b", "prepare_add", "prepared").found(orders=[order_line("b", 1)], answered=ANSWERED),
     "a restart of a server that has nothing": lambda it: it.add("b", "permit", down=True).add("b", "permit", down=False).found(),
-    "a drop of the last replica, once a server was given up": lambda it: it.add("b", "lost").order("a", "drop", "absent").found(),
+    "a drop of the last replica, once a server was given up": lambda it: with_secondary(it).add("b", "lost").order("a", "drop", "absent").found(),
     "an Unknown server that starts, and meets the fence of before": lambda it: started(
         it.add("b", "forget", before=STEP, nonce="k").add("b", "fence", base=2 * STEP, slots={}, at_work=0, nonce="m"), "n")
         .add("b", "fence", base=2 * STEP, slots={}, at_work=0, nonce="o").found(),
+    "a server that is given up, and a drop of one of three replicas": lambda it: with_secondary(it).add("b", "lost").found(),
+    "a reopening that leaves a replica": lambda it: settled(fenced(with_secondary(it)), {"s": ["primary", 0]}, {}).order(
+        "b", "add", "secondary", number=2 * STEP + 1, position=0).found(),
+    "a restart": lambda it: with_secondary(it).add("a", "permit", down=True).add("a", "permit", down=False).found(),
+    "loads": lambda it: with_secondary(it).found(loads={"s": 1}),
+    "a write without a member that is long gone": lambda it: it.write("a").add("a", "alone", shard="s", position=1, without={"b": 3.2}).found(),
+    "a replica that has all": lambda it: with_secondary(it).write("a", identity="x").found(data=replicas(1, 1)),
     "a restore": lambda it: it.add("b", "forget", before=STEP, nonce="k").add("b", "restore", base=STEP + 1, slots={}, nonce="k").found(),
 }
 WRONG_SERVERS = {
@@ -157,6 +249,14 @@ WRONG_SERVERS = {
     "has 0 replicas": lambda it: it.order("a", "drop", "absent").found(),
     "s has 0 replicas": lambda it: it.add("a", "permit", down=True).found(),
     "0 replicas": lambda it: it.order("a", "drop", "absent").add("b", "lost").found(),
+    "b s at 10: s has 0 replicas": lambda it: settled(fenced(it), {}, {}).order("b", "prepare_add", "prepared", number=2 * STEP + 1).found(),
+    "b  at 9: s has 0 replicas": lambda it: started(with_secondary(it).add("a", "permit", down=True).add("b", "permit", down=True), "n").add(
+        "b", "permit", down=False).found(),
+    "a  at 7: s has 0 replicas": lambda it: it.add("b", "lost").add("a", "permit", down=True).found(),
+    "than the room": lambda it: with_secondary(it).found(loads={"s": 10}),
+    "before order": lambda it: early(it).found(),
+    "had been away for 0.2 s": lambda it: it.write("a").add("a", "alone", shard="s", position=1, without={"b": 0.2}).found(),
+    "0 writes of 1": lambda it: with_secondary(it).write("a", identity="x").found(data=replicas(1, 0)),
     "by a server that is absent": lambda it: it.write("b").found(),
     "by a server that is prepared": lambda it: it.order("b", "prepare_add", "prepared").write("b").found(),
     "by a server that is forwarding": lambda it: it.order("b", "prepare_add", "prepared").order("a", "prepare_drop", "forwarding").write("a").found(),
@@ -188,11 +288,20 @@ def main() -> int:
         if text == "nobody could read":
             del lines[-1]["final"]
         wrong += report(text, found_by_clients(lines), text)
+    for name, told in RIGHT_TEXTS.items():
+        wrong += report(name, found_by_clients(text_lines(*told)), None)
+    for text, told in WRONG_TEXTS.items():
+        wrong += report(text, found_by_clients(text_lines(*told)), text)
     for name, tell in RIGHT_SERVERS.items():
         wrong += report(name, tell(History()), None)
     for text, tell in WRONG_SERVERS.items():
         wrong += report(text, tell(History()), text)
-    print(f"{len(RIGHT_CLIENTS) + len(RIGHT_SERVERS)} right histories, {len(WRONG_CLIENTS) + len(WRONG_SERVERS)} wrong ones, {wrong} taken for the other")
+    for name, tell in RIGHT_TRUTHS.items():
+        wrong += report(name, tell(History()), None)
+    for text, tell in WRONG_TRUTHS.items():
+        wrong += report(text, tell(History()), text)
+    rights, wrongs = (RIGHT_CLIENTS, RIGHT_TEXTS, RIGHT_SERVERS, RIGHT_TRUTHS), (WRONG_CLIENTS, WRONG_TEXTS, WRONG_SERVERS, WRONG_TRUTHS)
+    print(f"{sum(map(len, rights))} right histories, {sum(map(len, wrongs))} wrong ones, {wrong} taken for the other")
     return 1 if wrong else 0
 
 

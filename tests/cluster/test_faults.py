@@ -1,27 +1,34 @@
 """The proxies, and the figures of a run."""
 import asyncio
 import gc
+import io
 import json
 import logging
+import tempfile
+import time
 import unittest
 from collections import Counter
+from pathlib import Path
 from types import SimpleNamespace
 
 from cluster.catch import PARTS, PARTS_OF, most_telling
 from cluster.clients.__main__ import load_of
-from cluster.clients.load import Load
+from cluster.clients.load import Generator, Load
 from cluster.faults.__main__ import release, sending
 from cluster.faults.dice import Dice, Rates
 from cluster.faults.handovers import HandoverStory
+from cluster.faults.parts import EVERY, LOSSES, OUTSIDE, drawn, storm_of
 from cluster.faults.proxies import Link, open_proxy
-from cluster.launch.figures import handover_waits, order_waits, unacknowledged
+from cluster.launch.figures import order_waits, unacknowledged
 from cluster.launch.moving import Mover
 from cluster.launch.operator import Operator
 from cluster.launch.processes import Ports
 from cluster.launch.shape import Shape, document_of
 from cluster.launch.situations import SITUATIONS, situations_of
-from cluster.servers.following import Following
-from cluster.storm import parts_of
+from cluster.servers.following import BrokenOff, Following
+from cluster.servers.shard import Shard
+from cluster.servers.work import Orders
+from cluster.wire import Cluster, Failed
 from smplan.agent import Cell, Slot
 
 
@@ -182,6 +189,47 @@ class ProxyTest(unittest.IsolatedAsyncioTestCase):
         self.assertNotEqual(found, sorted(found))
         self.assertTrue(counts["order repeated"] and counts["order delayed"])
 
+    async def answers_through(self, relay, mute_for):
+        """A proxy that is mute for some seconds: what came to the far end, and what came back, before and after the end of that."""
+        ports, found = Ports(), []
+        far, near = ports.take(2)
+
+        async def answer(reader, writer):
+            """Answers each line."""
+            while line := await reader.readline():
+                found.append(line)
+                writer.write(b"answer to " + line)
+            writer.close()
+
+        server = await asyncio.start_server(answer, "127.0.0.1", far)
+        link = Link("peer a b", Dice(1, "peer a b", Rates(), Counter()), "127.0.0.1", far, is_mute=True)
+        proxy = await open_proxy(near, relay, link)
+        reader, writer = await asyncio.open_connection("127.0.0.1", near)
+        writer.write(b"one\n")
+        await self.until(lambda: found)
+        with self.assertRaises(TimeoutError):
+            await asyncio.wait_for(reader.readexactly(1), mute_for)
+        link.is_mute = False
+        writer.write(b"two\n")
+        back = [await asyncio.wait_for(reader.readline(), 5)]
+        try:
+            back.append(await asyncio.wait_for(reader.readline(), 0.5))
+        except TimeoutError:
+            pass
+        writer.close()
+        await writer.wait_closed()
+        await asyncio.sleep(0.3)
+        server.close()
+        proxy.close()
+        ports.end()
+        return found, back
+
+    async def test_answers_in_lines_are_lost_on_a_mute_link(self):
+        self.assertEqual(await self.answers_through("lines", 0.3), ([b"one\n", b"two\n"], [b"answer to two\n"]))
+
+    async def test_bytes_come_once_a_link_is_mute_no_more(self):
+        self.assertEqual(await self.answers_through("bytes", 0.3), ([b"one\n", b"two\n"], [b"answer to one\n", b"answer to two\n"]))
+
     def test_dice_of_one_seed_roll_the_same(self):
         def rolls(seed):
             dice = Dice(seed, "order k a", Rates(drop=0.5), Counter())
@@ -231,9 +279,33 @@ class LoadTest(unittest.TestCase):
     """How much is asked for."""
 
     def test_each_word_says_what_it_names(self):
-        words = "--cluster f --history h --shards s,t --clients 3 --keys 4 --reads 0.5 --stray 0.25 --pause 0.75 --seed 1001"
+        words = "--cluster f --history h --shards s,t --clients 3 --keys 4 --reads 0.5 --stray 0.25 --pause 0.75 --hot-clients 2 --moving m --largest 900 --seed 1001"
         _, load = load_of(words.split())
-        self.assertEqual(load, Load(shards=("s", "t"), clients=3, keys=4, reads=0.5, stray=0.25, pause=0.75, seed=1001))
+        self.assertEqual(load, Load(shards=("s", "t"), clients=3, keys=4, reads=0.5, stray=0.25, pause=0.75, hot_clients=2, moving="m", largest=900, seed=1001))
+
+
+class MovingTest(unittest.IsolatedAsyncioTestCase):
+    """Clients that use what is being moved."""
+
+    async def test_clients_read_what_the_mover_names(self):
+        with tempfile.TemporaryDirectory() as folder:
+            path = Path(folder) / "moving"
+            mover, generator = Mover(None, 1), Generator(Cluster(), Load(("s", "t", "u"), moving=str(path)), io.StringIO())
+            tasks = [asyncio.create_task(mover.tell_moves(path)), asyncio.create_task(generator.follow_moves())]
+            try:
+                for busy in ({"t", "s"}, {"u"}, set()):
+                    mover.busy = busy
+                    await self.until(lambda: generator.moving == tuple(sorted(busy)))
+            finally:
+                for task in tasks:
+                    task.cancel()
+                await asyncio.gather(*tasks, return_exceptions=True)
+
+    async def until(self, is_so):
+        """Waits until something is so."""
+        async with asyncio.timeout(5):
+            while not is_so():
+                await asyncio.sleep(0.01)
 
 
 class OperatorTest(unittest.IsolatedAsyncioTestCase):
@@ -268,8 +340,23 @@ class PartsTest(unittest.TestCase):
     """What happens in runs."""
 
     def test_there_is_something_to_do_each(self):
-        for parts in (PARTS, *PARTS_OF.values(), *(parts_of(seed) for seed in range(6))):
+        for parts in (PARTS, *PARTS_OF.values(), *(storm_of(seed) for seed in range(6)), tuple((0.0, it) for it in (*EVERY, *OUTSIDE))):
             self.assertEqual([name for _, name in parts if name != "drain" and not hasattr(HandoverStory, name)], [])
+
+    def test_storms_draw_each_part_and_none_that_the_rules_do_not_survive(self):
+        names = [[name for _, name in storm_of(seed)] for seed in range(200)]
+        runs = Counter(name for it in names for name in set(it))
+        self.assertEqual(set(runs), set(EVERY))
+        self.assertGreater(min(runs.values()), 30)
+        self.assertLessEqual(max(sum(name in LOSSES for name in it) for it in names), 2)
+        self.assertEqual(storm_of(7), storm_of(7))
+
+    def test_a_draw_is_by_its_seed(self):
+        self.assertEqual(drawn(5, 4), drawn(5, 4))
+        for seed in range(50):
+            names = [name for _, name in drawn(seed, 4)]
+            self.assertEqual((len(set(names)), [it in LOSSES for it in names]), (4, [False, False, False, True]))
+        self.assertEqual(len({drawn(seed, 4) for seed in range(20)}), 20)
 
     def test_what_a_checker_found_is_told_first(self):
         slow = ["plans that have not come to their end: p", "the map names a for s, and is to name b"]
@@ -310,6 +397,39 @@ class SourceTest(unittest.TestCase):
     def test_each_of_the_others_is_asked_in_turn(self):
         self.assertEqual((self.asked(None, 6), self.asked("b", 6)), ("acdacd", "acdacd"))
         self.assertEqual(self.asked("c", 6), "cacccd")
+
+
+class CopyTest(unittest.IsolatedAsyncioTestCase):
+    """Copies that do not come."""
+
+    async def test_a_copy_that_broke_off(self):
+        following = object.__new__(Following)
+        for following.is_fresh, is_broken in ((True, True), (False, False)):
+            reader = asyncio.StreamReader()
+            reader.feed_eof()
+            if is_broken:
+                with self.assertRaises(BrokenOff):
+                    await following.first_message(reader)
+            else:
+                self.assertIsNone(await following.first_message(reader))
+
+    def test_the_next_one_is_asked_for_later_each_time(self):
+        shard = Shard("s", Slot())
+        for rest in (0.25, 0.5, 1.0, 2.0, 4.0, 8.0, 16.0, 16.0, 16.0):
+            begun = time.monotonic()
+            shard.copy_failed("too large")
+            self.assertTrue(rest <= shard.next_copy - begun < rest + 0.2)
+        shard.copy_came()
+        self.assertEqual((shard.rest_before_copy, shard.refusal), (0.0, ""))
+
+    def test_work_is_given_up_while_a_refusal_stands(self):
+        orders, shard = object.__new__(Orders), Shard("s", Slot())
+        orders.refuse(shard)
+        shard.copy_failed()
+        orders.refuse(shard)
+        shard.copy_failed("too large")
+        with self.assertRaisesRegex(Failed, "GivenUp: too large; it is asked for again in"):
+            orders.refuse(shard)
 
 
 class LossTest(unittest.IsolatedAsyncioTestCase):
@@ -358,16 +478,16 @@ class SituationsTest(unittest.TestCase):
     def test_situations(self):
         order = {"number": 5, "plan": 0, "stream": 0}
         events = [
-            self.event(1, "begin", call="prepare_drop", **order), self.event(3, "commit", call="prepare_drop", **order),
+            self.event(1, "begin", call="prepare_drop", **order), self.event(3, "commit", call="prepare_drop", state="forwarding", **order),
             self.event(4, "seal"), self.event(5, "order-again", number=5),
-            self.event(6, "begin", call="drop", **{**order, "number": 7}), self.event(8, "commit", call="drop", **{**order, "number": 7}),
-            self.event(9, "order-again", number=5), self.event(10, "begin", call="add", number=9), self.event(11, "fence", nonce="0000"),
-            self.event(12, "begin", call="add", number=11), self.event(13, "start", nonce="7"), self.event(14, "order-old", number=5),
+            self.event(6, "begin", call="drop", **{**order, "number": 7}), self.event(8, "commit", call="drop", state="absent", **{**order, "number": 7}),
+            self.event(9, "order-again", number=5), self.event(10, "begin", call="add", number=9), self.event(11, "fence", nonce="0000", base=1),
+            self.event(12, "begin", call="add", number=11), self.event(13, "start", nonce="7", known=False), self.event(14, "order-old", number=5),
             self.event(15, "forget", nonce="8"), self.event(16, "restore-ignored", nonce="0007", known=False), self.event(17, "restore-ignored", nonce="8", known=True),
             self.event(18, "order-at-work", call="add", number=13), self.event(19, "order-at-work", call="drop", number=15),
-            self.event(20, "fence", nonce="9"), self.event(21, "settle"), self.event(22, "restore", nonce="0"),
-            self.event(23, "forget", nonce="a"), self.event(24, "fence", nonce="b"), self.event(25, "restore", nonce="b"),
-            self.event(26, "restore-ignored", nonce="a", known=True), self.event(27, "start", nonce="c"), self.event(28, "restore-ignored", nonce="b", known=False),
+            self.event(20, "fence", nonce="9", base=2), self.event(21, "settle", base=2), self.event(22, "restore", nonce="0"),
+            self.event(23, "forget", nonce="a"), self.event(24, "fence", nonce="b", base=3), self.event(25, "restore", nonce="b"),
+            self.event(26, "restore-ignored", nonce="a", known=True), self.event(27, "start", nonce="c", known=False), self.event(28, "restore-ignored", nonce="b", known=False),
         ]
         found = situations_of(events, Counter({"restarted: ignored": 2}), Counter())
         self.assertEqual(found["an order answered again after its stream went on"], 1)
@@ -378,15 +498,31 @@ class SituationsTest(unittest.TestCase):
         self.assertEqual((found["a restore that comes late"], found["a restore of an earlier restart that comes late"]), (4, 2))
         self.assertEqual((found["a repetition while work runs"], found["a repetition while a copy runs"]), (2, 1))
         self.assertLessEqual(set(found), set(SITUATIONS))
-        self.assertEqual(handover_waits([{**it, "t": it["t"] * 1e9} for it in events]), [3.0])
+
+    def test_a_restart_amid_a_reopening(self):
+        fence, settle = self.event(1, "fence", nonce="0", base=5), self.event(9, "settle", base=5)
+        found = [situations_of([fence, self.event(t, "start", nonce="7", known=False), settle], Counter(), Counter())["a restart amid a reopening"] for t in (0, 4, 10)]
+        self.assertEqual(found, [0, 1, 0])
+
+    def test_a_new_owner_that_is_lost_behind_the_cut(self):
+        order = {"number": 3, "plan": 0, "stream": 0}
+        begun = [self.event(1, "commit", call="prepare_add", state="prepared", **order), self.event(2, "execute", passed="b")]
+        taken = self.event(3, "commit", call="add", state="primary", **order)
+        ends = ([], [taken], [taken, self.event(4, "execute", passed="b")], [self.event(3, "settle", base=5)], [self.event(3, "read")])
+        found = [situations_of([*begun, *it], Counter(), Counter())["a new owner lost behind the cut"] for it in ends]
+        self.assertEqual((found, situations_of(begun[:1], Counter(), Counter())["a new owner lost behind the cut"]), ([1, 0, 0, 0, 1], 0))
+
+    def test_what_the_story_counts(self):
+        found = situations_of([], Counter(), Counter({"disks replaced": 1, "servers stopped": 2}))
+        self.assertEqual(found, Counter({"a disk replaced": 1, "a server stopped": 2}))
 
     def test_orders_after_a_death(self):
         events = [{"kind": "begin", "t": it * 10**9} for it in (1, 3, 8)]
         self.assertEqual(order_waits(events, [25 * 10**8, 9 * 10**9]), [5.5])
 
     def test_requests_without_a_reply(self):
-        lines = [{"shard": "s0", "reply": 1}, {"shard": "s0"}, {"shard": "s1"}]
-        self.assertEqual((unacknowledged(lines, {"s1"}), unacknowledged(lines, set())), (1, 2))
+        lines = [{"shard": "s0", "reply": 1, "end": 5}, {"shard": "s0", "end": 5}, {"shard": "s1", "end": 5}, {"shard": "s1", "end": 9}]
+        self.assertEqual([unacknowledged(lines, it) for it in ({"s1": 8}, {"s1": 4}, {})], [2, 1, 3])
 
     def test_situations_are_json(self):
         self.assertEqual(json.loads(json.dumps(situations_of([], Counter(), Counter()))), {})

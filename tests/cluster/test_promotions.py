@@ -10,7 +10,8 @@ from types import SimpleNamespace
 
 ROOT = Path(__file__).resolve().parents[2]
 sys.path[:0] = [str(ROOT), str(ROOT / "python"), str(ROOT / "tools")]
-from cluster.faults.reopenings import ReopeningStory  # noqa: E402  (the paths come first)
+from cluster.faults.absences import AbsenceStory  # noqa: E402  (the paths come first)
+from cluster.faults.reopenings import ReopeningStory, lacking, without  # noqa: E402  (the paths come first)
 from cluster.launch.plans import move_stream, plan_of, swap_stream  # noqa: E402
 from cluster.launch.shape import Shape  # noqa: E402
 from smpland_model.session import Session  # noqa: E402
@@ -75,6 +76,54 @@ class PromotionTest(unittest.IsolatedAsyncioTestCase):
         self.assertEqual(sorted("refused" in it for it in operator.replies.values()), [False, True])
         primaries = {it["shard"]: sum(cell["state"] == "primary" for cell in it["cells"]) for it in operator.state()["shards"]}
         self.assertEqual(primaries, {"bare": 1, "moved": 1, "swapped": 1})
+
+
+class SecondariesTest(unittest.IsolatedAsyncioTestCase):
+    """A server that is to have secondaries alone, so that it may be carried over a reopening."""
+
+    async def test_others_take_its_primaries(self):
+        cells = [{"server": "a", "state": "primary"}, {"server": "b", "state": "secondary"}]
+        shards = [{"name": it, "load": 1, "want": 2, "cap": 1, "spread": 1, "listed": "a", "cells": cells} for it in ("s", "t")]
+        operator = SessionOperator(shards)
+        story = AbsenceStory(SimpleNamespace(shape=Shape()), operator, None, 1, lambda text: None)
+        self.assertTrue(await story.take_primaries("a"))
+        found = {it["shard"]: {cell["server"]: cell["state"] for cell in it["cells"]} for it in operator.state()["shards"]}
+        self.assertEqual(found, dict.fromkeys(("s", "t"), {"a": "secondary", "b": "primary"}))
+
+
+class DocumentTest(unittest.TestCase):
+    """The document of a reopening."""
+
+    def test_without_a_server_and_without_what_another_one_had(self):
+        servers = [{"name": it} for it in "abc"]
+        row = [{"server": "a", "state": "primary"}, {"server": "b", "state": "secondary"}, {"server": "c", "state": "secondary"}, {"server": "d", "state": "prepared"}]
+        state = {"shards": [{"shard": "s", "cells": row}]}
+        document = {"servers": servers, "shards": [{"name": "s", "cells": [], "listed": "a"}]}
+        found = without(state, document, {"a"}, frozenset("b"))
+        self.assertEqual([it["name"] for it in found["servers"]], ["b", "c"])
+        self.assertEqual(found["shards"], [{"name": "s", "cells": [{"server": "c", "state": "secondary"}], "listed": None}])
+
+
+class RefillTest(unittest.IsolatedAsyncioTestCase):
+    """Shards that lack a replica."""
+
+    async def test_a_secondary_is_added(self):
+        shard = {"name": "s", "load": 1, "want": 2, "cap": 1, "spread": 1, "listed": "a", "cells": [{"server": "a", "state": "primary"}]}
+        full = {**shard, "name": "t", "cells": [*shard["cells"], {"server": "b", "state": "secondary"}]}
+        operator = SessionOperator([shard, full])
+        rooms = {"b": 5, "c": 9}
+        story = ReopeningStory(SimpleNamespace(shape=Shape()), operator, SimpleNamespace(busy=set(), rooms=lambda state: dict(rooms)), 1, lambda text: None)
+        story.document = {"shards": [shard, full]}
+        await story.refill()
+        operator.answer()
+        cells = {it["shard"]: {cell["server"]: cell["state"] for cell in it["cells"]} for it in operator.state()["shards"]}
+        self.assertEqual(cells, {"s": {"a": "primary", "c": "secondary"}, "t": {"a": "primary", "b": "secondary"}})
+
+    def test_the_two_of_a_handover_are_one(self):
+        rows = {"s": ("forwarding", "prepared"), "t": ("forwarding", "prepared", "secondary"), "u": ("primary", "forwarding"), "v": ("secondary", "secondary")}
+        state = {"shards": [{"shard": name, "cells": [{"state": it} for it in row]} for name, row in rows.items()]}
+        document = {"shards": [{"name": it, "want": 2} for it in rows]}
+        self.assertEqual([it["shard"] for it in lacking(state, document)], ["s", "u"])
 
 
 if __name__ == "__main__":

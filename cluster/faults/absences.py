@@ -1,0 +1,196 @@
+"""Servers that are away for a while, all at once, in part or under a permit amid a reopening, and servers whose disk is full or replaced."""
+from __future__ import annotations
+
+import asyncio
+import os
+import signal
+import subprocess
+import time
+
+from smplan.control import Line
+
+from cluster.launch.plans import plan_of, swap_stream
+
+from .losses import LossStory
+from .reopenings import without
+from .servers import ServerStory
+
+# How long a server or its store is stopped, in seconds: shorter and longer than others wait for it.
+STOPS = (1.0, 2.5, 4.5)
+# How many bytes a file may still grow when a disk is full.
+LAST_BYTES = 3000
+
+
+class AbsenceStory(ServerStory, LossStory):
+    """Servers that are away and come back."""
+
+    # Several at once.
+
+    async def crash_two(self) -> None:
+        """Kills two servers at once, and starts them again with their slots."""
+        await self.crash_together(2)
+
+    async def crash_all(self) -> None:
+        """Kills all servers at once, and starts them again with their slots."""
+        await self.crash_together(len(self.alive))
+
+    async def crash_together(self, count: int) -> None:
+        """Kills some servers at once, and starts them again."""
+        async with self.restarting:
+            names = self.dice.sample(self.alive, min(count, len(self.alive)))
+            self.tell(f"kill -9 {', '.join(sorted(names))} at once")
+            await asyncio.gather(*(self.cluster.processes[it].kill() for it in names))
+            self.counts["servers killed without leave"] += len(names)
+            self.counts["crashes of all servers at once" if len(names) == len(self.alive) else "crashes of two servers at once"] += 1
+            await asyncio.sleep(self.dice.uniform(0.2, 0.8))
+            await self.cluster.processes.start(*names)
+
+    # Stopped, or cut off in part.
+
+    async def stop_server(self) -> None:
+        """Stops a server with its store for a while: its connections stand, and nobody answers."""
+        async with self.restarting:
+            name, seconds = self.dice.choice(self.alive), self.dice.choice(STOPS)
+            self.tell(f"stop {name} for {seconds:g} s")
+            self.cluster.processes[name].signal_group(signal.SIGSTOP)
+            try:
+                await asyncio.sleep(seconds)
+            finally:
+                self.cluster.processes[name].signal_group(signal.SIGCONT)
+            self.counts["servers stopped"] += 1
+
+    async def stop_store(self) -> None:
+        """Stops the store of a server three times, as a disk does that is slow now and then. The server itself runs on."""
+        async with self.restarting:
+            name = self.dice.choice(self.alive)
+            self.tell(f"the disk of {name} is slow")
+            for _ in range(3):
+                self.signal_store(name, signal.SIGSTOP)
+                await asyncio.sleep(self.dice.uniform(0.3, 1.5))
+                self.signal_store(name, signal.SIGCONT)
+                await asyncio.sleep(0.3)
+            self.counts["stores stopped"] += 1
+
+    def signal_store(self, name: str, number: int) -> None:
+        """Sends a signal to a server's store alone."""
+        for pid in self.stores(name):
+            os.kill(pid, number)
+
+    def stores(self, name: str) -> list[int]:
+        """The process ids of a server's store."""
+        running = self.cluster.processes[name].running
+        if running is None:
+            return []
+        listed = subprocess.run(["ps", "-o", "pid=", "--ppid", str(running.pid)], stdout=subprocess.PIPE, text=True, check=False)
+        return [int(it) for it in listed.stdout.split()]
+
+    async def lose_answers(self) -> None:
+        """Loses the answers to what a server asks of its peers, and to what controllers tell it: all of that arrives, and nobody hears so."""
+        async with self.restarting:
+            name = self.dice.choice(self.alive)
+            self.tell(f"answers to {name}, and its answers to controllers, are lost")
+            async with self.muted(f"peer {name} ", *self.orders_to(name)):
+                await asyncio.sleep(self.dice.uniform(2.0, 5.0))
+            self.counts["servers whose answers were lost"] += 1
+
+    async def isolate_server(self) -> None:
+        """Cuts a server off from servers and controllers, and not from clients."""
+        async with self.restarting:
+            name = self.dice.choice(self.alive)
+            self.tell(f"{name} is cut off from all but clients")
+            async with self.cut(f"peer {name} ", f"ask {name} ", *self.orders_to(name), *(f"peer {it} {name}" for it in self.alive if it != name)):
+                await asyncio.sleep(self.dice.uniform(2.0, 5.0))
+            self.counts["servers cut off from all but clients"] += 1
+
+    # Disks.
+
+    async def fill_disk(self) -> None:
+        """Lets the files of a server's store grow no more, so that the store ends, and the server with it; then it starts again with what it has."""
+        async with self.restarting:
+            name = self.dice.choice(self.alive)
+            folder = self.cluster.directory / name / "appendonlydir"
+            largest = max(it.stat().st_size for it in folder.iterdir())
+            self.tell(f"the disk of {name} is full")
+            for pid in self.stores(name):
+                subprocess.run(["prlimit", "--pid", str(pid), f"--fsize={largest + LAST_BYTES}:"], check=False)
+            process, until = self.cluster.processes[name], time.monotonic() + 5
+            while process.is_running and time.monotonic() < until:
+                await asyncio.sleep(0.1)
+            self.counts["servers whose disk was full"] += not process.is_running
+            await process.kill()
+            await process.start()
+
+    async def replace_disk(self) -> None:
+        """A server's disk is replaced, with slots and data: it is killed once others have all that it has, starts with nothing, and a reopening gives its replicas up."""
+        async with self.restarting, self.reopening:
+            if not await self.may_lose():
+                return
+            name = self.dice.choice(self.alive)
+            state = await self.state()
+            if not state or not await self.kill_at_rest(name):
+                return
+            self.tell(f"the disk of {name} is replaced")
+            self.counts["disks replaced"] += 1
+            self.note_lost(name)
+            self.forsake(name, state)
+            self.keep_old(name)
+            await self.cluster.processes[name].start()
+            await self.reopen(without(state, self.document, self.lost, frozenset({name})), [], f"the disk of {name} was replaced")
+
+    def keep_old(self, name: str) -> None:
+        """Puts a server's folder aside, of which the checkers read what it did."""
+        folder = self.cluster.directory / name
+        count = len(list(self.cluster.directory.glob(f"{name}.*")))
+        folder.rename(folder.with_name(f"{name}.{count + 1}"))
+        folder.mkdir()
+
+    # Down under a permit while the service is reopened.
+
+    async def reopen_while_down(self) -> None:
+        """Reopens while a server is down under its permit, which is carried over; then it comes up, with or without its slots, and hears that it was left behind."""
+        async with self.restarting, self.reopening:
+            name = self.dice.choice(self.alive)
+            self.mover.avoided.add(name)
+            try:
+                if await self.take_primaries(name):
+                    await self.reopen_without_waiting(name)
+            finally:
+                self.mover.avoided.discard(name)
+
+    async def reopen_without_waiting(self, name: str) -> None:
+        """Has a server go down under a permit, reopens, and has it come up."""
+        permit = await self.approved(name, self.name("rollout"))
+        if permit is None:
+            return
+        self.tell(f"{name} is down under permit {permit}, and a reopening does not wait for it")
+        self.note_permit(name, True)
+        await self.cluster.processes[name].kill()
+        await asyncio.sleep(0.3)
+        await self.reopen(without(await self.state(), self.document, self.lost), [], f"a look at all slots while {name} is down")
+        state = await self.state()
+        self.counts["servers carried over a reopening"] += any(it["server"] == name and it["carried"] for it in state.get("servers", []))
+        await self.cluster.processes[name].start(*(["--lose-slots"] if self.dice.random() < 0.3 else []))
+        if await self.is_up(name, permit):
+            self.note_permit(name, False)
+            self.counts["restarts"] += 1
+
+    async def take_primaries(self, name: str, seconds: float = 10.0) -> bool:
+        """Has others take the primaries of a server, so that it has secondaries alone; tells whether they did."""
+        until = time.monotonic() + seconds
+        while time.monotonic() < until:
+            state = await self.state()
+            left = [it for it in state.get("shards", []) if any(cell["server"] == name and cell["state"] != "secondary" for cell in it["cells"])]
+            if state and not left:
+                return True
+            for shard in left:
+                await self.take_primary(shard, name)
+            await asyncio.sleep(0.3)
+        return False
+
+    async def take_primary(self, shard: Line, name: str) -> None:
+        """Has a secondary of a shard change roles with its primary, if nothing else is done with it."""
+        states = {it["server"]: it["state"] for it in shard["cells"]}
+        others = [it for it, word in states.items() if word == "secondary"]
+        if others and states.get(name) == "primary" and set(states.values()) <= {"primary", "secondary"}:
+            plan = plan_of([swap_stream(shard, name, others[0])])
+            await self.operator.do({"do": "begin", "plan": plan, "name": self.name("swap")})

@@ -1,0 +1,157 @@
+"""Servers that are given up for good, also while others lag, and what the operator does then."""
+from __future__ import annotations
+
+import asyncio
+import time
+from collections import Counter
+from collections.abc import Iterator
+from contextlib import contextmanager
+
+from smplan.control import Line
+
+from .reopenings import ReopeningStory, without
+
+# A shard that a server has, its state and its last write.
+Replica = tuple[str, str, int]
+
+
+def has_all(replicas: list[Replica], written: list[Replica]) -> bool:
+    """Tells whether some replicas have what some others of their shards have. (One that was the primary until now counts, too.)"""
+    roles, positions = ("primary", "secondary"), Counter[str]()
+    for shard, state, position in written:
+        positions[shard] = max(positions[shard], position if state in roles else 0)
+    return all(position >= positions[shard] for shard, state, position in replicas if state in roles)
+
+
+class LossStory(ReopeningStory):
+    """Servers that are lost."""
+
+    async def wait_for_replicas(self, servers: list[str], seconds: float = 20.0) -> bool:
+        """Waits until all replicas have what these servers have, and tells whether they do. A server that was away for long was not waited for, so that the loss of
+        another one would take acknowledged writes along."""
+        until = time.monotonic() + seconds
+        while time.monotonic() < until:
+            written, replicas = await self.replicas(servers), await self.replicas(self.alive)
+            if written is not None and replicas is not None and has_all(replicas, written):
+                return True
+            await asyncio.sleep(0.2)
+        return False
+
+    async def replicas(self, servers: list[str]) -> list[Replica] | None:
+        """The replicas as these servers have them, or None if one of them does not answer."""
+        audits = [(await self.tell_server(name, audit={})).get("audit") for name in servers]
+        if not all(audits):
+            return None
+        return [(it["shard"], it["state"], it["position"]) for audit in audits for it in audit.get("slots", [])]
+
+    async def may_lose(self) -> bool:
+        """Waits until a server may be given up: each shard has as many replicas as it is to have, and they have all writes. Tells whether it may."""
+        if await self.wait_until_whole() and await self.wait_for_replicas(self.alive):
+            return True
+        self.tell("no server is given up: some shard lacks a replica that has all writes")
+        self.counts["losses left out"] += 1
+        return False
+
+    async def kill_at_rest(self, server: str, seconds: float = 4.0) -> bool:
+        """Kills a server once nobody else lacks a write that it executed, and lets it acknowledge none meanwhile: a secondary that it has ceased to wait for would
+        not have it. Tells whether it came to that."""
+        async with self.cut(f"client clients {server}"):
+            if not await self.wait_for_replicas([server], seconds):
+                return False
+            await self.cluster.processes[server].kill()
+            return True
+
+    async def kill_for_good(self, server: str, seconds: float = 4.0) -> bool:
+        """Kills a server at rest, and notes that it is given up."""
+        if not await self.kill_at_rest(server, seconds):
+            return False
+        self.note_lost(server)
+        return True
+
+    def note_lost(self, server: str) -> None:
+        """Notes for the checkers that a server is given up now."""
+        self.permits.append({"server": server, "t": time.monotonic_ns(), "kind": "lost"})
+
+    def give_up(self, server: str, state: Line) -> None:
+        """Gives a server up: nothing is moved to it, and requests of what it has may fail from now on."""
+        self.lost.add(server)
+        self.mover.avoided.add(server)
+        self.forsake(server, state)
+
+    def forsake(self, server: str, state: Line) -> None:
+        """Requests of the shards that a server has may fail from now on."""
+        now = time.monotonic_ns()
+        for shard in state.get("shards", []):
+            if any(cell["server"] == server for cell in shard["cells"]):
+                self.forsaken.setdefault(shard["shard"], now)
+
+    async def lose_lagging(self) -> None:
+        """Gives a server up for good, under load, while all who follow it are late: what it has acknowledged they have all the same."""
+        async with self.restarting, self.reopening:
+            if not await self.may_lose():
+                return
+            state = await self.state()
+            server = self.most_primaries(state)
+            if server is None:
+                return
+            with self.left_alone(server, state):
+                await self.lose_while_late(server)
+            self.counts["primaries lost while replicas lag"] += 1
+            await self.reopen(without(await self.state(), self.document, self.lost), [server], f"{server} died")
+
+    async def lose_while_late(self, server: str) -> None:
+        """Kills a server for good while all who follow it are late, though not for so long that writes go on without them."""
+        async with self.slowed(*(f"peer {it} {server}" for it in self.alive if it != server), shortest=0.6, longest=0.2, drop=0.0):
+            await asyncio.sleep(1.5)
+            await self.lose(server, "which others follow late")
+
+    @contextmanager
+    def left_alone(self, server: str, state: Line) -> Iterator[None]:
+        """Has the shards whose primary a server has stay there while something is done. Clients use them as if they were moved."""
+        shards = {it["shard"] for it in state["shards"] if any(cell["server"] == server and cell["state"] == "primary" for cell in it["cells"])} - self.mover.busy
+        self.mover.busy |= shards
+        try:
+            yield
+        finally:
+            self.mover.busy -= shards
+
+    async def lose_beside_restart(self) -> None:
+        """Gives a server up for good, under load, while a secondary of its shards that was restarted a moment ago has yet to catch up."""
+        async with self.restarting, self.reopening:
+            if not await self.may_lose():
+                return
+            state = await self.state()
+            server = self.most_primaries(state)
+            follower = self.first_follower(state, server)
+            if server is None or follower is None:
+                return
+            with self.left_alone(server, state):
+                await self.cluster.processes[follower].kill()
+                begun = time.monotonic()
+                await self.cluster.processes[follower].start()
+                # (writes go on without a secondary that has been away for three seconds: the loss of the primary would take them along)
+                if time.monotonic() - begun > 2.0:
+                    self.counts["losses left out"] += 1
+                    return
+                await self.lose(server, f"while {follower}, which was restarted, catches up")
+            self.counts["primaries lost while a restarted replica catches up"] += 1
+            await self.reopen(without(await self.state(), self.document, self.lost), [server], f"{server} died")
+
+    async def lose(self, server: str, how: str) -> None:
+        """Kills a server for good as it is."""
+        self.tell(f"kill -9 {server} for good, {how}")
+        self.give_up(server, await self.state())
+        self.note_lost(server)
+        await self.cluster.processes[server].kill()
+        self.counts["servers lost under load"] += 1
+
+    def most_primaries(self, state: Line) -> str | None:
+        """The server that has most primaries, none if no epoch is in force."""
+        counts = Counter(cell["server"] for shard in state.get("shards", []) for cell in shard["cells"] if cell["state"] == "primary")
+        return max(sorted(set(counts) - self.lost), key=lambda it: counts[it], default=None)
+
+    def first_follower(self, state: Line, server: str | None) -> str | None:
+        """A server that has a secondary of a shard whose primary a server has."""
+        rows = [{cell["server"]: cell["state"] for cell in shard["cells"]} for shard in state.get("shards", [])]
+        found = [name for row in rows if row.get(server) == "primary" for name, word in row.items() if word == "secondary"]
+        return found[0] if found else None

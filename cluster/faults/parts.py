@@ -1,0 +1,51 @@
+"""The parts of a story by name, and how a run draws them by a seed."""
+from __future__ import annotations
+
+import random
+
+# A part, and the share of a run at which it begins.
+Parts = tuple[tuple[float, str], ...]
+
+# What nearly all runs of a storm have, and how often.
+USUAL = (("kill_leader", 1), ("freeze_leader", 1), ("kill_member", 1), ("crash_server", 2), ("restart_server", 4), ("drain", 1))
+# What is drawn beside that: servers, controllers and members of etcd that are away, all at once or in part.
+AWAY = (
+    "crash_two", "crash_all", "stop_server", "stop_store", "lose_answers", "isolate_server", "fill_disk", "kill_controllers", "lose_answers_of_etcd", "kill_members",
+    "lose_quorum", "kill_first_member", "stop_first_member", "compact", "ask_too_much",
+)
+# Reopenings without a loss.
+REOPENINGS = ("reopen_behind_leader", "reopen_before_write", "reopen_behind_cut", "reopen_amid_passing", "reopen_while_down")
+# What is done with handovers, and with servers that lose their slots twice.
+OTHERS = ("break_following", "forget_twice")
+# A server, or its disk, is given up. Each shard has all its replicas before, and they have all writes, so that the rules keep what was acknowledged.
+LOSSES = ("lose_server", "lose_lagging", "lose_behind_cut", "lose_beside_restart", "replace_disk")
+# What the rules as they stand do not survive: never drawn. A run has them if they are named.
+OUTSIDE = ("return_given_up", "roll_back", "replace_disk_under_permit", "lose_tail_of_journal")
+EVERY = (*(name for name, _ in USUAL), *AWAY, *REOPENINGS, *OTHERS, *LOSSES)
+
+
+def storm_of(seed: int) -> Parts:
+    """The parts of a run of a storm: nearly all that is usual, some of everything else, and at the end a server that is lost, or a reopening in handovers."""
+    dice = random.Random(f"parts {seed}")
+    names = [name for name, count in USUAL for _ in range(count)]
+    for _ in range(2):
+        names.remove(dice.choice(names))
+    names += dice.sample(AWAY, 4) + dice.sample(REOPENINGS, 2) + dice.sample(OTHERS, 1)
+    if "reopen_behind_leader" in names and "freeze_leader" in names:
+        names.remove("freeze_leader")
+    if dice.random() < 0.5:
+        names.append(dice.choice(LOSSES))
+    last = "reopen_amid_passing" if dice.random() < 0.25 else dice.choice(LOSSES)
+    return tuple(sorted([*((dice.uniform(0.05, 0.75), name) for name in names), (0.8, last)]))
+
+
+def drawn(seed: int, count: int) -> Parts:
+    """Some different parts, drawn by a seed, at most one of which gives a server up, at the end."""
+    dice = random.Random(f"drawn {seed}")
+    names = dice.sample([it for it in EVERY if it not in LOSSES], count - 1)
+    return evenly([*names, dice.choice(LOSSES)])
+
+
+def evenly(names: list[str]) -> Parts:
+    """Parts one after the other, at equal distances."""
+    return tuple((0.1 + 0.8 * it / len(names), name) for it, name in enumerate(names))
