@@ -9,7 +9,7 @@ use Rattle.clap.specs.declared.error.kind.ErrorKind.TheVariants as kind
 use Rattle.clap.proofs.OnLiterals.{clap_on_literals}
 use Rattle.sm_command_line.specs.CommandLine.{asked_for, program, Tells, TellsKind}
 use Rattle.sm_command_line.specs.declared.words.LineFault.{LineFault}
-use Rattle.sm_command_line.specs.declared.words.LineFault.TheVariants.{NoMemory, Help, Version, Bad}
+use Rattle.sm_command_line.specs.declared.words.LineFault.TheVariants.{NoMemory, Help, Bad}
 
 takes_calls : takes program (codes "calls" ∷ []) ≡ true
 unfolding clap_on_literals
@@ -50,17 +50,14 @@ takes_asked (word ∷ next ∷ rest) asked = absurd (asked refl)
 pub tells_no_memory : (fault : LineFault) (k : ErrorKind) → k ≡ kind.OutOfMemory → TellsKind fault k → fault ≡ NoMemory
 tells_no_memory NoMemory k is tells = refl
 tells_no_memory (Help text) k is tells = let bad : kind.OutOfMemory ≡ kind.DisplayHelp = cc in cc
-tells_no_memory (Version text) k is tells = let bad : kind.OutOfMemory ≡ kind.DisplayVersion = cc in cc
-tells_no_memory (Bad text) k is tells = absurd (tells.2 is)
+tells_no_memory (Bad text) k is tells = absurd (tells.1 is)
 
 pub tells_among : (fault : LineFault) (k : ErrorKind) (kinds : Kinds) → (k ≡ kind.OutOfMemory) ⊎ IsAmong k kinds → TellsKind fault k → Tells fault kinds
 tells_among NoMemory k kinds among tells = tt
 tells_among (Help text) k kinds (inl is) tells = let bad : kind.OutOfMemory ≡ kind.DisplayHelp = cc in cc
 tells_among (Help text) k kinds (inr among) tells = subst (λ (x : ErrorKind). IsAmong x kinds) tells among
-tells_among (Version text) k kinds (inl is) tells = let bad : kind.OutOfMemory ≡ kind.DisplayVersion = cc in cc
-tells_among (Version text) k kinds (inr among) tells = subst (λ (x : ErrorKind). IsAmong x kinds) tells among
-tells_among (Bad text) k kinds (inl is) tells = absurd (tells.2 is)
-tells_among (Bad text) k kinds (inr among) tells = inr (k, tells.0, tells.1, among)
+tells_among (Bad text) k kinds (inl is) tells = absurd (tells.1 is)
+tells_among (Bad text) k kinds (inr among) tells = inr (k, tells.0, among)
 
 is_free_program : is_simple_and_free program ≡ true
 unfolding clap_on_literals

@@ -12,7 +12,7 @@ use Rattle.sm_report.specs.declared.command.Command.TheVariants.{Calls, Check, P
 use Rattle.sm_command_line.specs.declared.words.Word.{Word}
 use Rattle.sm_command_line.specs.declared.words.Word.TheVariants.{Report, Run}
 use Rattle.sm_command_line.specs.declared.words.LineFault.{LineFault}
-use Rattle.sm_command_line.specs.declared.words.LineFault.TheVariants.{NoMemory, Help, Version, Bad}
+use Rattle.sm_command_line.specs.declared.words.LineFault.TheVariants.{NoMemory, Help, Bad}
 
 -- the command with this name
 abbrev pub command_named : List ℕ → Option Command
@@ -34,7 +34,7 @@ asked_for _ = None
 
 -- the program with no word yet, as clap reads it
 abbrev pub wordless : App
-wordless = on_top (λ s. record s { has_version = true; no_binary_name = true; subcommand_required = true }) (new_app (codes "smplan"))
+wordless = on_top (λ s. record s { no_binary_name = true; subcommand_required = true }) (new_app (codes "smplan"))
 
 -- the words for calls and for checks, as clap reads them
 abbrev pub first_words : App
@@ -44,16 +44,14 @@ first_words = with_subcommand (with_subcommand wordless (new_app (codes "calls")
 abbrev pub program : App
 program = with_subcommand (with_subcommand (with_subcommand first_words (new_app (codes "play")).top) (new_app (codes "plan")).top) (new_app (codes "run")).top
 
--- what is said of an error of this kind: help or the version if it was asked for, unless memory ran out
+-- what is said of an error of this kind: help if it was asked for, unless memory ran out
 abbrev pub TellsKind : LineFault → ErrorKind → Type 0
 TellsKind NoMemory k = Unit {0}
 TellsKind (Help text) k = k ≡ kind.DisplayHelp
-TellsKind (Version text) k = k ≡ kind.DisplayVersion
-TellsKind (Bad text) k = (k ≢ kind.DisplayHelp) × (k ≢ kind.DisplayVersion) × (k ≢ kind.OutOfMemory)
+TellsKind (Bad text) k = (k ≢ kind.DisplayHelp) × (k ≢ kind.OutOfMemory)
 
 -- what is said of words at which these kinds of error may come, if there may be none at words that name no command
 abbrev pub Tells : LineFault → Kinds → Type 0
 Tells NoMemory kinds = Unit {0}
 Tells (Help text) kinds = IsAmong kind.DisplayHelp kinds
-Tells (Version text) kinds = IsAmong kind.DisplayVersion kinds
-Tells (Bad text) kinds = (kinds ≡ []) ⊎ ((k : ErrorKind) × (k ≢ kind.DisplayHelp) × (k ≢ kind.DisplayVersion) × IsAmong k kinds)
+Tells (Bad text) kinds = (kinds ≡ []) ⊎ ((k : ErrorKind) × (k ≢ kind.DisplayHelp) × IsAmong k kinds)

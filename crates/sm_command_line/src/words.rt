@@ -26,9 +26,6 @@ pub enum LineFault {
     /// Help was asked for.
     #[error("{text}")]
     Help { text: String },
-    /// The version was asked for.
-    #[error("{text}")]
-    Version { text: String },
     /// The words are no command line of the program.
     #[error("{text}")]
     Bad { text: String },
@@ -40,7 +37,6 @@ fn wordless<'a>(alloc: Global) -> Result<Parser<'a>, AllocError>
 {
     let parser = Parser::new(alloc, "smplan")
         .bin_name("smplan")?
-        .version("1.0")
         .about(
             "Reads a JSON document of a placement on standard input (smplan COMMAND < FILE), and prints a report of it. docs/FORMATS.md of its repository describes documents, and examples/ has some",
         )
@@ -91,7 +87,6 @@ fn fault_in(alloc: Global, error: &ParserError) -> LineFault
     match error.kind() {
         ErrorKind::OutOfMemory => LineFault::NoMemory,
         ErrorKind::DisplayHelp => LineFault::Help { text },
-        ErrorKind::DisplayVersion => LineFault::Version { text },
         _ => LineFault::Bad { text },
     }
 }

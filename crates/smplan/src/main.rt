@@ -38,9 +38,7 @@ fn word_named(rt: &HostRuntime, words: &[&str]) -> Result<Word, Status> {
     match command_of(rt.alloc(), words) {
         Ok(word) => Ok(word),
         Err(LineFault::NoMemory) => Err(Status::NoMemory),
-        Err(LineFault::Help { text } | LineFault::Version { text }) => match rt.print(
-            text.as_str(),
-        ) {
+        Err(LineFault::Help { text }) => match rt.print(text.as_str()) {
             Ok(()) => Err(Status::Done),
             Err(_) => Err(Status::WriteFailed),
         },

@@ -16,7 +16,7 @@ fn knows_the_commands(rt: HostRuntime) {
     assert!(rt; word.is_ok_and(|word| word == Word::Run));
 }
 
-static BAD: [&[&str]; 13] = [
+static BAD: [&[&str]; 15] = [
     &[],
     &["chat"],
     &["calls", "check"],
@@ -28,6 +28,8 @@ static BAD: [&[&str]; 13] = [
     &["calls", "--"],
     &["--", "calls"],
     &["calls", "--version"],
+    &["--version"],
+    &["-V"],
     &["version"],
     &[""],
 ];
@@ -58,17 +60,6 @@ static HELP: [&[&str]; 11] = [
 fn gives_help(rt: HostRuntime) {
     for words in &HELP {
         let told = matches!(command_of(rt.alloc(), *words), Err(LineFault::Help { .. }));
-        assert!(rt; told, "{words:?}");
-    }
-}
-
-#[test]
-fn gives_the_version(rt: HostRuntime) {
-    for words in [&["--version"], &["-V"]] {
-        let told = matches!(
-            command_of(rt.alloc(), words),
-            Err(LineFault::Version { .. })
-        );
         assert!(rt; told, "{words:?}");
     }
 }
