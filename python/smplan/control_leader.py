@@ -31,6 +31,10 @@ class Refused(Failure):
         self.kind, self.reply = told.get("kind"), reply
 
 
+class NobodyLeads(NotThere):
+    """A controller answers, and none leads."""
+
+
 class Controllers:
     """One or more controllers, of which one leads. A line that may be said again is said again until one answers."""
 
@@ -40,15 +44,16 @@ class Controllers:
 
     def find(self) -> str:
         """Returns the controller that leads, or fails with why there is none."""
-        faults = []
+        faults: List[Failure] = []
         for url in self.urls:
             try:
                 if leads(url, self.token):
                     return url
-                faults.append(NotThere(f"{url}: this controller does not lead"))
+                faults.append(NobodyLeads(f"{url}: this controller does not lead"))
             except NotThere as why:
                 faults.append(why)
-        raise NotThere("; ".join(map(str, faults)))
+        text = "; ".join(map(str, faults))
+        raise NobodyLeads(text) if any(isinstance(it, NobodyLeads) for it in faults) else NotThere(text)
 
     def once(self, path: str, line: Optional[Line] = None) -> Any:
         """Asks the leader once."""
@@ -116,9 +121,13 @@ def urls_of(arguments: argparse.Namespace) -> List[str]:
 
 
 def controllers_of(arguments: argparse.Namespace, patience: float = 60.0) -> Controllers:
-    """Returns whom to ask. One of them has to lead now, so that a wrong address is told at once."""
+    """Returns whom to ask. If one is named, it has to lead now; of several one has to answer, as another one may just be going to lead."""
     found = Controllers(urls_of(arguments), token_of(arguments), patience)
-    found.leader = found.find()
+    try:
+        found.leader = found.find()
+    except NobodyLeads:
+        if len(found.urls) == 1:
+            raise
     return found
 
 

@@ -14,6 +14,7 @@ import tempfile
 import time
 import unittest
 from http.client import HTTPConnection
+from types import SimpleNamespace
 from urllib.request import Request, urlopen
 
 from smplan import control_commands
@@ -21,7 +22,7 @@ from smplan.control import DONE
 from smplan.control_document import Unknown, document_of_state, without_servers
 from smplan.control_fleet import FleetFile, HttpFleet
 from smplan.control_http import NotThere, Page, serve
-from smplan.control_leader import Controllers
+from smplan.control_leader import Controllers, controllers_of
 from smplan.control_map import MapFile
 from smplan.control_reopen import proposal_lines
 from smplan.control_repair import repair_of
@@ -300,6 +301,12 @@ class FailoverTest(unittest.TestCase):
             with self.assertRaisesRegex(Failure, "held"):
                 await asyncio.to_thread(found.do, {"do": "other"})
             leading["second"] = False
+            for named, is_waited_for in ((urls, True), (urls[:1], False), (["http://127.0.0.1:1", "http://127.0.0.1:2"], False)):
+                try:
+                    await asyncio.to_thread(controllers_of, SimpleNamespace(controller=named, token=None))
+                    self.assertTrue(is_waited_for, named)
+                except NotThere:
+                    self.assertFalse(is_waited_for, named)
             with self.assertRaises(NotThere), contextlib.redirect_stderr(io.StringIO()):
                 await asyncio.to_thread(Controllers(urls, patience=1.0, sleep=lambda seconds: None).do, {"do": "begin"})
             for it in servers.values():
