@@ -18,7 +18,6 @@ from .balance import Budget, after_moves, balance, level_primaries
 from .blocks import CHANGE_ROLES, COPY, Kind
 from .control_document import ROLES
 from .control_drain import PASSING, at_least
-from .control_http import fetch
 from .control_leader import Controllers, Line, Refused, add_options, controllers_of
 from .failure import Failure
 from .files import document_from, read_value
@@ -268,8 +267,8 @@ def known_document(told: argparse.Namespace, controllers: Controllers) -> Option
     if told.document is not None:
         return document_from(read_value(told.document), told.document).value
     try:
-        found = fetch(f"{controllers.find()}/document", token=controllers.token)
-    except Failure:
+        found = controllers.post("/document")
+    except Failure:  # (it has no such page)
         return None
     return found if isinstance(found, dict) and "shards" in found else None
 

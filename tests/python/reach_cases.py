@@ -94,11 +94,11 @@ def least_regions(fleet, target):
     return [min(fleet.spread[it], fleet.regions(cells), fleet.regions(target.cells[it])) for it, cells in enumerate(fleet.cells)]
 
 
-def check_ways(leg, limits, least):
+def check_ways(leg, plan, limits, least):
     """Each shard's calls stand in one stream. After each, it lies in enough regions, has its floor of live replicas, and has a primary if it had one, but for
     a change of roles' one call."""
     fleet, homes, cells, gaps = leg.before, {}, [dict(it) for it in leg.before.cells], Counter()
-    for number, stream in enumerate(leg.document()["plan"]["streams"]):
+    for number, stream in enumerate(plan["streams"]):
         for it in stream["code"]:
             if "server" not in it:
                 continue
@@ -133,14 +133,15 @@ def step(cells, server, it):
 def check_leg(leg, limits, least, runs):
     """A plan is accepted, ends as is told, and keeps to its limits."""
     document = leg.document()
-    need(program("check", document).startswith("accepted: "), program("check", document))
-    check_ways(leg, limits, least)
+    answer = program("run" if runs else "check", document)
+    need(answer.startswith("accepted: "), answer)
+    check_ways(leg, document["plan"], limits, least)
     at_once = most_at_once(plan_of(document["plan"]), document_of(document))
     need(at_once is None or at_once.in_all <= limits.streams, "too many copies at once", at_once)
     need(at_once is None or not limits.at_server or at_once.at_server <= limits.at_server, "too many copies at once at a server", at_once)
     need(len(leg.blocks) <= limits.blocks, "too many blocks")
     if runs:
-        end = reported(read_report(program("run", document), "the report"))
+        end = reported(read_report(answer, "the report"))
         need(end == rows_of(leg.before.value(leg.after)), "another end", end)
 
 

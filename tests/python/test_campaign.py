@@ -1,4 +1,5 @@
 """Campaigns over the model of smpland, whose orders are answered at once whenever a campaign rests."""
+import asyncio
 import json
 import subprocess
 import sys
@@ -7,6 +8,7 @@ import unittest
 
 from fixtures import ROOT, example, load
 from smplan.control_campaign import Campaign, document_of_state, fleet_of_state
+from smplan.control_http import Page, serve
 from smplan.control_leader import Refused
 from smplan.control_rolling import Rolling, in_turn, placement_before
 from smplan.failure import Failure
@@ -238,6 +240,54 @@ class Rollings(unittest.TestCase):
             first = placement_before(f"{folder}/was.json", service.state(), None)
             self.assertEqual(0, Campaign(service, "demote", lambda fleet: demote(fleet, {0}), Limits(), tell=lambda _: None).run())
             self.assertEqual(first.cells, placement_before(f"{folder}/was.json", service.state(), None).cells)
+
+
+class Failovers(unittest.TestCase):
+    """A campaign that begins while nobody leads. The second controller comes to lead when they have been asked four times."""
+
+    def routes(self, service, leading, asked, name):
+        """What a controller answers, which leads or follows."""
+        async def metrics(_):
+            asked.append(name)
+            leading.update(["k1"] if len(asked) > 4 else [])
+            return Page(f"x\nsmplan_leads {int(name in leading)}\n".encode(), "text/plain")
+
+        async def document(_):
+            return Page.of(fleet_document()) if name in leading else Page.of({"fault": "this controller does not lead"}, 409)
+
+        async def line(body):
+            if name not in leading:
+                return Page.of({"fault": "this controller does not lead"}, 409)
+            service.sleep(0)
+            return Page.of(service.ask(json.loads(body)))
+        return {"GET /metrics": metrics, "GET /document": document, "POST /ask": line, "POST /do": line}
+
+    def demoted(self, *names):
+        """The status of a demotion, what it printed, and the leaders of all shards."""
+        service, leading, asked = Service(fleet_document()), set(), []
+        self.addCleanup(service.close)
+
+        async def play():
+            servers = [await serve("127.0.0.1", 0, self.routes(service, leading, asked, it)) for it in names]
+            words = [word for it in servers for word in ("--controller", f"http://127.0.0.1:{it.port}")]
+            command = await asyncio.create_subprocess_exec(
+                sys.executable, "-m", "smplan.control", "demote", "v0", *words, stdout=subprocess.PIPE, stderr=subprocess.STDOUT, cwd=ROOT / "python")
+            text, _ = await command.communicate()
+            for it in servers:
+                await asyncio.to_thread(it.close)
+            return command.returncode, text.decode()
+
+        status, text = asyncio.run(play())
+        return status, text, {server for cells in cells_of(service.state()).values() for server, role in cells if role == "primary"}
+
+    def test_it_waits_for_the_next_leader(self):
+        status, text, leaders = self.demoted("k0", "k1")
+        self.assertEqual((0, {"v1", "v2", "v3", "v4", "v5"}), (status, leaders), text)
+        self.assertIn("this controller does not lead; waits for one that leads", text)
+
+    def test_one_that_follows_is_told_at_once(self):
+        status, text, leaders = self.demoted("k0")
+        self.assertEqual((3, 6), (status, len(leaders)), text)
 
 
 class Recorded(unittest.TestCase):
