@@ -6,7 +6,7 @@ from typing import List, Optional
 from . import program
 from .model import Document, Json, Plan
 from .reports import Report, read_report
-from .restart import reason
+from .restart import reason, waiting
 from .words import counted
 
 # The most answers that are looked into; for each the events up to it are played once more.
@@ -71,6 +71,8 @@ def words(document: Document, event: Json, answer: str, report: Report) -> str:
     """Returns what stands behind an answer, at the moment of the report."""
     if answer.startswith("denied "):
         return reason(document, event["server"], answer, report)
+    if answer == "approved":
+        return waiting(report, event["server"])
     blocked = re.fullmatch(r"blocked on signal (\d+)", answer)
     if blocked:
         plan = plan_of_event(document, event)
@@ -94,13 +96,15 @@ def words(document: Document, event: Json, answer: str, report: Report) -> str:
 
 
 def event_lines(document: Document, path: str) -> List[str]:
-    """Returns a line for each event that is not answered by what it asks for, with what stands behind the answer."""
+    """Returns a line for each event that is not answered by what it asks for, with what stands behind the answer, and for each restart for which clients wait."""
     events, lines = document.events or [], []
     answers = [it["answer"] for it in played(document, path).lists.get("events", [])]
     refused = [number for number, answer in enumerate(answers) if not DONE.fullmatch(answer)]
-    for number in refused[:MOST_EVENTS]:
+    approved = [number for number, answer in enumerate(answers) if answer == "approved"]
+    for number in sorted(refused[:MOST_EVENTS] + approved[:MOST_EVENTS]):
         said = words(document, events[number], answers[number], played(document, path, number + 1))
-        lines.append(f"event {number}: {answers[number]}" + (f": {said}" if said else ""))
+        if said or answers[number] != "approved":
+            lines.append(f"event {number}: {answers[number]}" + (f": {said}" if said else ""))
     if len(refused) > MOST_EVENTS:
         lines.append(f"and {counted(len(refused) - MOST_EVENTS, 'more event')}")
     return lines

@@ -37,6 +37,12 @@ def led_by(report: Report, server: str) -> List[str]:
     ]
 
 
+def waiting(report: Report, server: str) -> str:
+    """Returns whose clients wait while a server is down, in words; nothing if it leads no shard."""
+    led = led_by(report, server)
+    return f"clients of {', '.join(led)} wait meanwhile: {server} leads; 'smplan-tools demote' makes others lead first" if led else ""
+
+
 def reason(document: Document, server: str, answer: str, report: Report) -> str:
     """Returns why a restart is denied, in words."""
     if answer == "denied 1 AlreadyDown":
@@ -76,9 +82,9 @@ def ask(arguments: argparse.Namespace) -> int:
     if answers[0] == "approved":
         shards = shards_at(report, server)
         print(f"approved: {server} may be restarted now" + (f"; while it is down: {', '.join(shards)}" if shards else "; it has no replicas"))
-        led = led_by(report, server)
-        if led:
-            print(f"clients of {', '.join(led)} wait meanwhile: {server} leads; 'smplan-tools demote' makes others lead first")
+        waits = waiting(report, server)
+        if waits:
+            print(waits)
         return 0
     print(f"{answers[0]}: {reason(document, server, answers[0], report)}")
     return 1

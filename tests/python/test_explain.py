@@ -226,6 +226,16 @@ class Told(unittest.TestCase):
         self.assertIn("denied 2 Engaged stream 0: stream 0 has not ended and has oslo-1 in its code", told["play-restart-beside-a-plan"])
         self.assertIn("spent: stream 0 has made all tries that it may (its budget is 4, and its retries are 0)", told["play-spent-allowance"])
 
+    def test_whose_clients_wait_while_a_server_is_down(self):
+        value = load(example("placement")) | {"events": [{"event": "approve", "server": "berlin-2"}, {"event": "approve", "server": "berlin-1"}]}
+        with written(value) as path:
+            out = tools("explain", path).out
+        self.assertIn("event 0: approved: clients of orders wait meanwhile: berlin-2 leads; 'smplan-tools demote' makes others lead first", out.splitlines())
+        value["shards"][1]["cells"] = [{"server": "berlin-1", "state": "primary"}, {"server": "berlin-2", "state": "secondary"}]
+        value["shards"][1]["listed"] = "berlin-1"
+        with written(value) as path:
+            self.assertNotIn("approved", tools("explain", path).out)
+
     def test_each_answer_of_the_tables_is_explained(self):
         kinds = set()
         for where, command, text, report, status in report_cases.written():
