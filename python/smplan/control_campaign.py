@@ -24,7 +24,7 @@ from .files import document_from, read_value
 from .fleet import Cells, Fleet
 from .limits import MOST_MOVES, MOST_STREAMS
 from .model import Json, document_of
-from .planning import forecast, named, percent, servers_in, wanted_as_in, wants_of, whole
+from .planning import named, percent, servers_in, tell_beforehand, wanted_as_in, wants_of, whole
 from .reach import Leg, Limits, Reach
 from .targets import Wanted, demote, drain, scale
 from .words import counted
@@ -152,7 +152,7 @@ class Campaign:
             if now != then:
                 self.wishes[name] = Wish(now, then)
         if is_first:
-            self.tell(forecast(fleet, found))
+            tell_beforehand(self.tell, fleet, found, Reach(fleet, found.target, self.limits))
 
     def fulfil(self) -> bool:
         """Makes plans until each wish is fulfilled, void, or cannot be fulfilled. Tells whether the campaign goes on."""

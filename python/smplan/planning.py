@@ -144,25 +144,29 @@ def forecast(fleet: Fleet, wanted: Wanted) -> str:
             f"{percent(most_used(fleet))} -> {percent(most_used(after))}; most primaries at a server {most_led(fleet)} -> {most_led(after)}")
 
 
+def tell_beforehand(tell: Callable[[str], None], fleet: Fleet, wanted: Wanted, reach: Reach) -> None:
+    """Tells what a way to a placement comes to, and of which shards nobody is the primary meanwhile."""
+    tell(forecast(fleet, wanted))
+    gaps = reach.without_primary()
+    if gaps:
+        tell(f"for one call each nobody is the primary of {named(gaps)}")
+
+
 def print_plans(arguments: argparse.Namespace, fleet: Fleet, wanted: Wanted) -> int:
     """Makes the plans that lead to a placement, has each checked, and prints it. Tells what is left."""
     path, sums = program.required(arguments.program), Sums()
     reach = Reach(fleet, wanted.target, limits_of(arguments, fleet))
     progress = Progress(reach.size)
-    tell(forecast(fleet, wanted))
-    gaps: List[str] = []
+    tell_beforehand(tell, fleet, wanted, reach)
     for leg in reach.legs():
         document = leg.document()
         progress.step(f"smplan checks plan {sums.plans}", len(leg.blocks))
         check(path, document)
         print_document(arguments, document)
         sums.add(document["plan"], leg.blocks, leg.streams.copied)
-        gaps += [leg.before.shards[it.shard] for it in leg.blocks if it.kind is Kind.SWAP]
     if not sums.plans:
         print_document(arguments, {**fleet.value(fleet.target()), "plan": {"budget": 0, "signals": [], "streams": []}})
     tell(str(sums))
-    if gaps:
-        tell(f"for one call each nobody is the primary of {named(gaps)}")
     left = wanted.left + reach.left
     for line in left:
         tell(f"left: {line}")

@@ -68,6 +68,10 @@ class Reach:
         """How many blocks are not yet in a plan."""
         return sum(map(len, self.rest.values()))
 
+    def without_primary(self) -> List[str]:
+        """The shards of which nobody is the primary for one call."""
+        return [self.fleet.shards[shard] for shard, blocks in self.rest.items() if any(it.kind is Kind.SWAP for it in blocks)]
+
     def legs(self) -> Iterator[Leg]:
         """Each plan, of the placement that the one before leaves."""
         while self.rest:

@@ -122,7 +122,8 @@ class Campaigns(unittest.TestCase):
         self.assertFalse([it for cells in cells_of(service.state()).values() for it in cells if it in (("v0", "primary"), ("v3", "primary"))])
         self.assertEqual(1, len(service.begun))
         self.assertIn("0 replicas to copy", self.told[0])
-        self.assertIn("the primary of s0, s3 changes by two roles", self.told[1])
+        self.assertEqual("for one call each nobody is the primary of s0, s3", self.told[1])
+        self.assertIn("the primary of s0, s3 changes by two roles", self.told[2])
 
     def test_shards_of_running_plans_wait(self):
         service = self.service(fleet_document(3))
