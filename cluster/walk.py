@@ -117,9 +117,9 @@ class Walk(Run):
         async with self.chapter("a region is emptied") as it:
             dying = asyncio.create_task(self.kill_after(it, "plan "))
             await self.control(it, "drain", REGION, "--avoid", OTHER, "--before", self.before, *known)
+            await dying
         async with self.chapter("the rest is levelled") as it:
-            while not self.story.deaths and not dying.done():
-                await asyncio.sleep(0.05)
+            dying = await self.kill()
             await self.control(it, "balance", "--avoid", REGION, *known)
             await dying
             await self.control(it, "balance", "--primaries", "--avoid", REGION, *known)
@@ -160,9 +160,17 @@ class Walk(Run):
 
     async def kill_after(self, chapter: Chapter, beginning: str) -> None:
         """Kills the leading controller once a command has told something, and starts it again once another one leads."""
-        while not any(text.startswith(beginning) for _, text in chapter.told) and not chapter.end:
+        while not any(text.startswith(beginning) for _, text in chapter.told) and not chapter.failed:
             await asyncio.sleep(0.05)
         await self.story.kill_at_once()
+
+    async def kill(self) -> asyncio.Task[None]:
+        """Kills the leading controller, which starts again once another one leads."""
+        before = len(self.story.deaths)
+        dying = asyncio.create_task(self.story.kill_at_once())
+        while len(self.story.deaths) == before and not dying.done():
+            await asyncio.sleep(0.01)
+        return dying
 
     async def take_restart(self, reader: asyncio.StreamReader, writer: asyncio.StreamWriter) -> None:
         """Restarts the server that is named, with its slots, and answers once it is ready."""
