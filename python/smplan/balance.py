@@ -66,13 +66,18 @@ class Level(Draft):
         room = self.fleet.room
         return (2 * self.used[source] - load) * PARTS // room[source] - (2 * self.used[target] + load) * PARTS // room[target]
 
+    def most_fall(self, load: int, source: int) -> int:
+        """What `fall` is at most, once twice the rank of the target is taken off."""
+        return (2 * self.used[source] - load) * PARTS // self.fleet.room[source]
+
     def best_move(self, source: int) -> List[Move]:
         """The move from a server with the greatest fall for what it costs; none if none falls."""
         best, found = 0, None
         for shard in self.movable(source):
             load, seen = self.fleet.load[shard], 0
-            for _, target in self.ranked:
-                if target == source or seen == NEAREST:
+            most = self.most_fall(load, source)
+            for rank, target in self.ranked:
+                if target == source or seen == NEAREST or (most - 2 * rank) * load <= best * (load + self.price):
                     break
                 if self.may(shard, source, target):
                     seen += 1
@@ -85,18 +90,18 @@ class Level(Draft):
         """The exchange with one of the emptiest servers that has the greatest fall for what it costs; none if none falls."""
         best, found = 0, []  # type: int, List[Move]
         load, mine = self.fleet.load, self.movable(source)
-        for _, target in self.ranked[:EXCHANGED]:
-            if target == source:
+        greatest, most = max((load[it] for it in mine), default=0), self.most_fall(0, source)
+        for rank, target in self.ranked[:EXCHANGED]:
+            if target == source or (most - 2 * rank) * greatest <= best * (greatest + 2 * self.price):
                 break
             theirs = self.movable(target)
             for shard in mine:
                 for other in theirs:
                     less = load[shard] - load[other]
-                    fall = self.fall(less, source, target) if less > 0 else 0
-                    if fall <= 0 or not self.may(shard, source, target) or not self.may(other, target, source, load[shard]):
+                    if less <= 0:
                         continue
-                    value = fall * less // max(1, load[shard] + load[other] + 2 * self.price)
-                    if value > best:
+                    value = self.fall(less, source, target) * less // max(1, load[shard] + load[other] + 2 * self.price)
+                    if value > best and self.may(shard, source, target) and self.may(other, target, source, load[shard]):
                         best, found = value, [Move(shard, source, target), Move(other, target, source)]
         return found
 

@@ -16,6 +16,7 @@ class Draft:
         self.used = list(fleet.used)
         self.at: List[Set[int]] = [set(it) for it in fleet.at]
         self.moved: Set[Tuple[int, int]] = set()
+        self.can_copy = [fleet.can_copy(it) for it in range(len(fleet.shards))]
         self.is_open = [not fleet.is_down[it] and it not in closed and room > 0 for it, room in enumerate(fleet.room)]
         self.ranked = sorted((self.rank(it), it) for it, is_open in enumerate(self.is_open) if is_open)
 
@@ -40,7 +41,7 @@ class Draft:
 
     def movable(self, server: int) -> List[int]:
         """The shards whose replicas at a server may move: they have not moved yet, and there is a primary that is up to copy them from."""
-        return [it for it in sorted(self.at[server]) if (it, server) not in self.moved and self.fleet.can_copy(it)]
+        return [it for it in sorted(self.at[server]) if self.can_copy[it] and (it, server) not in self.moved]
 
     def keeps_spread(self, shard: int, source: int, target: int) -> bool:
         """Whether a shard lies in enough regions once its replica is at the target: in its spread, or in as many as at first."""
