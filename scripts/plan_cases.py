@@ -4,7 +4,7 @@ import itertools
 import math
 import random
 
-from smplan.fleet import Fleet
+from smplan.fleet import SECONDARY, Fleet
 from smplan.model import document_of
 
 SERVERS, SHARDS, REPLICAS = 1024, 4096, 3
@@ -73,3 +73,29 @@ def drifted(seed, mean, drift=0.0, new=0, has_tail=False, rooms=(1,), regions=16
     unit = sum(used) / mean / sum(parts)
     unit *= max(1, max(used[it] / (parts[it] * unit) for it in range(SERVERS)))
     return document([int(it * unit) + 1 for it in parts], regions, sizes, holders)
+
+
+def exchanged(fleet, count, seed):
+    """A placement that so many exchanges of secondaries lead to, of which only the end has to fit. No replica is exchanged twice, and none returns."""
+    dice, target, used, moved = random.Random(seed), fleet.target(), list(fleet.used), set()
+    tries = 0
+    while len(moved) < 2 * count and tries < 200 * count:
+        tries += 1
+        shard, other = dice.sample(range(len(fleet.shards)), 2)
+        source, there = dice.choice(sorted(target.cells[shard])), dice.choice(sorted(target.cells[other]))
+        less = fleet.load[shard] - fleet.load[other]
+        fits = used[source] - less <= fleet.room[source] and used[there] + less <= fleet.room[there]
+        if fits and source != there and may_go(fleet, target, moved, shard, source, there) and may_go(fleet, target, moved, other, there, source):
+            target.move(shard, source, there)
+            target.move(other, there, source)
+            used[source] -= less
+            used[there] += less
+            moved |= {(shard, there), (other, source)}
+    return target
+
+
+def may_go(fleet, target, moved, shard, source, there):
+    """Whether a secondary may go to a server that never had any of its shard, and leaves it in its spread."""
+    cells = target.cells[shard]
+    is_new = there not in cells and there not in fleet.cells[shard] and (shard, source) not in moved
+    return is_new and cells[source] == SECONDARY and fleet.regions([*(it for it in cells if it != source), there]) >= fleet.spread[shard]
