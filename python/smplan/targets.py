@@ -2,7 +2,8 @@
 from __future__ import annotations
 
 from dataclasses import dataclass, field
-from typing import AbstractSet, Dict, List, Optional, Tuple
+from itertools import combinations
+from typing import AbstractSet, Dict, List, Optional, Sequence, Tuple
 
 from .blocks import Unreachable, regions_without, role_change_fault
 from .draft import Draft
@@ -93,7 +94,7 @@ class Room:
 
 
 class Drain:
-    """Empties servers, the replicas with the greatest loads first. Each goes where most room is left; if none fits, another one gives way."""
+    """Empties servers, the replicas with the greatest loads first. Each goes where most room is left; if none fits, another one gives way, or two."""
 
     def __init__(self, fleet: Fleet, servers: AbstractSet[int], avoid: AbstractSet[int], start: Target) -> None:
         self.fleet, self.servers = fleet, servers
@@ -108,12 +109,13 @@ class Drain:
         for shard, server in jobs:
             target = next((it for it in self.draft.receivers(load[shard]) if self.may(shard, server, it)), None)
             if target is None:
-                room = self.room_for(shard, server)
-                if room is None:
+                rooms = self.room_for(shard, server)
+                if not rooms:
                     self.left.append(self.why_stuck(shard, server))
                     continue
-                self.draft.move(room.shard, room.source, room.target)
-                target = room.source
+                for it in rooms:
+                    self.draft.move(it.shard, it.source, it.target)
+                target = rooms[0].source
             self.draft.move(shard, server, target)
         return Wanted(self.draft.target, self.left)
 
@@ -126,19 +128,32 @@ class Drain:
         regions = fleet.regions([*(it for it in stay if it not in self.servers), target]) + sum(it in self.servers for it in stay)
         return regions >= min(fleet.spread[shard], fleet.regions(fleet.cells[shard]))
 
-    def room_for(self, shard: int, source: int) -> Optional[Room]:
-        """The smallest replica whose leaving makes room for one, to the server where most room is left."""
+    def room_for(self, shard: int, source: int) -> List[Room]:
+        """The replica whose leaving makes room for one, or the two of a server if one is not enough, those of the least load; none if there are none."""
         draft, load = self.draft, self.fleet.load
-        found: List[Tuple[int, int, int]] = []
-        for _, server in draft.ranked:
-            if self.may(shard, source, server):
-                need = load[shard] - draft.free(server)
-                found += [(load[it], it, server) for it in draft.movable(server) if load[it] >= need]
-        for _, other, server in sorted(found):
-            for target in draft.receivers(load[other]):
-                if target != server and self.may(other, server, target):
-                    return Room(other, server, target)
-        return None
+        most = max((draft.free(it) for _, it in draft.ranked[:1]), default=0)
+        for count in (1, 2):
+            found: List[Tuple[int, Tuple[int, ...], int]] = []
+            for _, server in draft.ranked:
+                if self.may(shard, source, server):
+                    small = [it for it in draft.movable(server) if load[it] <= most]
+                    sums = ((sum(load[it] for it in others), others, server) for others in combinations(small, count))
+                    found += [it for it in sums if it[0] + draft.free(server) >= load[shard]]
+            rooms = next(filter(None, (self.rooms_of(others, server) for _, others, server in sorted(found))), None)
+            if rooms:
+                return rooms
+        return []
+
+    def rooms_of(self, others: Sequence[int], server: int) -> List[Room]:
+        """Where replicas of a server go, each to another server where most room is left; none if one finds no room."""
+        found: List[Room] = []
+        for other in others:
+            taken = {server, *(it.target for it in found)}
+            target = next((it for it in self.draft.receivers(self.fleet.load[other]) if it not in taken and self.may(other, server, it)), None)
+            if target is None:
+                return []
+            found.append(Room(other, server, target))
+        return found
 
     def why_stuck(self, shard: int, server: int) -> str:
         """Why a replica stays, in a line."""

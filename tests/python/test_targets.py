@@ -45,6 +45,12 @@ class Drains(unittest.TestCase):
         self.assertEqual({"s": "b", "t": "c"}, names(fleet, found.target.cells))
         self.assertEqual([], found.left + legs_of(fleet, found.target)[1])
 
+    def test_two_replicas_give_way(self):
+        fleet = fleet_of("a:r:10 b:r:10 c:r:5 d:r:4", {"s:8": {"at": "a", "cap": 0}, "t:5": {"at": "b", "cap": 0}, "u:4": {"at": "b", "cap": 0}})
+        found = drain(fleet, {0})
+        self.assertEqual({"s": "b", "t": "c", "u": "d"}, names(fleet, found.target.cells))
+        self.assertEqual([], found.left + legs_of(fleet, found.target)[1])
+
     def test_secondaries_are_copied_where_they_are_preferred(self):
         fleet = fleet_of("a:r:10 b:r:10 c:r:10", {"s:8": {"at": "a b"}})
         found = drain(fleet, {0}, prefers_secondary=True)
