@@ -213,7 +213,7 @@ class Thinning:
             for shard in self.smaller(move):
                 other = Move(shard, move.source, move.target)
                 self.enter(turn, other)
-                if self.is_good(other):
+                if self.is_good(move, other):
                     break
                 self.leave(turn)
             else:
@@ -224,7 +224,12 @@ class Thinning:
         fleet, source = self.fleet, move.source
         need = self.used[source] - self.top.numerator * fleet.room[source] // self.top.denominator
         may = (it for it in fleet.at[source] if need <= fleet.load[it] < fleet.load[move.shard] and move.target not in fleet.cells[it] and fleet.can_copy(it))
-        return sorted((it for it in may if not self.turns_of_shard.get(it)), key=lambda it: (fleet.load[it], it))
+        return sorted((it for it in may if self.is_apart(it, move)), key=lambda it: (fleet.load[it], it))
+
+    def is_apart(self, shard: int, move: Move) -> bool:
+        """Whether no move of a shard leaves the same server, or comes to the same one."""
+        moves = (self.moves[turn] for turn in self.turns_of_shard.get(shard, []))
+        return all(it is None or (it.source != move.source and it.target != move.target) for it in moves)
 
 
 @dataclass(frozen=True)

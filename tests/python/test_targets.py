@@ -3,7 +3,7 @@ import unittest
 from fractions import Fraction
 
 from fixtures import program
-from smplan.balance import Budget, Move, after_moves, balance, level_primaries
+from smplan.balance import Budget, Move, Thinning, after_moves, balance, level_primaries
 from smplan.fleet import primary_of
 from smplan.targets import as_in, demote, drain, scale
 from test_reach import fleet_of, legs_of
@@ -106,6 +106,17 @@ class Balances(unittest.TestCase):
         fleet = fleet_of("a:r:100 b:r:100", {f"s{load}:{load}": {"at": "a", "cap": 0} for load in (40, 11, 9)})
         self.assertEqual([Move(1, 0, 1), Move(2, 0, 1)], sorted(balance(fleet, over=Fraction(34, 100)).moves))
         self.assertEqual([Move(1, 0, 1)], balance(fleet, over=Fraction(67, 100)).moves)
+
+    def test_a_smaller_replica_does_not_if_the_other_one_would_lose_its_regions(self):
+        fleet = fleet_of("a:r1:100 b:r2:100 c:r2:100 d:r1:100", {"x:10": {"at": "a b", "spread": 2}, "y:9": {"at": "a"}})
+        moves = [Move(0, 0, 2), Move(0, 1, 3)]
+        thinning = Thinning(fleet, moves, Fraction(10, 100))
+        thinning.exchange()
+        self.assertEqual(moves, thinning.moves)
+        fleet = fleet_of("a:r1:100 b:r1:100 c:r2:100 d:r1:100", {"x:10": {"at": "a b"}, "y:9": {"at": "a b"}})
+        thinning = Thinning(fleet, [Move(0, 0, 2), Move(1, 1, 3)], Fraction(10, 100))
+        thinning.exchange()
+        self.assertEqual([Move(1, 0, 2), Move(1, 1, 3)], thinning.moves)
 
     def test_primaries_are_level_by_chains(self):
         fleet = fleet_of("a:r:90 b:r:90 c:r:90", {"s:1": {"at": "a b"}, "t:1": {"at": "a b"}, "u:1": {"at": "a b"}, "w:1": {"at": "b c"}})
