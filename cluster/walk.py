@@ -1,8 +1,8 @@
 """`python3 -m cluster.walk`: what an operator does with a whole service while clients write, by the commands of `smplan-control`.
 
-A region is emptied into another one while a leader dies. What is left is levelled, by a command that begins amid the failover. Each server is restarted in turn: as it
-is; once others lead its shards; by handovers. In the end all is taken back. A verdict follows as of any run; and but for the restarts of servers as they are, a shard is
-without a server between the two calls of a change of roles alone, as the command has told beforehand.
+A region is emptied into another one while a leader dies. What is left is levelled, by a command that begins amid the failover. Each server is
+restarted in turn: as it is; once others lead its shards; by handovers. In the end all is taken back. A verdict follows as of any run; and but for
+the restarts of servers as they are, a shard is without a server between the two calls of a change of roles alone, as the command has told beforehand.
 """
 from __future__ import annotations
 
@@ -35,15 +35,21 @@ from cluster.wire import Failed
 # The region that is emptied, and the one that gets nothing of it at first.
 REGION, OTHER = "region:oslo", "region:porto"
 # A command that has a server restarted, by its name behind the path of a socket.
-ASKING = "import socket, sys; it = socket.socket(socket.AF_UNIX); it.connect(sys.argv[1]); it.sendall(sys.argv[2].encode() + b'\\n'); sys.exit(it.recv(9) != b'up\\n')"
+ASKING = """
+import socket, sys
+it = socket.socket(socket.AF_UNIX)
+it.connect(sys.argv[1])
+it.sendall(sys.argv[2].encode() + b"\\n")
+sys.exit(it.recv(9) != b"up\\n")
+"""
 # What a command tells of shards that nobody serves for one call.
 TOLD = re.compile(r"for one call each nobody is the primary of (.+?)(?: and (\d+) more)?$")
 
 
 @dataclass
 class Chapter:
-    """What an operator does for one end, by one command or more, from one moment to another, with what the commands told. Servers may go down while they lead, or
-    roles may change by two calls, or neither."""
+    """What an operator does for one end, by one command or more, from one moment to another, with what the commands told. Servers may go down while
+    they lead, or roles may change by two calls, or neither."""
 
     name: str
     leads_when_down: bool = False
@@ -78,8 +84,9 @@ class Chapter:
         """What there was of it, and what clients met."""
         mine = list(filter(self.has, gaps))
         waits = without_service(it for it in asked if self.begin <= it["start"] and it["end"] <= self.end)
-        kinds = [f"{len(them)} {what}, the longest {max(it.seconds for it in them):.2f} s" for them, what in (
-            ([it for it in mine if it.is_change], "changes of roles"), ([it for it in mine if not it.is_change], "shards whose server was down")) if them]
+        words = {True: "changes of roles", False: "with its server down"}
+        times = {what: [it.seconds for it in mine if it.is_change == is_change] for is_change, what in words.items()}
+        kinds = [f"{len(them)} {what}, the longest {max(them):.2f} s" for what, them in times.items() if them]
         return (f"{self.name:45} {(self.end - self.begin) / 1e9:5.1f} s; nobody serves a shard: {' and '.join(kinds) or 'never'}; "
                 f"a shard's longest time without a reply {max(waits.values(), default=0):.2f} s")
 
@@ -148,8 +155,8 @@ class Walk(Run):
         at = words.index("--") if "--" in words else len(words)
         pipe, joined = asyncio.subprocess.PIPE, asyncio.subprocess.STDOUT
         process = await asyncio.create_subprocess_exec(
-            sys.executable, "-m", "smplan.control_commands", *words[:at], *urls, *words[at:], stdin=asyncio.subprocess.DEVNULL, stdout=pipe, stderr=joined,
-            env={**os.environ, **ENVIRONMENT}, preexec_fn=die_with_parent)
+            sys.executable, "-m", "smplan.control_commands", *words[:at], *urls, *words[at:],
+            stdin=asyncio.subprocess.DEVNULL, stdout=pipe, stderr=joined, env={**os.environ, **ENVIRONMENT}, preexec_fn=die_with_parent)
         assert process.stdout is not None
         async for line in process.stdout:
             chapter.told.append((time.monotonic_ns(), line.decode().rstrip()))
@@ -207,7 +214,7 @@ def judged(walk: Walk) -> list[str]:
 
 def arguments() -> argparse.Namespace:
     """Reads the command line."""
-    parser = argparse.ArgumentParser(prog="cluster.walk", description="Does by smplan-control's commands what an operator does with a cluster under load.")
+    parser = argparse.ArgumentParser(prog="cluster.walk", description="Does by smplan-control's commands what an operator does with a service under load.")
     add_session(parser)
     parser.add_argument("--servers", type=int, default=6, help="how many servers, in three regions (default %(default)s)")
     parser.add_argument("--shards", type=int, default=24, help="how many shards (default %(default)s)")
@@ -226,7 +233,8 @@ def main() -> int:
     told = arguments()
     signal.signal(signal.SIGTERM, signal.default_int_handler)
     directory = new_directory("walk-", told.dir)
-    settings = Settings(directory, shape_of(told, told.seed), program_of(told.program), rates=ROUGH if told.rough else CALM, pause=told.pause, is_busy=told.busy)
+    rates = ROUGH if told.rough else CALM
+    settings = Settings(directory, shape_of(told, told.seed), program_of(told.program), rates=rates, pause=told.pause, is_busy=told.busy)
     walk = Walk(settings)
     try:
         result = asyncio.run(walk.run())

@@ -223,8 +223,8 @@ class Thinning:
         """The shards of lesser load whose replicas may go instead, and are enough, the least first. (The move is out of the list.)"""
         fleet, source = self.fleet, move.source
         need = self.used[source] - self.top.numerator * fleet.room[source] // self.top.denominator
-        may = (it for it in fleet.at[source] if need <= fleet.load[it] < fleet.load[move.shard] and move.target not in fleet.cells[it] and fleet.can_copy(it))
-        return sorted((it for it in may if self.is_apart(it, move)), key=lambda it: (fleet.load[it], it))
+        may = (it for it in fleet.at[source] if need <= fleet.load[it] < fleet.load[move.shard] and move.target not in fleet.cells[it])
+        return sorted((it for it in may if fleet.can_copy(it) and self.is_apart(it, move)), key=lambda it: (fleet.load[it], it))
 
     def is_apart(self, shard: int, move: Move) -> bool:
         """Whether no move of a shard leaves the same server, or comes to the same one."""
