@@ -7,7 +7,7 @@ from unittest import mock
 from fixtures import program
 from reach_cases import Case, Wrong, rows_of
 from smplan import streams
-from smplan.blocks import Kind
+from smplan.blocks import Block, Kind, Way
 from smplan.fleet import Fleet
 from smplan.model import document_of
 from smplan.reach import Limits, Reach
@@ -176,6 +176,8 @@ WRONG = {
     "a spare replica is not declared": mock.patch.object(Steps, "need_spare", lambda _: None),
     "a move drops first": mock.patch.object(streams, "write_block", dropping_first),
     "a right is declared twice": mock.patch.object(Steps, "need_cell", declaring_twice),
+    "regions are not looked at": mock.patch.object(Way, "keeps_spread", lambda *_: True),
+    "roles change by two calls where none may": mock.patch.object(Way, "exchange", lambda way, old, new: Block(Kind.SWAP, way.shard, old, new)),
 }
 
 
