@@ -121,14 +121,17 @@ class Server:
     def request(self, shard, request, command, how=Request()):
         """Answers a client's request, or one that is passed on: its reply, or NOT_HERE or NOT_YET."""
         with self.db:
-            answer, onward = agent.route(self.base(), self.slot(shard), self.applied(shard), how)
+            before = self.applied(shard)
+            answer, onward = agent.route(self.base(), self.slot(shard), before, how)
             if answer == Answer.EXECUTE:
                 if how.is_passed:  # (a passed request may tell the cut before the old owner does)
                     self.store_slot(shard, agent.seal(self.slot(shard), how.handover, how.cut))
-                return self.execute(shard, request, command)
+                reply = self.execute(shard, request, command)
         if answer == Answer.PASS_ON:
             return self.peers[onward.party].request(shard, request, command, replace(onward, party=self.number))
-        return answer
+        if answer == Answer.EXECUTE and self.applied(shard) > before:
+            self.replicate(shard, request, command)
+        return reply if answer == Answer.EXECUTE else answer
 
     def execute(self, shard, request, command):
         """Executes a request once: a write, as ("append", key, text), or a read, as ("get", key)."""
@@ -138,10 +141,13 @@ class Server:
         if command[0] == "get":
             return self.value(shard, command[1])
         self.write(shard, request, command)
-        for peer in self.peers.values():  # (each live secondary has a write before it is acknowledged, and the other server of a handover)
+        return self.value(shard, command[1])
+
+    def replicate(self, shard, request, command):
+        """Sends a write that is durable here to each live secondary, and to the other server of a handover, before it is acknowledged."""
+        for peer in self.peers.values():
             if peer is not self:
                 peer.follow(shard, self.applied(shard), request, command)
-        return self.value(shard, command[1])
 
     def value(self, shard, key):
         row = self.db.execute("SELECT value FROM pairs WHERE shard = ? AND key = ?", (shard, key)).fetchone()
