@@ -60,7 +60,7 @@ class Fleet:
                 {"server": one, "state": "primary"}, {"server": two, "state": "secondary"}]} for it, (one, two) in cells.items()]}))
 
     def start(self, name):
-        words, at = [sys.executable, ROOT / "examples/kv_http.py", name, ",".join(self.controllers.values()), self.folder / f"{name}.sqlite"], self.folder
+        words, at = [sys.executable, ROOT / "examples/kv_http.py", name, ",".join(self.controllers.values()), self.folder / f"{name}.sqlite", "--new"], self.folder
         if name in self.members:
             clients, peers = self.members[name]
             cluster = ",".join(f"{it}={peer}" for it, (_, peer) in self.members.items())

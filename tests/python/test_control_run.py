@@ -464,7 +464,7 @@ class StoryTest(unittest.TestCase):
         self.start("run", "-m", "smplan.control_commands", "run", "fleet.json", "--session", session, "--http", f"127.0.0.1:{port}", "--open", "service.json")
         self.until(lambda: self.ask("/healthz")["leads"])
         for it in "abc":
-            self.start(it, str(ROOT / "examples/kv_http.py"), it, self.controller, f"{it}.sqlite")
+            self.start(it, str(ROOT / "examples/kv_http.py"), it, self.controller, f"{it}.sqlite", "--new")
         for it in "abc":
             self.until(lambda it=it: self.base(it) is not None)
 

@@ -1,0 +1,69 @@
+"""What a service says of its shards, and what a server has of one in memory."""
+from __future__ import annotations
+
+import threading
+from dataclasses import dataclass, field
+from typing import Any, Dict, Optional, Protocol
+
+from .server_records import Mark
+from .server_storage import Transaction
+
+
+class Service(Protocol):
+    """A service's own work. Commands, replies and copies are values of JSON, the same at each server. A ValueError refuses a command."""
+
+    def is_read(self, command: Any) -> bool:
+        """Whether a command changes nothing."""
+
+    def read(self, tx: Transaction, shard: str, command: Any) -> Any:
+        """Returns the reply of a command that changes nothing."""
+
+    def apply(self, tx: Transaction, shard: str, command: Any) -> Any:
+        """Executes a command, and returns its reply. It does the same at each server that has executed the same commands before."""
+
+    def copy(self, tx: Transaction, shard: str) -> Any:
+        """Returns all data of a shard."""
+
+    def load(self, tx: Transaction, shard: str, copy: Any) -> None:
+        """Stores all data of a shard, which has none."""
+
+    def drop(self, tx: Transaction, shard: str) -> None:
+        """Deletes all data of a shard."""
+
+
+@dataclass
+class Link:
+    """What a source of writes knows of another server: whether it has to be asked, up to which position it has this list, where its own one is said
+    to end, and until when it is taken for dead."""
+
+    lock: threading.Lock = field(default_factory=threading.Lock)
+    is_asked: bool = True
+    joined: int = 0
+    has: int = -1
+    mark: Optional[Mark] = None
+    failures: int = 0
+    dead_until: float = 0.0
+
+    def ask_anew(self) -> None:
+        """Forgets what the other server has; what it was asked before counts no more."""
+        self.joined, self.is_asked, self.has, self.dead_until = self.joined + 1, True, -1, 0.0
+
+
+@dataclass
+class Live:
+    """A shard in memory. Requests that run belong to a term; if it ends, they are not acknowledged. Writes up to `acknowledged` are at all who are
+    alive. No order that holds requests back begins before `rest_until`."""
+
+    running: int = 0
+    term: int = 0
+    is_held: bool = False
+    worker: int = 0
+    caught_up: int = 0
+    said: str = ""
+    rest_until: float = 0.0
+    acknowledged: int = 0
+    links: Dict[int, Link] = field(default_factory=dict)
+
+    def begin_anew(self) -> None:
+        """Forgets what other servers have, since who executes is another one, or may be."""
+        self.acknowledged, self.links = 0, {}
