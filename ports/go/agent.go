@@ -1,7 +1,7 @@
-// Package main: a server's side of moving shards, in plain Go: a port of the library of include/sm_agent.h, which says what each function
-// answers. The proved functions write vectors (`make vectors`, tests/agent/README.md), which this port passes. Copy the file into a package
-// of your own.
-package main
+// Package smplan is a server's side of moving shards, in plain Go: a port of the library of include/sm_agent.h, which says what each function
+// answers. The proved functions write vectors (`make vectors`, tests/agent/README.md), which this port passes. The package server beside it is a
+// frame for servers; agent.go alone may also be copied into a package of your own.
+package smplan
 
 // CellKind says what a server has of a shard.
 type CellKind int

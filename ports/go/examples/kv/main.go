@@ -1,0 +1,83 @@
+// Command kv is a key-value service over the frame for servers: examples/kv_http.py in Go.
+//
+//	cd ports/go && go run ./examples/kv [-new] NAME http://127.0.0.1:9200 /var/lib/kv/NAME.log
+package main
+
+import (
+	"encoding/json"
+	"flag"
+	"fmt"
+	"log"
+	"net/url"
+	"strings"
+
+	"hammerecru.example/smplan/server"
+)
+
+// texts are a shard's: texts by key. "append" adds to one; the reply is the whole text.
+type texts struct{}
+
+func place(shard, key string) string { return "kv/" + url.QueryEscape(shard) + "/" + key }
+
+// wordsOf are a command's words: ["get", key] or ["append", key, text].
+func wordsOf(command json.RawMessage) (words []string) {
+	if json.Unmarshal(command, &words) != nil || len(words) < 2 {
+		return []string{"", ""}
+	}
+	return words
+}
+
+func (texts) IsRead(command json.RawMessage) bool { return wordsOf(command)[0] == "get" }
+
+func (texts) Read(tx server.Tx, shard string, command json.RawMessage) (any, error) {
+	text, _ := tx.Get(place(shard, wordsOf(command)[1]))
+	return text, nil
+}
+
+func (texts) Apply(tx server.Tx, shard string, command json.RawMessage) (any, error) {
+	words := wordsOf(command)
+	if words[0] != "append" || len(words) != 3 {
+		return nil, fmt.Errorf("no command: %s", command)
+	}
+	text, _ := tx.Get(place(shard, words[1]))
+	tx.Put(place(shard, words[1]), text+words[2])
+	return text + words[2], nil
+}
+
+func (texts) Copy(tx server.Tx, shard string) (any, error) {
+	all, begin := map[string]string{}, place(shard, "")
+	for _, pair := range tx.List(begin) {
+		all[strings.TrimPrefix(pair.Key, begin)] = pair.Text
+	}
+	return all, nil
+}
+
+func (texts) Load(tx server.Tx, shard string, data json.RawMessage) error {
+	var all map[string]string
+	err := json.Unmarshal(data, &all)
+	for key, text := range all {
+		tx.Put(place(shard, key), text)
+	}
+	return err
+}
+
+func (texts) Drop(tx server.Tx, shard string) {
+	for _, pair := range tx.List(place(shard, "")) {
+		tx.Delete(pair.Key)
+	}
+}
+
+func main() {
+	isNew := flag.Bool("new", false, "the service is new, and no shard has data yet")
+	flag.Parse()
+	store, err := server.OpenFile(flag.Arg(2))
+	if err != nil {
+		log.Fatal(err)
+	}
+	settings := server.Settings{Name: flag.Arg(0), Controllers: strings.Split(flag.Arg(1), ","), IsNew: *isNew}
+	it, err := server.New(settings, texts{}, store)
+	if err != nil {
+		log.Fatal(err)
+	}
+	log.Fatal(it.Run())
+}

@@ -1,0 +1,3 @@
+module hammerecru.example/smplan
+
+go 1.18

@@ -1,0 +1,215 @@
+package server
+
+import (
+	"encoding/json"
+	"fmt"
+	"time"
+
+	"hammerecru.example/smplan"
+)
+
+// told is what a follower makes of an offer.
+type told int
+
+const (
+	hasAll told = iota
+	lacks
+	nothing
+	later
+	overtaken
+	dead
+)
+
+// isSourceFor returns whether a server with this slot gives its writes to another one: who executes to all, an old owner up to its cut to the new
+// one.
+func isSourceFor(slot smplan.Slot, position uint64, number uint32) bool {
+	switch slot.Cell.Kind {
+	case smplan.Forwarding:
+		return slot.Cell.Party == number
+	case smplan.Prepared:
+		return smplan.HasReachedCut(slot, position)
+	}
+	return slot.Cell.Kind == smplan.Primary
+}
+
+// -- offers
+
+// offer is what a server lacks whose list ends at a mark: the writes behind it, or a whole copy if the mark is not this list's, or too far behind.
+func (it *Server) offer(kept records, shard string, after mark) (line offerLine, err error) {
+	slot, base := kept.slot(shard), kept.base()
+	line = offerLine{Shard: shard, From: it.number(), Journal: fmt.Sprintf("%x", base.Journal), Heard: kept.heard(), Mark: kept.mark(shard), After: after}
+	if slot.Cell.Kind == smplan.Forwarding {
+		line.Cut = &[2]uint64{slot.Cell.Number, slot.Cut}
+	}
+	if kept.has(shard, after) && line.Mark.Position-after.Position <= mostWrites {
+		line.Writes = kept.kept(shard, after.Position)
+		return line, nil
+	}
+	copied, err := it.service.Copy(kept.Tx, shard)
+	if err != nil {
+		return line, err
+	}
+	data, err := json.Marshal(copied)
+	line.Copy = &copyLine{kept.ledger(shard).Before, kept.kept(shard, 0), data}
+	return line, err
+}
+
+// load puts an offered copy in place of what is here.
+func (it *Server) load(kept records, shard string, copied copyLine) error {
+	var old uint32
+	kept.read(place("old", shard), &old)
+	it.service.Drop(kept.Tx, shard)
+	kept.clear(shard)
+	kept.putOldOwner(shard, old)
+	kept.putLedger(shard, ledger{copied.Before, copied.Before})
+	for _, next := range copied.Writes {
+		kept.append(shard, next, it.Limits.Keeping)
+	}
+	return it.service.Load(kept.Tx, shard, copied.Data)
+}
+
+// takeOffer takes an offer, unless the list here has changed since it was asked for, and returns whether all that the source has is here.
+func (it *Server) takeOffer(kept records, shard string, line offerLine) (bool, error) {
+	after, here := line.After, kept.mark(shard)
+	if line.Copy != nil && after == here {
+		if err := it.load(kept, shard, *line.Copy); err != nil {
+			return false, err
+		}
+	}
+	for _, next := range line.Writes {
+		if after == here {
+			if _, err := it.service.Apply(kept.Tx, shard, next.Command); err != nil {
+				return false, err
+			}
+			kept.append(shard, next, it.Limits.Keeping)
+			here = next.mark()
+		}
+		after = next.mark()
+	}
+	has := kept.has(shard, line.Mark)
+	if has && !kept.hasCopy(shard) {
+		kept.putLedger(shard, ledger{})
+	}
+	return has, nil
+}
+
+// -- the side that follows
+
+// refused is what a server answers to a source that it does not follow now, if so.
+func refused(kept records, line offerLine) *followLine {
+	base, slot := kept.base(), kept.slot(line.Shard)
+	journal, err := hexadecimal(line.Journal)
+	switch kind := slot.Cell.Kind; {
+	case !base.Known || err != nil || journal != base.Journal:
+		return &followLine{Later: "unknown"}
+	case line.Heard < kept.heard():
+		return &followLine{Overtaken: true}
+	case kind == smplan.Absent && slot.AtWork == 0 && !base.Fenced:
+		return &followLine{Nothing: true}
+	case kind == smplan.Secondary:
+		return nil
+	case !isInHandover(slot) || slot.Cell.Party != line.From:
+		return &followLine{Later: "it follows another server"}
+	case kind == smplan.Prepared && smplan.HasReachedCut(slot, kept.mark(line.Shard).Position):
+		return &followLine{Has: true}
+	}
+	return nil
+}
+
+// taken takes what a source sends, and tells it what is here.
+func (it *Server) taken(line offerLine) (any, error) {
+	var answer *followLine
+	err := it.transact(func(kept records) error {
+		if answer = refused(kept, line); answer != nil {
+			return nil
+		}
+		has, err := it.takeOffer(kept, line.Shard, line)
+		if err != nil {
+			return err
+		}
+		if line.Cut != nil {
+			kept.putSlot(line.Shard, smplan.Seal(kept.slot(line.Shard), line.Cut[0], line.Cut[1]))
+		}
+		if answer = (&followLine{Has: true}); !has {
+			here := kept.mark(line.Shard)
+			answer = &followLine{Lacks: &here}
+		}
+		return nil
+	})
+	it.with(line.Shard, func(*live) {})
+	return answer, err
+}
+
+// given gives another server what it lacks, and sends it each write from then on. Beside that, a secondary gives what it has to one that becomes
+// primary.
+func (it *Server) given(line askLine) (answer any, err error) {
+	if it.nameOf(line.From) == fmt.Sprint(line.From) {
+		it.look()
+	}
+	err = it.transact(func(kept records) (err error) {
+		base, slot, here := kept.base(), kept.slot(line.Shard), kept.mark(line.Shard)
+		journal, wrong := hexadecimal(line.Journal)
+		switch {
+		case wrong != nil || !base.Known || journal != base.Journal || kept.heard() < line.Heard:
+			answer = offerLine{Said: "it does not know"}
+		case line.Beside && slot.Cell.Kind == smplan.Secondary && here.Position <= line.After.Position:
+			answer = offerLine{Less: &here.Position}
+		case line.Beside && slot.Cell.Kind == smplan.Secondary:
+			answer, err = it.offer(kept, line.Shard, line.After)
+		case !isSourceFor(slot, here.Position, line.From):
+			answer = offerLine{Said: "it is no source of " + line.Shard}
+		default:
+			it.with(line.Shard, func(live *live) {
+				link := live.link(line.From)
+				link.joined, link.isNothing, link.has, link.mark, link.deadUntil = link.joined+1, false, -1, &line.After, time.Time{}
+			})
+			answer, err = it.offer(kept, line.Shard, line.After)
+		}
+		return err
+	})
+	return answer, err
+}
+
+// asked asks a source for what is lacking here.
+func (it *Server) asked(shard string, source uint32, beside bool) (offer offerLine, err error) {
+	var line askLine
+	it.transact(func(kept records) error {
+		line = askLine{shard, it.number(), fmt.Sprintf("%x", kept.base().Journal), kept.heard(), kept.mark(shard), beside}
+		return nil
+	})
+	err = it.ask(source, "copy", line, &offer, it.Limits.Working)
+	if err == nil && offer.Said != "" {
+		err = fmt.Errorf("%s: %s", it.nameOf(source), offer.Said)
+	}
+	return offer, err
+}
+
+// follows returns whether a server with this slot takes what a primary executes.
+func follows(slot smplan.Slot, position uint64) bool {
+	return slot.Cell.Kind == smplan.Secondary || slot.Cell.Kind == smplan.Prepared && !smplan.HasReachedCut(slot, position)
+}
+
+// catchUp takes all that a source has, if it is to be followed.
+func (it *Server) catchUp(shard string, source uint32) error {
+	isFollower := false
+	it.transact(func(kept records) error {
+		isFollower = follows(kept.slot(shard), kept.mark(shard).Position)
+		return nil
+	})
+	if !isFollower {
+		return nil
+	}
+	offer, err := it.asked(shard, source, false)
+	if err != nil {
+		return err
+	}
+	return it.transact(func(kept records) error {
+		if !follows(kept.slot(shard), kept.mark(shard).Position) {
+			return nil
+		}
+		if has, err := it.takeOffer(kept, shard, offer); err != nil || !has {
+			return fmt.Errorf("%s has sent something else meanwhile: %v", it.nameOf(source), err)
+		}
+		return nil
+	})
+}
