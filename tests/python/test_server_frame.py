@@ -1,0 +1,517 @@
+"""The frame for servers (python/smplan/server*.py, ports/go/server): three servers in Python and one in Go move a shard between them under load, and
+are killed; and schedules in one process, that do no harm at the frame, and do harm at frames with a planted bug."""
+import json
+import os
+import pathlib
+import random
+import shutil
+import signal
+import socket
+import subprocess
+import sys
+import tempfile
+import threading
+import time
+import unittest
+from concurrent.futures import Future
+from contextlib import nullcontext
+from dataclasses import replace
+from unittest import mock
+from urllib.parse import urlsplit
+from urllib.request import urlopen
+
+from smplan import agent
+from smplan.agent import Answer, Call, Cell, Request, Role, Slot
+from smplan.control_agent import told_of
+from smplan.server import Limits, Server, Sqlite
+from smplan.server_orders import NotYet
+from smplan.server_records import Records
+
+ROOT = pathlib.Path(__file__).resolve().parents[2]
+sys.path[:0] = [str(ROOT / "examples"), str(ROOT / "tests/agent")]
+import kv_http  # noqa: E402  (the path comes first)
+import kv_rules  # noqa: E402
+
+ENVIRONMENT = {**os.environ, "PYTHONPATH": str(ROOT / "python"), "PYTHONDONTWRITEBYTECODE": "1"}
+SMPLAND = pathlib.Path(os.environ.get("SMPLAND") or ROOT / "build/smpland")
+HAS_GO = shutil.which("go") is not None
+
+
+def go(*words):
+    """Runs go in its module."""
+    (ROOT / "build").mkdir(exist_ok=True)
+    done = subprocess.run(["go", *words], cwd=ROOT / "ports/go", capture_output=True, text=True, check=False,
+                          env={**os.environ, "GOCACHE": str(ROOT / "build/go-cache"), "GOPROXY": "off"})
+    if done.returncode:
+        raise AssertionError(done.stdout + done.stderr)
+
+
+def ask(url, line=None, timeout=10.0):
+    with urlopen(url, None if line is None else json.dumps(line).encode(), timeout=timeout) as answer:
+        return json.load(answer)
+
+
+def free_ports(count):
+    sockets = [socket.create_server(("127.0.0.1", 0)) for _ in range(count)]
+    ports = [it.getsockname()[1] for it in sockets]
+    for it in sockets:
+        it.close()
+    return ports
+
+
+def handover(shard, load, old, new):
+    """A plan that hands a shard from its primary to a server that has nothing of it."""
+    calls = [("prepare_add", new, {"other": old}), ("prepare_drop", old, {"other": new}), ("add", new, {"role": "primary"}), ("publish", None, {}),
+             ("drop", old, {})]
+    code = [{"do": word, "shard": shard, **({"server": server} if server else {}), **rest} for word, server, rest in calls]
+    holds = {"cells": [{"server": new, "shard": shard, "state": "absent"}], "crowns": [{"lead": "at", "listed": old, "server": old, "shard": shard}],
+             "room": [{"amount": load, "server": new}], "spare": []}
+    return {"budget": 4, "format": 1, "signals": [], "streams": [{"budget": 4, "code": code, "holds": holds}]}
+
+
+class Client(threading.Thread):
+    """Appends words to a key of its own, each under an identity until it is acknowledged."""
+
+    def __init__(self, fleet, number):
+        super().__init__(daemon=True)
+        self.fleet, self.key, self.words, self.fault, self.is_over = fleet, f"k{number}", [], None, False
+
+    def run(self):
+        place = 0
+        while not self.is_over:
+            place += 1
+            word = f"<{place}>"
+            reply = None
+            while reply is None and not self.is_over:
+                reply = self.fleet.request(f"{self.key}-{place}", ["append", self.key, word])
+            if reply is not None:
+                self.words.append(word)
+                if reply != "".join(self.words):
+                    self.fault = self.fault or f"{self.key}: the reply to {word} is {reply[-60:]}"
+
+
+class Fleet:
+    """A controller, and servers a, b and c in Python and g in Go, which are processes."""
+
+    def __init__(self, folder, has_go):
+        self.folder, self.running, self.has_go = pathlib.Path(folder), {}, has_go
+        self.dice = random.Random(7)
+        port, *ports = free_ports(5)
+        self.controller, self.urls = f"http://127.0.0.1:{port}", {it: f"http://127.0.0.1:{at}" for it, at in zip("abcg", ports)}
+        (self.folder / "fleet.json").write_text(json.dumps({
+            "servers": {it: {"number": at + 1, "url": url} for at, (it, url) in enumerate(self.urls.items())}, "map": {"file": "map.json"}}))
+        cells = [{"server": "a", "state": "primary"}, {"server": "b", "state": "secondary"}, {"server": "c", "state": "secondary"}]
+        (self.folder / "service.json").write_text(json.dumps({
+            "limit": 1, "servers": [{"name": it, "region": "r", "room": 10} for it in self.urls],
+            "shards": [{"name": "s", "load": 4, "want": 3, "cap": 2, "spread": 1, "listed": "a", "cells": cells}]}))
+
+    def start(self, name, *words):
+        with open(self.folder / f"{name}.log", "a", encoding="utf-8") as log:
+            self.running[name] = subprocess.Popen([str(it) for it in words], stdout=log, stderr=log, cwd=self.folder, env=ENVIRONMENT)
+
+    def start_controller(self):
+        session = f"{SMPLAND} journal" if SMPLAND.exists() else f"{sys.executable} {ROOT}/tools/smpland_model.py -"
+        self.start("run", sys.executable, "-m", "smplan.control_commands", "run", "fleet.json", "--session", session,
+                   "--http", self.controller.removeprefix("http://"), "--open", "service.json")
+
+    def start_server(self, name, *words):
+        is_go = name == "g" and self.has_go
+        program = [self.folder / "kv", *words] if is_go else [sys.executable, ROOT / "examples/kv_http.py", *(f"-{it}" for it in words)]
+        self.start(name, *program, name, self.controller, f"{name}.store")
+
+    def kill(self, name):
+        self.running[name].send_signal(signal.SIGKILL)
+        self.running[name].wait()
+
+    def until(self, condition, what, seconds=60):
+        until = time.monotonic() + seconds
+        while True:
+            try:
+                if condition():
+                    return
+            except OSError:
+                pass
+            if time.monotonic() > until:
+                raise AssertionError(f"{what}: " + "".join(f"\n-- {it}\n{(self.folder / f'{it}.log').read_text()[-1500:]}" for it in self.running))
+            time.sleep(0.05)
+
+    def is_up(self, name):
+        return ask(f"{self.urls[name]}/base")["base"] is not None
+
+    def listed(self):
+        return json.loads((self.folder / "map.json").read_text())["entries"]["s"]["to"]
+
+    def request(self, identity, command):
+        """Sends a request to the server that the map shows, or to any if that says nothing."""
+        for server in [self.listed(), self.dice.choice("abcg")]:
+            try:
+                told = ask(f"{self.urls[server]}/request", {"shard": "s", "request": identity, "command": command})
+                if "reply" in told:
+                    return told["reply"]
+            except OSError:
+                pass
+        time.sleep(0.02)
+        return None
+
+    def begin(self, name, old, new):
+        told = ask(f"{self.controller}/do", {"do": "begin", "plan": handover("s", 4, old, new), "name": name})
+        if "begun" not in told:
+            raise AssertionError(told)
+
+    def move(self, name, old, new):
+        self.begin(name, old, new)
+        self.until(lambda: self.is_at_rest() and self.listed() == new, name)
+
+    def is_at_rest(self):
+        state = ask(f"{self.controller}/ask", {"do": "state"})["state"]
+        return not ask(f"{self.controller}/outgoing") and all(it["is"] != "running" for it in state["plans"])
+
+    def marks(self):
+        """How many writes each server has of the shard, by its cell."""
+        return {name: {it["shard"]: (it["cell"], it["position"]) for it in ask(f"{url}/slots")["slots"]} for name, url in self.urls.items()}
+
+    def end(self):
+        for it in self.running.values():
+            it.kill()
+            it.wait()
+
+
+@unittest.skipUnless(HAS_GO, "there is no go")
+class GoTest(unittest.TestCase):
+    """The module in Go."""
+
+    def test_its_tests_pass(self):
+        go("vet", "./...")
+        go("test", "./...")
+
+
+class FleetTest(unittest.TestCase):
+    """Processes over HTTP."""
+
+    def setUp(self):
+        folder = tempfile.TemporaryDirectory(prefix="server-frame-")
+        self.addCleanup(folder.cleanup)
+        self.fleet = Fleet(folder.name, has_go=HAS_GO)
+        self.addCleanup(self.fleet.end)
+        self.fleet.start_controller()
+        if self.fleet.has_go:
+            go("build", "-o", f"{folder.name}/kv", "./examples/kv")
+        else:
+            subprocess.run([ROOT / "scripts/leave-out", "the frame for servers in Go", "there is no go"], check=True)
+        self.fleet.until(lambda: ask(f"{self.fleet.controller}/healthz")["leads"], "the controller")
+        for it in "abcg":
+            self.fleet.start_server(it, "-new")
+        for it in "abcg":
+            self.fleet.until(lambda it=it: self.fleet.is_up(it), it)
+
+    def test_a_shard_moves_between_python_and_go_under_harm(self):
+        fleet = self.fleet
+        clients = [Client(fleet, it) for it in range(3)]
+        for it in clients:
+            it.start()
+        time.sleep(0.5)
+        fleet.move("there", "a", "g")
+        fleet.begin("back", "g", "a")
+        for name in "gagb":
+            time.sleep(0.3)
+            fleet.kill(name)
+            fleet.start_server(name)
+        fleet.until(lambda: fleet.is_at_rest() and fleet.listed() == "a", "back")
+        fleet.kill("c")
+        for it in fleet.folder.glob("c.store*"):
+            it.unlink()
+        fleet.start_server("c")
+        fleet.until(lambda: fleet.is_up("c"), "c is restored")
+        fleet.move("again", "a", "g")
+        for it in clients:
+            it.is_over = True
+            it.join(20)
+        values = {it.key: None for it in clients}
+        for key in values:
+            fleet.until(lambda key=key: values.update({key: fleet.request(None, ["get", key])}) or values[key] is not None, key)
+        for it in clients:
+            self.assertIsNone(it.fault)
+            self.assertGreater(len(it.words), 5)
+            self.assertIn(values[it.key].removeprefix("".join(it.words)), ("", f"<{len(it.words) + 1}>"))
+        position = fleet.marks()["g"]["s"][1]
+        wanted = {"a": {}, "b": {"s": ("secondary", position)}, "c": {"s": ("secondary", position)}, "g": {"s": ("primary", position)}}
+        fleet.until(lambda: fleet.marks() == wanted, f"{wanted}, and not {fleet.marks()}", 10)
+
+
+# -- schedules in one process
+
+FAST = Limits(answering=0.0, working=1.0, waiting=0.2, peer=0.05, fencing=0.1, resting=0.0)
+NAMES = {it: f"v{it}" for it in (1, 2, 3)}
+
+
+class Inline:
+    """Runs at once what a server would do beside."""
+
+    def submit(self, work, *words):
+        done = Future()
+        done.set_result(work(*words))
+        return done
+
+
+class Frame(Server):
+    """A server of the frame with the functions of examples/kv_server.py, by which the schedules of tests/agent/kv_rules.py play."""
+
+    def __init__(self, number, peers):
+        self.peers, self.db = peers, nullcontext()
+        peers[number] = self
+        super().__init__(NAMES[number], kv_http.Texts(), Sqlite(":memory:"), [], is_new=True, limits=FAST)
+        self.pool, self.call = Inline(), self.call_peer
+        self.learn({name: {"number": at, "url": f"http://{name}"} for at, name in NAMES.items()})
+
+    def call_peer(self, url, line, seconds):
+        parts = urlsplit(url)
+        peer = self.peers.get(int(parts.hostname[1:]))
+        if peer is None:
+            raise OSError("nobody answers")
+        answer = peer.follow(line) if parts.path == "/peer/follow" else peer.answer(parts.path, json.loads(json.dumps(line)))
+        return json.loads(json.dumps(answer))
+
+    def kept(self, work):
+        with self.storage.transaction() as tx:
+            return work(Records(tx))
+
+    def start(self):
+        self.shards.clear()
+        self.whole.start()
+
+    def base(self):
+        return self.kept(lambda it: it.base())
+
+    def slot(self, shard):
+        return self.kept(lambda it: it.slot(shard))
+
+    def applied(self, shard):
+        return self.kept(lambda it: it.mark(shard).position)
+
+    def value(self, shard, key):
+        return self.kept(lambda it: self.service.read(it.tx, shard, ["get", key]))
+
+    def copy_of(self, shard):
+        return list(self.kept(lambda it: self.service.copy(it.tx, shard)).items()), []
+
+    def forget(self):
+        self.kept(self.whole.forget)
+
+    def line_of(self, shard, it):
+        named = {Call.PREPARE_ADD: "from", Call.PREPARE_DROP: "to"}.get(it.call)
+        line = {"journal": f"{it.journal:x}", "fence": it.fence, "number": it.number, "load": it.load, "room": it.room, "call": it.call.name.lower(),
+                "shard": shard, "handover": it.handover, "role": it.role.name.lower() if it.role else None, "replicas": [],
+                "primary": next((NAMES[at] for at, peer in self.peers.items() if peer.slot(shard).cell == Cell.PRIMARY), None)}
+        return {**line, **({named: NAMES[it.party]} if named else {})}
+
+    def order(self, shard, it):
+        self.heed(it.journal, it.fence)
+        return self.orders.begin(shard, it)
+
+    def work(self, shard, it):
+        line = self.line_of(shard, it)
+        try:
+            self.orders.commit(shard, it, self.orders.prepare(shard, it, line))
+        except NotYet:
+            return False
+        return self.orders.done(shard, it, line) == {"done": True}
+
+    def request(self, shard, request, command, how=Request()):
+        told = self.requests.request(shard, request, list(command), how)
+        return told["reply"] if "reply" in told else Answer[told["said"].upper()]
+
+    def follow(self, line):
+        return self.offers.taken(json.loads(json.dumps(line)))
+
+    def fence(self, journal, number):
+        return self.whole.fence({"journal": f"{journal:x}", "base": number})
+
+    def settle(self, journal, number, nonce, slots):
+        return self.whole.settle(self.line(journal, number, nonce, slots)) == {"done": True}
+
+    def restore(self, journal, fence, number, nonce, slots):
+        return self.whole.restore({**self.line(journal, number, nonce, slots), "fence": fence})
+
+    def line(self, journal, number, nonce, slots):
+        told = [told_of(shard, slot, NAMES, 0, False) for shard, slot in slots.items()]
+        return {"journal": f"{journal:x}", "base": number, "nonce": None if nonce is None else f"{nonce:x}", "slots": told}
+
+
+class CommitsFirst(Frame):
+    """Stores the slot of a new owner first, and copies the data afterwards."""
+    def order(self, shard, it):
+        verdict = super().order(shard, it)
+        if verdict == Answer.BEGIN and it.call == Call.PREPARE_ADD:
+            self.kept(lambda kept: kept.put_slot(shard, agent.commit(kept.base(), kept.slot(shard), it, 0)))
+        return verdict
+
+
+class KeepsTheRest(Frame):
+    """Keeps the slots of shards that a settle does not name."""
+    def settle(self, journal, number, nonce, slots):
+        kept = self.kept(lambda it: {shard: slot for shard, slot in it.slots().items() if shard not in slots})
+        with mock.patch.object(self.service, "drop"):
+            done = super().settle(journal, number, nonce, slots)
+        for shard, slot in kept.items():
+            self.kept(lambda it, shard=shard, slot=slot: it.put_slot(shard, slot))
+        return done
+
+
+class ForgetsRequests(Frame):
+    """Gives writes without the identities of their requests."""
+    def answer(self, path, line):
+        told = super().answer(path, line)
+        for it in [*told.get("writes", ()), *told.get("copy", {}).get("writes", ())]:
+            it["request"] = None
+        return told
+
+
+class AnswersAtOnce(Frame):
+    """Answers an order before its commit."""
+    def order(self, shard, it):
+        verdict = super().order(shard, it)
+        return Answer.DONE if verdict == Answer.BEGIN and it.call == Call.PREPARE_ADD else verdict
+
+
+class KeepsWork(Frame):
+    """Does not abandon what was at work when it starts."""
+    def start(self):
+        with mock.patch.object(self.whole, "abandon_all"):
+            super().start()
+
+
+class DeletesAtDrop(Frame):
+    """Deletes the slot of a shard that it drops."""
+    def work(self, shard, it):
+        done = super().work(shard, it)
+        if it.call == Call.DROP:
+            self.kept(lambda kept: kept.delete_slot(shard))
+        return done
+
+
+class ComesBackEmpty(Frame):
+    """Takes an empty disk for that of a server that has nothing."""
+    def forget(self):
+        super().forget()
+        self.kept(lambda it: it.put_base(agent.Base(journal=kv_rules.JOURNAL, known=1), 0))
+
+
+class KeepsItsNonce(Frame):
+    """Starts under the nonce that it has stored."""
+    def start(self):
+        stored = self.base()
+        super().start()
+        self.kept(lambda it: it.put_base(stored, 0))
+
+
+class AcknowledgesAlone(Frame):
+    """Acknowledges a write as soon as it is executed."""
+    def __init__(self, number, peers):
+        super().__init__(number, peers)
+        self.streams.replicate = lambda *words: True
+
+
+class ExecutesWhileForwarding(Frame):
+    """Executes a request after its cut."""
+    def __init__(self, number, peers):
+        super().__init__(number, peers)
+        where = self.requests.where
+        self.requests.where = lambda it, shard, how: (
+            (Answer.EXECUTE, Request()) if it.slot(shard).cell == Cell.FORWARDING else where(it, shard, how))
+
+
+class ExecutesBeforeTheCut(Frame):
+    """Executes a request that is passed on before it has the old owner's last writes."""
+    def __init__(self, number, peers):
+        super().__init__(number, peers)
+        where = self.requests.where
+        self.requests.where = lambda it, shard, how: where(it, shard, replace(how, cut=0))
+
+
+class LosesWithoutAsking(Frame):
+    """Takes a restore as primary of a shard whose data it has lost."""
+    def __init__(self, number, peers):
+        super().__init__(number, peers)
+        self.whole.lost = lambda line: ""
+
+
+def passed_before_the_cut(kind):
+    """The old owner's last write is late, and comes behind a request that it passes on."""
+    a, b = kv_rules.pair(kind)
+    kv_rules.push(a, "r1", "x")
+    kv_rules.want(kv_rules.answered(b, kv_rules.HANDOVER[0]), True)
+    b.follow = lambda line: {"later": "lost"}
+    kv_rules.push(a, "r2", "y")
+    kv_rules.want(kv_rules.answered(a, kv_rules.HANDOVER[1]), True)
+    kv_rules.push(a, "r3", "z")
+    del b.follow
+    a.streams.keep_up()
+    kv_rules.push(a, "r3", "z")
+    kv_rules.want((kv_rules.answered(b, kv_rules.HANDOVER[2]), kv_rules.read(b)), (True, "xyz"))
+
+
+def lost_disk(kind):
+    """A primary with a new disk is restored, though a secondary has all."""
+    a, b = kv_rules.pair(kind, Cell.SECONDARY)
+    kv_rules.push(a, "r1", "x")
+    a = kind(1, a.peers)
+    a.kept(lambda it: it.tx.delete("frame/new"))
+    a.restore(kv_rules.JOURNAL, 0, 0, a.base().nonce, {kv_rules.SHARD: Slot(cell=Cell.PRIMARY, load=1)})
+    kv_rules.want((kv_rules.read(a), b.value(kv_rules.SHARD, "k")), (Answer.NOT_HERE, "x"))
+
+
+def overtaken(kind):
+    """A primary that was given up, and heard nothing of it, acknowledges nothing, and takes nothing from those that are left."""
+    a, b = kv_rules.pair(kind, Cell.SECONDARY)
+    c = kind(3, a.peers)
+    c.restore(kv_rules.JOURNAL, 0, 0, c.base().nonce, {kv_rules.SHARD: Slot(cell=Cell.SECONDARY, load=1)})
+    kv_rules.push(a, "r1", "x")
+    for server, cell in ((b, Cell.PRIMARY), (c, Cell.SECONDARY)):
+        server.fence(kv_rules.JOURNAL, 100)
+        server.settle(kv_rules.JOURNAL, 100, None, {kv_rules.SHARD: Slot(cell=cell, load=1)})
+    kv_rules.want((kv_rules.push(b, "r2", "y"), kv_rules.push(a, "r3", "z")), ("xy", Answer.NOT_YET))
+    a.streams.keep_up()
+    kv_rules.want((b.value(kv_rules.SHARD, "k"), c.value(kv_rules.SHARD, "k")), ("xy", "xy"))
+
+
+def roles_change(kind):
+    """Two replicas change roles: the new primary has all, and the former one follows it."""
+    a, b = kv_rules.pair(kind, Cell.SECONDARY)
+    kv_rules.push(a, "r1", "x")
+    orders = (kv_rules.order(1, Call.CHANGE, role=Role.PRIMARY, new_role=Role.SECONDARY),
+              kv_rules.order(2, Call.CHANGE, role=Role.SECONDARY, new_role=Role.PRIMARY))
+    for server, it in zip((a, b), orders):
+        kv_rules.want(kv_rules.answered(server, it), True)
+    kv_rules.want((kv_rules.push(b, "r2", "y"), a.value(kv_rules.SHARD, "k"), kv_rules.push(a, "r3", "z")), ("xy", "xy", Answer.NOT_HERE))
+
+
+SCHEDULES = (
+    (CommitsFirst, kv_rules.crash_amid_copy), (KeepsTheRest, kv_rules.late_after_settle), (ForgetsRequests, kv_rules.repeat_after_handover),
+    (AnswersAtOnce, kv_rules.crash_at_work), (KeepsWork, kv_rules.crash_and_repeat), (DeletesAtDrop, kv_rules.late_order),
+    (ComesBackEmpty, kv_rules.lost_state),
+    (KeepsItsNonce, kv_rules.given_up), (AcknowledgesAlone, kv_rules.lost_for_good), (ExecutesWhileForwarding, kv_rules.whole_handover),
+    (ExecutesBeforeTheCut, passed_before_the_cut), (LosesWithoutAsking, lost_disk), (None, overtaken), (None, roles_change))
+
+
+class RulesTest(unittest.TestCase):
+    """The eight rules of docs/YOUR-SERVERS.md at the frame."""
+
+    def setUp(self):
+        silence = mock.patch("sys.stderr")
+        silence.start()
+        self.addCleanup(silence.stop)
+
+    def test_no_schedule_does_harm_at_the_frame(self):
+        for _, schedule in SCHEDULES:
+            with self.subTest(schedule.__name__):
+                schedule(Frame)
+
+    def test_each_planted_bug_does_harm(self):
+        for kind, schedule in SCHEDULES:
+            if kind is not None:
+                with self.subTest(kind.__name__), self.assertRaises(AssertionError):
+                    schedule(kind)
+
+
+if __name__ == "__main__":
+    unittest.main()
