@@ -38,6 +38,10 @@ ALARMING = ("old", "foreign", "refused", "down", "already_held", "not_held", "wr
 # How old a message is when it is told as stuck, in seconds.
 STUCK = 60.0
 
+# What the end of a session may be that this program ends with as well, so that whoever restarts it knows: a fault of the command line, a journal that takes
+# nothing, one that another process has, one that is damaged. Any other end is told as 3.
+PASSED_ON = frozenset([2, 4, 5, 6])
+
 
 @dataclass(frozen=True)
 class Settings:
@@ -75,10 +79,11 @@ class Running:
         self.told: Set[Tuple[Any, ...]] = set()
 
     async def run(self) -> int:
-        """Runs until it is told to stop, 0, or its session ends, 3."""
+        """Runs until it is told to stop, 0, or its session ends: as that has ended, or 3."""
         session = await Session.start(self.settings.program, is_apart=True)
         controller = self.controller = Controller(session, self.fleet, keep, self.settings.pace)
         self.listen_to_signals()
+        status = 3
         try:
             self.server = await serve(self.settings.host, self.settings.port, self.routes(), self.settings.token, self.settings.tls)
             await self.adopt_map()
@@ -86,15 +91,14 @@ class Running:
             await self.open()
             log.info("leads over %s, listens at %s:%d", shlex.join(self.settings.program), self.settings.host, self.server.port)
             await self.act()
-            return 0
+            status = 0
         except (SessionEnded, StoreLost) as why:
             log.error("%s", why)
-            return 3
         except OSError as why:
             log.error("%s:%d: %s", self.settings.host, self.settings.port, why.strerror or why)
-            return 3
         finally:
-            await self.end()
+            ended = await self.end()
+        return ended if status and ended in PASSED_ON else status
 
     def listen_to_signals(self) -> None:
         """Stops at SIGTERM and SIGINT, reads the fleet's file anew at SIGHUP."""
@@ -149,18 +153,20 @@ class Running:
             self.tell_of_messages()
         log.info("stops")
 
-    async def end(self) -> None:
-        """Answers nobody any longer, sends nothing, and lets the session end."""
+    async def end(self) -> Optional[int]:
+        """Answers nobody any longer, sends nothing, lets the session end, and returns its exit status."""
         if self.server is not None:
             await asyncio.get_running_loop().run_in_executor(None, self.server.close)
         if self.looking is not None:
             self.looking.cancel()
+        status: Optional[int] = None
         if self.controller is not None:
             await self.controller.rest()
             status = await self.controller.session.close()
             if status:
                 log.error("%s ended with %s", shlex.join(self.settings.program), status)
         self.fleet.close()
+        return status
 
     def tell_of_messages(self) -> None:
         """Logs once of each message that is stuck, or answered in a way that no checked plan has."""
@@ -411,7 +417,7 @@ def add_parser(subparsers: Any) -> None:
         "run", help="runs a controller over a session, for servers that speak HTTP", epilog=EXAMPLE, formatter_class=argparse.RawDescriptionHelpFormatter,
         description="Runs a controller until SIGTERM or SIGINT. SIGHUP reads the fleet's file anew. Servers have six routes, docs/CONTROLLER.md tells of them.\n"
         "Exit status 0: it was told to stop. 1: the document may not be opened. 2: bad input. 3: the session has ended, or the address is taken.\n"
-        "6: etcd has lost lines of the journal.",
+        "The session's own: 4, its journal failed; 5, another process has it; 6, it is damaged, or etcd has lost lines of it.",
     )
     parser.add_argument("fleet", metavar="FLEET.json", help="where the servers are, and the published map")
     parser.add_argument("--session", required=True, metavar="COMMAND", help="the session, which keeps its journal: 'smpland /var/lib/smplan/journal'")

@@ -16,7 +16,7 @@ from .control_etcd_journal import MOST_BYTES, EtcdJournal, JournalLost, Keys
 from .control_etcd_lease import Lease
 from .control_etcd_map import EtcdMap
 from .control_http import serve
-from .control_run import Running, Settings
+from .control_run import PASSED_ON, Running, Settings
 
 log = logging.getLogger("smplan.run")
 
@@ -54,11 +54,11 @@ class AmongOthers(Running):
         self.mirrored = etcd.client()
 
     async def run(self) -> int:
-        """Follows and leads until it is told to stop, 0; its session ends, 3; or etcd has lost lines, 6."""
+        """Follows and leads until it is told to stop, 0; its session ends, as that has ended, or 3; or etcd has lost lines, 6."""
         session = await Session.start(self.settings.program, is_apart=True)
         self.controller = Controller(session, self.fleet, self.journal.append, replace(self.settings.pace, batch_bytes=MOST_BYTES))
         self.listen_to_signals()
-        mirror = asyncio.create_task(self.mirror())
+        mirror, status = asyncio.create_task(self.mirror()), 3
         try:
             self.server = await serve(self.settings.host, self.settings.port, self.routes(), self.settings.token, self.settings.tls)
             log.info("%s follows, listens at %s:%d", self.etcd.name, self.settings.host, self.server.port)
@@ -67,21 +67,20 @@ class AmongOthers(Running):
                 if not self.stopping.is_set() and await self.lease.campaign():
                     await self.lead()
             log.info("stops")
-            return 0
+            status = 0
         except JournalLost as why:
             log.error("%s; adopt the service under a new journal (docs/SMPLAND.md, The first line of a journal)", why)
-            return 6
+            status = 6
         except SessionEnded as why:
             log.error("%s", why)
-            return 3
         except OSError as why:
             log.error("%s:%d: %s", self.settings.host, self.settings.port, why.strerror or why)
-            return 3
         finally:
             mirror.cancel()
-            await self.end()
+            ended = await self.end()
             for it in (self.journal.etcd, self.lease.etcd, self.map.etcd, self.mirrored):
                 await it.close()
+        return ended if status == 3 and ended in PASSED_ON else status
 
     async def follow(self, seconds: float = 0.3) -> None:
         """Feeds what is new in the journal, and rests for a moment."""

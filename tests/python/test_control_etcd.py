@@ -8,6 +8,7 @@ import signal
 import sys
 import tempfile
 import unittest
+from dataclasses import replace
 
 ROOT = pathlib.Path(__file__).resolve().parents[2]
 sys.path[:0] = [str(ROOT), str(ROOT / "tests/cluster")]
@@ -241,6 +242,13 @@ class AmongOthersTest(unittest.IsolatedAsyncioTestCase):
         async with asyncio.timeout(seconds):
             while not condition():
                 await asyncio.sleep(0.05)
+
+    async def test_a_session_that_has_ended_passes_its_status_on(self):
+        logging.getLogger("smplan.run").setLevel(logging.CRITICAL)
+        with tempfile.TemporaryDirectory() as folder:
+            found = self.controller(LeasingEtcd(), "k0", folder)
+            found.settings = replace(found.settings, program=(sys.executable, "-c", "import sys; sys.stdin.readline(); sys.exit(4)"))
+            self.assertEqual(await asyncio.wait_for(found.run(), 20), 4)
 
     async def test_the_next_one_leads_at_once_and_shows_the_map(self):
         logging.getLogger("smplan.run").setLevel(logging.CRITICAL)

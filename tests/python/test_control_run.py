@@ -398,8 +398,12 @@ class RunningTest(unittest.IsolatedAsyncioTestCase):
 
     async def test_the_end_of_the_session_ends_the_controller(self):
         logging.getLogger("smplan.run").setLevel(logging.CRITICAL)
-        running = await self.running("import sys; sys.stdin.readline(); sys.exit(5)")
-        self.assertEqual(await asyncio.wait_for(running.run(), 20), 3)
+        kill = "import os, signal, sys; sys.stdin.readline(); os.kill(os.getpid(), signal.SIGKILL)"
+        stray = "import sys; sys.stdin.readline(); print('no reply', flush=True); sys.stdin.read()"
+        ends = [(f"import sys; sys.stdin.readline(); sys.exit({it})", it if it in (5, 6) else 3) for it in (0, 1, 5, 6)]
+        for session, status in [*ends, (kill, 3), (stray, 3)]:
+            running = await self.running(session)
+            self.assertEqual(await asyncio.wait_for(running.run(), 20), status, session)
 
     async def test_a_map_belongs_to_what_is_opened_by_a_line(self):
         running = await self.running(REFERENCE)
