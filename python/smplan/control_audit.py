@@ -275,7 +275,7 @@ def add_parser(subparsers: Any) -> None:
         "audit-journal", help="looks at a journal: its sums, each line by the reference model, each epoch by smplan play",
         epilog="example: smplan-control audit-journal /var/lib/smpland/journal",
         description="Tests the sums of a journal, feeds each of its entries to the reference model, and plays each epoch by 'smplan play': both must come "
-        "to the same placement. Exit status 0: no fault was found. 1: each one has a line.",
+        "to the same placement. Exit status 0: no fault was found. 1: each one has a line. 2: it can't be read. 3: a program does not run.",
     )
     parser.add_argument("journal", help="the file of `smpland JOURNAL`, or the lines that a host has stored")
     parser.add_argument("--session", nargs="+", default=[sys.executable, str(root / "tools" / "smpland_model.py"), "-"], metavar="WORD", help="the session's command line, behind the journal (the reference)")

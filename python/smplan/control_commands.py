@@ -1,12 +1,13 @@
 """`python3 -m smplan.control_commands`: what an operator does with a running controller."""
 from __future__ import annotations
 
-import argparse
 import importlib
 import os
 import sys
 from typing import List, Optional, Tuple
 
+from . import __version__
+from .command_line import Parser
 from .failure import Failure
 
 # Each module adds its commands with `add_parser(subparsers)`.
@@ -15,10 +16,11 @@ MODULES = ["control_run", "control_operate", "control_restart", "control_reopen"
 
 def parser() -> argparse.ArgumentParser:
     """Returns the parser of all commands."""
-    top = argparse.ArgumentParser(
+    top = Parser(
         prog="smplan-control", description="Runs a controller of servers that speak HTTP, and does with a running one what operators do.",
         epilog="exit status: 0 done, 1 the answer is no, 2 bad input or a fault of the command line, 3 a controller or a program does not answer, 130 interrupted",
     )
+    top.add_argument("--version", action="version", version=f"smplan-control {__version__}")
     subparsers = top.add_subparsers(metavar="COMMAND", required=True)
     for name in MODULES:
         importlib.import_module(f".{name}", __package__).add_parser(subparsers)

@@ -2,7 +2,10 @@
 from __future__ import annotations
 
 import argparse
+import contextlib
+import json
 import signal
+import sys
 import time
 from dataclasses import dataclass
 from typing import Any, Callable, Dict, List, Optional
@@ -118,7 +121,17 @@ class Campaign:
 
 
 def run(told: argparse.Namespace) -> int:
-    """Runs the command. The first interrupt ends the campaign behind the present plan."""
+    """Runs the command. For programs it tells on standard error what it does, and then whether all is empty."""
+    if not told.json:
+        return drain(told)
+    with contextlib.redirect_stdout(sys.stderr):
+        status = drain(told)
+    print(json.dumps({"servers": told.server, "empty": status == 0}))
+    return status
+
+
+def drain(told: argparse.Namespace) -> int:
+    """Empties one server, or several together."""
     from .control_campaign import run_drain  # (which imports this module)
     if is_for_several(told):
         told.servers, told.batch = told.server, told.batch or 64
@@ -156,8 +169,8 @@ def add_parser(subparsers: Any) -> None:
         "drain", help="empties a server by small plans, one after the other",
         epilog="example: smplan-control drain berlin-1 --controller http://10.0.0.7:9200 --batch 2 --pause 5",
         description="Empties a server of its replicas by plans of a few moves each, and waits for plans that are in its way. The first interrupt ends "
-        "it behind the present plan. If another controller leads meanwhile, it goes on there. Exit status 0: the server was empty. 1: it stopped before "
-        "that, or a plan was refused.",
+        "it behind the present plan. If another controller leads meanwhile, it goes on there. Exit status 0: the server is empty. 1: it stopped before "
+        "that, or a plan was refused. 3: no controller leads.",
     )
     parser.add_argument("server", nargs="+", metavar="SERVER", help="the server's name; several, or region:R, are emptied together, the greatest loads first")
     add_options(parser)
@@ -166,4 +179,5 @@ def add_parser(subparsers: Any) -> None:
     parser.add_argument("--batch", type=at_least(1, int), metavar="N", help="moves in a plan (4; of several servers 64, and 1 %% of all load or four of the largest replicas)")
     parser.add_argument("--pause", type=at_least(0), default=1.0, metavar="SECONDS", help="rest between two plans (1)")
     parser.add_argument("--stop", type=at_least(0), metavar="SECONDS", help="begin no further plan once one, or waiting for others' plans, takes longer than this")
+    parser.add_argument("--json", action="store_true", help="print JSON in the end; what it does goes to standard error")
     parser.set_defaults(run=run)

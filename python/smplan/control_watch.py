@@ -2,6 +2,7 @@
 from __future__ import annotations
 
 import argparse
+import json
 import sys
 import time
 from typing import Any, Dict, List, Optional, Tuple
@@ -74,8 +75,12 @@ def run(told: argparse.Namespace) -> int:
     try:
         while True:
             url, is_leader = leader_of(urls, token)
-            text = screen(fetch(url + "/ask", {"do": "state"}, token=token)["state"], fetch(url + "/outgoing", token=token), leads=is_leader)
-            sys.stdout.write(("\033[H\033[J" if sys.stdout.isatty() and not told.once else "") + text)
+            state, outgoing = fetch(url + "/ask", {"do": "state"}, token=token)["state"], fetch(url + "/outgoing", token=token)
+            if told.json:
+                text = json.dumps({"controller": url, "leads": is_leader, "state": state, "outgoing": outgoing}) + "\n"
+            else:
+                text = ("\033[H\033[J" if sys.stdout.isatty() and not told.once else "") + screen(state, outgoing, leads=is_leader)
+            sys.stdout.write(text)
             sys.stdout.flush()
             if told.once:
                 return 0
@@ -111,16 +116,17 @@ def add_parser(subparsers: Any) -> None:
         "watch", help="shows plans, outstanding messages, servers and restarts",
         epilog="example: smplan-control watch --controller http://10.0.0.7:9200",
         description="Shows what a controller does until it is interrupted: of each server its load (#), room that plans hold (+) and free room (.), "
-        "running plans, and messages that are not answered, the oldest first.",
+        "running plans, and messages that are not answered, the oldest first. Exit status 0: it was interrupted, or shown --once. 3: no controller answers.",
     )
     add_options(parser)
     parser.add_argument("--every", type=at_least(0), default=1.0, metavar="SECONDS", help="rest before it is shown anew (1)")
     parser.add_argument("--once", action="store_true", help="show it once")
+    parser.add_argument("--json", action="store_true", help="print a line of JSON each time")
     parser.set_defaults(run=run)
     parser = subparsers.add_parser(
         "metrics", help="prints figures as Prometheus reads them; a controller serves them at /metrics",
         epilog="example: smplan-control metrics --controller http://10.0.0.7:9200",
-        description="Prints a controller's figures once, as it serves them at /metrics.",
+        description="Prints a controller's figures once, as it serves them at /metrics. Exit status 0; 3: the controller does not answer.",
     )
     add_options(parser)
     parser.set_defaults(run=run_metrics)

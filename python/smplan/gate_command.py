@@ -123,7 +123,9 @@ def add_parser(subparsers: Any) -> None:
         "gate", help="answers whether a machine may go down: to FleetLock, to Kubernetes' evictions, to scripts",
         epilog=EXAMPLE, formatter_class=argparse.RawDescriptionHelpFormatter,
         description="Answers whether a machine may go down now. For each question it looks anew, by the commands that it is given, and asks smplan. A yes is\n"
-        "stored before it is told, and holds until the machine is back. It moves nothing, and needs nothing on the machines.",
+        "stored before it is told, and holds until the machine is back. It moves nothing, and needs nothing on the machines.\n"
+        "Exit status 0: it was told to stop. 2: bad input. 3: no program, or the address is taken. 4: the state can't be opened. 5: another gate has it.\n"
+        "6: the state is damaged.",
     )
     program.add_option(parser)
     parser.add_argument("--import", dest="imports", action="append", default=[], metavar="COMMAND", help="prints a document, as 'smplan-tools import' does; may be given again")

@@ -8,8 +8,9 @@ import subprocess
 import sys
 import tempfile
 import unittest
+from unittest import mock
 
-from smplan import control_audit, control_commands, control_watch
+from smplan import __version__, control_audit, control_commands, control_watch
 from smplan.control import Controller, Outgoing, Session
 from smplan.control_drain import Campaign, moves_of
 from smplan.control_http import Page, fetch, serve
@@ -195,8 +196,69 @@ class LeaderTest(unittest.TestCase):
         self.assertEqual(asyncio.run(told()), (3, "smplan-control: URL: this controller does not lead\n"))
 
 
+def commands():
+    """The parsers of the commands, by their names."""
+    return next(it.choices for it in control_commands.parser()._actions if isinstance(it.choices, dict))
+
+
+def printed(*words):
+    """What a command prints, and its exit status."""
+    out, err = io.StringIO(), io.StringIO()
+    with contextlib.redirect_stdout(out), contextlib.redirect_stderr(err):
+        try:
+            status = control_commands.main(list(words))
+        except SystemExit as why:
+            status = why.code
+    return status, out.getvalue(), err.getvalue()
+
+
 class CommandLineTest(unittest.TestCase):
-    """How the commands are named."""
+    """How the commands are named, and what they say of themselves."""
+
+    def test_each_command_has_an_example_and_its_exit_statuses(self):
+        self.assertGreaterEqual(len(commands()), 15)
+        for name, parser in commands().items():
+            text = " ".join(parser.format_help().split())
+            self.assertRegex(text, rf"example: smplan-control {name}\b|smplan-control {name} .*$", name)
+            self.assertRegex(text, r"Exit status 0\b", name)
+
+    def test_the_nearest_command_is_named(self):
+        for word, meant in (("drian", "drain"), ("begn", "begin"), ("re-open", "reopen")):
+            status, _, err = printed(word)
+            self.assertEqual(status, 2)
+            self.assertIn(f"did you mean '{meant}'?", err)
+
+    def test_the_version(self):
+        self.assertEqual(printed("--version"), (0, f"smplan-control {__version__}\n", ""))
+
+    def test_a_drain_and_a_look_for_programs(self):
+        fake, state = FakeController("stu"), {"state": STATE}
+
+        async def told(*words):
+            async def ask(body):
+                line = json.loads(body)
+                return Page.of(state if line == {"do": "state"} else fake.post("/ask", line))
+
+            async def do(body):
+                return Page.of(fake.post("/do", json.loads(body)))
+
+            async def metrics(_):
+                return Page(b"\nsmplan_leads 1\n", "text/plain")
+
+            async def outgoing(_):
+                return Page.of([])
+
+            server = await serve("127.0.0.1", 0, {"GET /metrics": metrics, "POST /ask": ask, "POST /do": do, "GET /outgoing": outgoing})
+            found = await asyncio.to_thread(printed, *words, "--json", "--controller", f"http://127.0.0.1:{server.port}")
+            await asyncio.to_thread(server.close)
+            return found
+
+        status, out, err = asyncio.run(told("watch", "--once"))
+        self.assertEqual((status, json.loads(out)["state"], json.loads(out)["leads"], err), (0, STATE, True, ""))
+        with mock.patch("signal.signal"):
+            status, out, err = asyncio.run(told("drain", "a", "--pause", "0"))
+        self.assertEqual((status, out), (0, '{"servers": ["a"], "empty": true}\n'), err)
+        self.assertIn("3 replicas moved", err)
 
     def test_the_library_as_a_program(self):
         told = subprocess.run([sys.executable, "-m", "smplan.control", "--help"], capture_output=True, text=True, check=True)
