@@ -52,7 +52,8 @@ def needs(document: Line, lost: List[str], state: Line) -> str:
     """What the reopening does, in words, before it is said."""
     running = [it["name"] for it in state.get("plans", []) if it["is"] == "running"]
     ends = f"It ends {counted(len(running), 'plan')} ({', '.join(running)})." if running else "No plan runs."
-    asked = [it["name"] for it in document["servers"]]
+    names = [it["name"] for it in document["servers"]]
+    asked = names + [it["server"] for it in state.get("servers", []) if it["server"] not in [*names, *lost]]
     given_up = f"Given up for good: {', '.join(lost)}, which must be off and stay off." if lost else "No server is given up."
     return f"{given_up} Asked what they have: {', '.join(asked)}. {ends} Until it is confirmed nothing moves or restarts."
 
@@ -160,14 +161,20 @@ def reopen(arguments: argparse.Namespace) -> int:
     if not arguments.lost and not arguments.document:
         raise Failure("name the servers that are lost for good with --lost, or a --document to open")
     document = document_to_open(controllers, arguments.document, arguments.lost)
-    line = {"do": "reopen", "document": document, "lost": arguments.lost, "why": arguments.why}
+    if not arguments.dry_run:
+        refuse_living(controllers, arguments.lost, 0.0)
+        if present is not None:
+            print(f"a reopening is under way (base {present['base']}): this one takes its place", file=sys.stderr)
+    return begin(controllers, arguments, document, before)
+
+
+def begin(controllers: Controllers, arguments: argparse.Namespace, document: Line, before: Line, first: str = "") -> int:
+    """Tells what a reopening by a document does, begins it if that is agreed to, and goes on to what it proposes."""
+    line, words = {"do": "reopen", "document": document, "lost": arguments.lost, "why": arguments.why}, first + needs(document, arguments.lost, before)
     if arguments.dry_run:
-        printed(arguments, line, f"{needs(document, arguments.lost, before)}\n{json.dumps(document, indent=2)}")
+        printed(arguments, line, f"{words}\n{json.dumps(document, indent=2)}")
         return 0
-    refuse_living(controllers, arguments.lost, 0.0)
-    if present is not None:
-        print(f"a reopening is under way (base {present['base']}): this one takes its place", file=sys.stderr)
-    if not agrees(f"{needs(document, arguments.lost, before)} Begin?", arguments.yes):
+    if not agrees(f"{words} Begin?", arguments.yes):
         return 1
     reply = controllers.once("/do", line)
     if "fence" not in reply:
@@ -187,11 +194,16 @@ def add_parser(subparsers: Any) -> None:
     parser.add_argument("--lost", action="append", default=[], metavar="SERVER", help="a server that is off for good; may be given again")
     parser.add_argument("--document", metavar="DOCUMENT", help="what to open, with other servers, rooms or shards; without it what the controller has recorded")
     parser.add_argument("--why", default="reopen", metavar="TEXT", help="kept in the journal")
-    parser.add_argument("--dry-run", action="store_true", help="show the document and who would be lost, and send nothing")
     parser.add_argument("--go-on", action="store_true", help="show the proposal of the reopening that is under way")
+    add_agreement(parser)
+    parser.set_defaults(run=reopen)
+
+
+def add_agreement(parser: argparse.ArgumentParser) -> None:
+    """Adds the options of a command that reopens."""
+    parser.add_argument("--dry-run", action="store_true", help="show the document and who would be lost, and send nothing")
     parser.add_argument("--yes", action="store_true", help="do not ask")
     parser.add_argument("--accept-loss", action="store_true", help="with --yes: confirm also if shards are lost")
     parser.add_argument("--wait", type=at_least(0), default=120.0, metavar="SECONDS", help="wait so long for answers (120)")
     add_options(parser)
     add_json(parser)
-    parser.set_defaults(run=reopen)

@@ -540,6 +540,47 @@ class StoryTest(unittest.TestCase):
         self.assertEqual(self.running["run"].wait(20), 0)
         self.assertRegex((self.path / "run.log").read_text(), r"INFO stops\n$")
 
+    def check(self, words, status, text):
+        found = self.control(*words)
+        self.assertEqual((found[0], text in found[1]), (status, True), (words, found))
+
+    def test_a_server_goes_and_another_one_comes(self):
+        self.assertEqual(self.request("a", 1), {"reply": "1"})
+        add = ("add-server", "d", "--region", "r", "--room", "9")
+        self.check(("remove-server", "a", "--yes"), 1, "a still has s: `smplan-control drain a` empties it")
+        self.check(("remove-server", "z", "--yes"), 2, "no server is named 'z'")
+        self.check(("remove-server", "c"), 1, "Servers come and go by a reopening: every server is asked what it has, and serves meanwhile. No server is given up. Asked what they have: a, b, c.")
+        self.check(("remove-server", "c", "--yes"), 0, "stop c, and take it out of fleet.json")
+        self.check((*add, "--yes"), 1, "does not know where d is")
+        told = json.loads((self.path / "fleet.json").read_text())
+        self.running["c"].kill()
+        self.urls["d"], = free_ports(1)
+        del told["servers"]["c"]
+        told["servers"]["d"] = {"number": 4, "url": f"http://127.0.0.1:{self.urls['d']}"}
+        (self.path / "fleet.json").write_text(json.dumps(told))
+        self.running["run"].send_signal(signal.SIGHUP)
+        self.until(lambda: "d" in self.ask("/fleet")["servers"])
+        self.check((*add, "--yes"), 1, "d does not answer: start it first")
+        self.start("d", str(ROOT / "examples/kv_http.py"), "d", self.controller, "d.sqlite")
+        self.until(lambda: self.base("d") is None)
+        self.check((*add, "--dry-run", "--json"), 0, '{"name": "d", "region": "r", "room": 9}')
+        self.check(("remove-server", "a", "b", "--dry-run"), 1, "a still has s")
+        self.check((*add, "--yes"), 0, "open: epoch 2")
+        self.check((*add, "--yes"), 1, "d is there already")
+        for it in "ab":  # (these servers learn of others when they start)
+            self.running[it].kill()
+            self.running[it].wait()
+            self.start(it, str(ROOT / "examples/kv_http.py"), it, self.controller, f"{it}.sqlite")
+            self.until(lambda it=it: self.base(it) is not None)
+        self.check(("drain", "a"), 0, "s to d")
+        self.assertEqual((self.listed(), self.request("d", 2)), ("d", {"reply": "12"}))
+        self.running["a"].kill()
+        self.running["a"].wait()
+        self.check(("remove-server", "a", "--yes"), 1, "a does not answer: if it is off for good, `smplan-control reopen --lost a`")
+        reopening = {"do": "reopen", "document": self.ask("/document"), "lost": [], "why": "it"}
+        urlopen(f"{self.controller}/do", json.dumps(reopening).encode(), timeout=10).close()
+        self.check(("remove-server", "b", "--yes"), 1, "a reopening is under way")
+
 
 if __name__ == "__main__":
     unittest.main()
