@@ -176,7 +176,7 @@ class Controller:
         self.leads = False
         self.outgoing: Dict[Key, Outgoing] = {}
         self.counts: Counter[str] = Counter()
-        self.answers: Counter[str] = Counter()
+        self.answers: Counter[Tuple[str, str]] = Counter()
         self.times = Times()
         self.proposal: Optional[Line] = None
         self.lost: Optional[Exception] = None
@@ -275,6 +275,7 @@ class Controller:
             except (Exception, asyncio.CancelledError) as why:  # (a store is others' code: whatever befalls it, this one leads no longer)
                 if not self.leads:
                     raise
+                self.counts["appends lost"] += 1
                 self.lost = loss_of(why)
                 self.queue = batch + self.queue
                 self.fail_queue(self.lost)
@@ -301,7 +302,9 @@ class Controller:
             if len(batch) > 1:
                 for line in batch:
                     await self.write_or_refuse([line])
-            elif not batch[0][1].done():
+                return
+            self.counts["appends refused"] += 1
+            if not batch[0][1].done():
                 batch[0][1].set_exception(why)
 
     async def write_batch(self, batch: List[Waiting]) -> None:
@@ -415,7 +418,7 @@ class Controller:
         elif why is not None:  # (handlers are others' code: whatever befalls them, the message goes again)
             outgoing.said = "cancelled" if isinstance(why, asyncio.CancelledError) else f"{type(why).__name__} {why}".strip()
         line = handling.result() if why is None else None
-        self.answers[DONE if line is not None else outgoing.said if outgoing.said in WORDS else "else"] += 1
+        self.answers[kind, DONE if line is not None else outgoing.said if outgoing.said in WORDS else "else"] += 1
         return line
 
     async def hand_out(self, kind: str, outgoing: Outgoing) -> Optional[Line]:

@@ -12,6 +12,9 @@ from .control_etcd import Entry, Etcd, EtcdFault, EtcdRefused, end_of, has_value
 # The bytes of all lines of an append: below the 1.5 MiB that etcd takes in a request, keys included.
 MOST_BYTES = 1 << 20
 
+# What tries of an append that etcd did not answer are counted as.
+UNANSWERED = "appends without an answer"
+
 
 class JournalLost(StoreLost):
     """Lines that were stored are not there any longer, as after a restore of an etcd from a backup."""
@@ -39,11 +42,11 @@ class Keys:
 
 
 class EtcdJournal:
-    """A reader and writer of the journal. `place` is that of the last line which it has handed on, and `last` this line."""
+    """A reader and writer of the journal. `place` is that of the last line which it has handed on, `last` this line, and `bytes` the size of all."""
 
     def __init__(self, etcd: Etcd, leader: str, tries: int = 12, keys: Keys = Keys()) -> None:
         self.etcd, self.leader, self.tries, self.keys = etcd, leader, tries, keys
-        self.place, self.last = 0, ""
+        self.place, self.last, self.bytes = 0, "", 0
         self.counts: Counter[str] = Counter()
 
     async def lines_after(self, may_lag: bool = False) -> List[str]:
@@ -73,6 +76,7 @@ class EtcdJournal:
         """Counts lines as handed on."""
         if lines:
             self.place, self.last = self.place + len(lines), lines[-1]
+            self.bytes += sum(map(len, lines))
         return lines
 
     async def read(self, may_lag: bool = False) -> List[str]:
@@ -112,7 +116,7 @@ class EtcdJournal:
         except EtcdRefused:
             raise
         except EtcdFault:
-            self.counts["appends without an answer"] += 1
+            self.counts[UNANSWERED] += 1
             await asyncio.sleep(0.02)
             return False
 

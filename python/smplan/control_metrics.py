@@ -14,10 +14,15 @@ def label_text(labels: Dict[str, str]) -> str:
     return "{" + inner + "}" if inner else ""
 
 
+def number_text(value: float) -> str:
+    """Returns a number: a whole one with all its digits."""
+    return f"{value:.0f}" if value.is_integer() else f"{value:g}"
+
+
 def metric(name: str, kind: str, text: str, samples: Iterable[Sample]) -> List[str]:
     """Returns a metric with its samples."""
     lines = [f"# HELP smplan_{name} {text}", f"# TYPE smplan_{name} {kind}"]
-    return lines + [f"smplan_{name}{label_text(labels)} {value:g}" for labels, value in samples]
+    return lines + [f"smplan_{name}{label_text(labels)} {number_text(value)}" for labels, value in samples]
 
 
 def histogram(name: str, text: str, times: Times) -> List[str]:
@@ -63,13 +68,16 @@ def of_controller(controller: Controller) -> List[str]:
     oldest = [({"kind": kind}, max((it.age for key, it in outgoing if key[0] == kind), default=0.0)) for kind in kinds]
     count = [({"kind": kind}, float(sum(key[0] == kind for key, _ in outgoing))) for kind in kinds]
     events = [({"event": name}, float(value)) for name, value in sorted(controller.counts.items())]
-    answers = [({"said": word}, float(value)) for word, value in sorted(controller.answers.items())]
+    answers = [({"kind": kind, "said": word}, float(value)) for (kind, word), value in sorted(controller.answers.items())]
+    failures = [({"why": why}, float(controller.counts[f"appends {why}"])) for why in ("lost", "refused")]
     return [
         *metric("leads", "gauge", "whether this controller acts", [({}, float(controller.leads))]),
         *metric("outstanding", "gauge", "messages that are not answered", count),
         *metric("outstanding_age_seconds", "gauge", "age of the oldest message that is not answered", oldest),
         *metric("events_total", "counter", "what this controller did", events),
-        *metric("answers_total", "counter", "answers to messages by what was said", answers),
+        *metric("appends_total", "counter", "appends to the journal", [({}, float(controller.counts["appends"]))]),
+        *metric("append_failures_total", "counter", "appends that the journal did not take: lines too long, or the journal is another's or out of reach", failures),
+        *metric("answers_total", "counter", "answers to messages by their kind and by what was said", answers),
         *histogram("answer_seconds", "how long a message took to be answered, repetitions included", controller.times),
     ]
 

@@ -244,14 +244,23 @@ class Running:
         return Page.of(told, 200 if leads or self.may_follow else 503)
 
     async def metrics(self, _: bytes) -> Page:
-        """Figures of the controller and of the map's file."""
+        """Figures of the controller, of the map's file and of the journal."""
         assert self.controller is not None
         lines = [
             *metric("map_writes_total", "counter", "how often the map was written and told", [({}, float(self.owner.writes))]),
             *metric("map_failures_total", "counter", "how often that failed", [({}, float(self.owner.failures))]),
             *metric("map_is_shown", "gauge", "whether all that is published is shown", [({}, float(self.owner.shown == self.owner.changes))]),
+            *self.journal_figures(),
         ]
         return Page((await metrics_of(self.controller) + "\n".join(lines) + "\n").encode(), "text/plain; version=0.0.4; charset=utf-8")
+
+    def journal_figures(self) -> List[str]:
+        """The size of the journal, which is the file that the session's last word names."""
+        try:
+            size = [({}, float(Path(self.settings.program[-1]).stat().st_size))]
+        except OSError:
+            size = []
+        return metric("journal_bytes", "gauge", "size of the journal", size)
 
     async def told_fleet(self, _: bytes) -> Page:
         """Where the servers are."""

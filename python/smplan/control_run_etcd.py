@@ -8,14 +8,15 @@ import secrets
 import ssl
 import time
 from dataclasses import dataclass, replace
-from typing import Optional, Tuple
+from typing import List, Optional, Tuple
 
 from .control import Controller, Session, SessionEnded, StoreLost
 from .control_etcd import Etcd, EtcdFault, end_of, members_of
-from .control_etcd_journal import MOST_BYTES, EtcdJournal, JournalLost, Keys
+from .control_etcd_journal import MOST_BYTES, UNANSWERED, EtcdJournal, JournalLost, Keys
 from .control_etcd_lease import Lease
 from .control_etcd_map import EtcdMap
 from .control_http import serve
+from .control_metrics import metric
 from .control_run import PASSED_ON, Running, Settings
 
 log = logging.getLogger("smplan.run")
@@ -52,6 +53,7 @@ class AmongOthers(Running):
         self.map = EtcdMap(etcd.client(), f"{etcd.prefix}map-base", f"{etcd.prefix}map/")
         self.fleet.owner = self.map
         self.mirrored = etcd.client()
+        self.read_at = time.monotonic()
 
     async def run(self) -> int:
         """Follows and leads until it is told to stop, 0; its session ends, as that has ended, or 3; or etcd has lost lines, 6."""
@@ -87,9 +89,21 @@ class AmongOthers(Running):
         assert self.controller is not None
         try:
             await self.controller.follow(await self.journal.read(may_lag=True))
+            self.read_at = time.monotonic()
         except EtcdFault as why:
             log.debug("%s", why)
         await self.rest_for(seconds)
+
+    def journal_figures(self) -> List[str]:
+        """The size of the journal as far as this controller has read it, and how long ago it was at its end."""
+        journal = self.journal
+        age = 0.0 if self.controller is not None and self.controller.leads else time.monotonic() - self.read_at
+        return [
+            *metric("journal_bytes", "gauge", "size of the journal, as far as it was read", [({}, float(journal.bytes))]),
+            *metric("journal_lines", "gauge", "lines of the journal that were read", [({}, float(journal.place))]),
+            *metric("journal_age_seconds", "gauge", "how long ago this controller had read all of the journal", [({}, age)]),
+            *metric("append_tries_unanswered_total", "counter", "tries to append that etcd did not answer", [({}, float(journal.counts[UNANSWERED]))]),
+        ]
 
     async def rest_for(self, seconds: float) -> None:
         """Rests, but no longer once it is to stop."""
@@ -121,6 +135,7 @@ class AmongOthers(Running):
             keeping.cancel()
             await controller.rest()
             await self.lease.leave()
+            self.read_at = time.monotonic()
             log.info("%s rests after %.0f s: %s", self.etcd.name, time.monotonic() - begun, why or ("it stops" if self.stopping.is_set() else "the lease has ended"))
         if isinstance(why, (JournalLost, SessionEnded)):
             raise why

@@ -263,6 +263,9 @@ class AmongOthersTest(unittest.IsolatedAsyncioTestCase):
             second = next(it for it in both if it is not first)
             for it in both:
                 await self.until(lambda it=it: (it.owner.read() or {}).get("entries") == {"s": {"to": "a", "version": 0}})
+            await self.until(lambda: "smplan_journal_lines 1" in second.journal_figures())
+            self.assertIn(f"smplan_journal_bytes {len(etcd.keys['x/journal/000000000001'].value)}", second.journal_figures())
+            self.assertIn("smplan_journal_age_seconds 0", first.journal_figures())
             first.stopping.set()
             self.assertEqual(await tasks[both.index(first)], 0)
             await self.until(lambda: second.controller.leads)

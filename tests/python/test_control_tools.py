@@ -14,7 +14,7 @@ from smplan import __version__, control_audit, control_commands, control_watch
 from smplan.control import Controller, Outgoing, Session
 from smplan.control_drain import Campaign, moves_of
 from smplan.control_http import Page, fetch, serve
-from smplan.control_metrics import metrics_of
+from smplan.control_metrics import metrics_of, number_text
 from smplan.control_serve import routes_of
 from smplan.failure import Failure
 
@@ -144,6 +144,9 @@ class DrainTest(unittest.TestCase):
 
 class WatchTest(unittest.TestCase):
     """What is shown, and what is scraped."""
+
+    def test_whole_numbers_have_all_their_digits(self):
+        self.assertEqual([number_text(it) for it in (1234567.0, 0.0, 0.5, 12.3456789)], ["1234567", "0", "0.5", "12.3457"])
 
     def test_screen(self):
         outgoing = [{"kind": "order", "message": {"server": "b", "call": "add", "shard": "s"}, "age": 2.5, "tries": 3, "said": "no answer"}]

@@ -1,35 +1,93 @@
-"""What is packed beside the programs: the figures that alerts and the dashboard name are told by a controller or a gate."""
+"""What is packed beside the programs: the figures that alerts and the dashboard name are told by a controller or a gate, with these labels."""
+import asyncio
 import json
 import re
+import sys
+import tempfile
 import unittest
+from collections import defaultdict
+from pathlib import Path
+from types import SimpleNamespace
+from typing import Dict, List, Set
 
 from fixtures import ROOT
+from smplan.control import DONE, Controller, Outgoing, Session
+from smplan.control_run import Running, Settings
+from smplan.control_run_etcd import AmongOthers, EtcdSettings
+from smplan.gate import Word, metrics_of
+from test_control_tools import STATES
 
 PACKAGING = ROOT / "packaging"
 
+# The labels that Prometheus itself adds, and those of a histogram.
+EVERYWHERE = {"instance", "job", "le"}
 
-def told() -> str:
-    """Returns the source of what tells figures. A controller's are named without `smplan_`."""
-    sources = [(ROOT / "python" / "smplan" / f"{it}.py").read_text() for it in ("control_metrics", "gate")]
-    return sources[0].replace('metric("', 'metric("smplan_').replace('histogram("', 'histogram("smplan_') + sources[1]
+
+async def pages() -> List[str]:
+    """What one controller tells, one of several, and a gate, each with something to tell."""
+    found = []
+    with tempfile.TemporaryDirectory() as folder:
+        (Path(folder) / "fleet.json").write_text('{"servers":{},"map":{"file":"map.json"}}')
+        settings = Settings(f"{folder}/fleet.json", (sys.executable, "-c", STATES, f"{folder}/fleet.json"), "127.0.0.1", 0)
+        for it in (Running(settings), AmongOthers(settings, EtcdSettings(("http://127.0.0.1:1",), "k0"))):
+            session = await Session.start(settings.program)
+            it.controller = Controller(session, it.fleet, lambda lines: lines)
+            it.controller.outgoing["order", 0, 0] = Outgoing({"server": "b"})
+            it.controller.answers["order", DONE] += 1
+            it.controller.counts["appends"] += 1
+            found.append((await it.metrics(b"")).body.decode())
+            await session.close()
+            it.fleet.close()
+    gate = SimpleNamespace(counts=SimpleNamespace(answers={("script", Word.YES): 1}, seconds=0.1), store=SimpleNamespace(held={}), clock=lambda: 0.0)
+    return [*found, metrics_of(gate)]
+
+
+def told() -> Dict[str, Set[str]]:
+    """The figures that are told, each with its labels. One of which there is no sample has none."""
+    found: Dict[str, Set[str]] = defaultdict(set)
+    for page in asyncio.run(pages()):
+        for line in page.splitlines():
+            name = re.sub(r"_(bucket|sum|count)$", "", re.match(r"(?:# TYPE )?(\w+)", line)[1]) if not line.startswith("# HELP") else None
+            if name:
+                found[name] |= set(re.findall(r'(\w+)="', line))
+    return found
 
 
 class Figures(unittest.TestCase):
+    @classmethod
+    def setUpClass(cls) -> None:
+        cls.told = told()
+
     def check(self, text: str, least: int) -> None:
+        """Each figure is there, and so is each label of an expression at one of its figures."""
         names = {re.sub(r"_bucket$", "", it) for it in re.findall(r"smplan_[a-z_]+", text)}
         self.assertGreaterEqual(len(names), least)
         for it in names:
-            self.assertIn(it, told())
+            self.assertIn(it, self.told)
+        labels = {it for group in re.findall(r"\bby \(([^)]*)\)", text) for it in group.split(", ")} | set(re.findall(r"[{,](\w+)=", text))
+        self.assertLessEqual(labels, set().union(EVERYWHERE, *(self.told[it] for it in names)), text)
+
+    def test_what_is_told_of_a_journal(self) -> None:
+        for it in ("appends_total", "append_failures_total", "journal_bytes", "journal_lines", "journal_age_seconds"):
+            self.assertIn(f"smplan_{it}", self.told)
+        self.assertEqual(self.told["smplan_answers_total"], {"kind", "said"})
 
     def test_alerts(self):
         text = (PACKAGING / "alerts.yml").read_text()
-        self.check(text, 9)
+        rules = re.findall(r"^    expr: (.*)$", text, re.MULTILINE)
+        self.assertGreaterEqual(len(rules), 13)
+        for it in rules:
+            self.check(it, 1)
+        for rule in text.split("- alert: ")[1:]:
+            named = set(re.findall(r"\$labels\.(\w+)", rule))
+            self.assertLessEqual(named, {it for group in re.findall(r"\bby \(([^)]*)\)", rule) for it in group.split(", ")}, rule)
         self.assertEqual(text.count("- alert: "), len(re.findall(r"^    expr: \S", text, re.MULTILINE)))
 
     def test_dashboard(self):
         board = json.loads((PACKAGING / "dashboard.json").read_text())
         for it in board["panels"]:
-            self.check(it["targets"][0]["expr"], 1)
+            for target in it["targets"]:
+                self.check(target["expr"], 1)
             place = it["gridPos"]
             self.assertLessEqual(place["x"] + place["w"], 24)
         self.assertEqual(len(board["panels"]), len({it["id"] for it in board["panels"]}))
