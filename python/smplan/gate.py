@@ -200,6 +200,32 @@ def taken(server: str, by: str, holders: Dict[str, float]) -> Optional[Answer]:
     return Answer(Word.NO, f"denied 1 AlreadyDown: {server} has leave already, for {same[0]}") if same else None
 
 
+# How many seconds who was refused keeps the place, unless it asks again.
+PATIENCE = 60.0
+
+
+@dataclass
+class Waiting:
+    """Who asks for a machine in vain: since when, and when it asked last."""
+
+    since: Dict[str, float] = field(default_factory=dict)
+    last: Dict[str, float] = field(default_factory=dict)
+
+    def note(self, by: str, is_yes: bool, now: float) -> None:
+        """Notes a question and its answer. Who has got a yes waits no longer, nor does who has not asked for a while."""
+        for it in [it for it in self.since if now - self.last[it] > PATIENCE or (it == by and is_yes)]:
+            del self.since[it]
+        if not is_yes:
+            self.since.setdefault(by, now)
+            self.last[by] = now
+
+    def first(self, by: str, now: float) -> Optional[str]:
+        """Who has asked longer than this one, in the same way, and still asks. Its answer would be the same, so it comes first."""
+        since = self.since.get(by, now) if now - self.last.get(by, now) <= PATIENCE else now
+        before = [it for it, at in self.since.items() if at < since and now - self.last[it] <= PATIENCE and way_of(it) == way_of(by)]
+        return min(before, key=lambda it: self.since[it], default=None)
+
+
 @dataclass
 class Counts:
     """How many answers were given, and how long the last one took."""
@@ -222,12 +248,19 @@ class Gate:
     clock: Callable[[], float] = time.time
     counts: Counts = field(default_factory=Counts)
     turn: threading.Lock = field(default_factory=threading.Lock)
+    waiting: Dict[str, Waiting] = field(default_factory=dict)
 
     def ask(self, name: str, by: str, is_trial: bool = False) -> Answer:
         """Answers whether a machine may go down, and stores a yes first, unless it is a trial."""
         def decide() -> Answer:
             server = self.names.machine(name)
-            return taken(server, by, self.store.held.get(server, {})) or self.decided(server, by, is_trial, self.look())
+            holders, waiting, now = self.store.held.get(server, {}), self.waiting.setdefault(server, Waiting()), self.clock()
+            first = None if by in holders else waiting.first(by, now)
+            later = Answer(Word.NO, f"denied: {first} has asked for {server} longer") if first else None
+            answer = taken(server, by, holders) or later or self.decided(server, by, is_trial, self.look())
+            if not is_trial and by not in holders:
+                waiting.note(by, answer.is_yes, now)
+            return answer
         return self.answered(by, decide)
 
     def evict(self, pod: PodName, is_trial: bool) -> Answer:

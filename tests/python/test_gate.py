@@ -139,6 +139,30 @@ class Decisions(unittest.TestCase):
             self.assertTrue(gate.ask("a", "fleetlock/default").is_yes)
             self.assertEqual({"a": ["ask/one", "fleetlock/default"]}, stored(gate))
 
+    def test_who_has_asked_longest_comes_first(self):
+        at = 0.0
+        with gate_of(world, clock=lambda: at) as gate:
+            self.assertTrue(gate.ask("a", "ask/one").is_yes)
+            for at, by in ((1.0, "two"), (2.0, "three")):
+                self.assertIn("AlreadyDown", gate.ask("a", f"ask/{by}").text)
+            gate.back("a", "ask/one")
+            at = 3.0
+            for by in ("one", "three", "four"):
+                self.assertEqual("denied: ask/two has asked for a longer", gate.ask("a", f"ask/{by}").text)
+            self.assertTrue(gate.ask("a", "fleetlock/default").is_yes and gate.ask("a", "ask/two").is_yes and gate.ask("a", "ask/two").is_yes)
+            gate.back("a", "ask/two")
+            gate.back("a", "fleetlock/default")
+            self.assertEqual("denied: ask/three has asked for a longer", gate.ask("a", "ask/two", is_trial=True).text)
+            at = 64.0
+            self.assertTrue(gate.ask("a", "ask/two").is_yes)
+            gate.back("a", "ask/two")
+            self.assertEqual({}, gate.waiting["a"].since)
+
+    def test_who_cannot_have_leave_keeps_no_machine_else_waiting(self):
+        with gate_of(lambda: world(live="ab")) as gate:
+            self.assertFalse(gate.ask("a", "ask/one").is_yes)
+            self.assertTrue(gate.ask("c", "ask/two").is_yes)
+
     def test_who_has_leave_is_answered_anew(self):
         now = world(limit=2)
         with gate_of(lambda: now) as gate:
