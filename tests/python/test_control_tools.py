@@ -231,6 +231,13 @@ class CommandLineTest(unittest.TestCase):
             self.assertEqual(status, 2)
             self.assertIn(f"did you mean '{meant}'?", err)
 
+    def test_the_nearest_option_is_named(self):
+        for words, meant in ((("drain", "a", "--contoller", "http://c"), "--controller"), (("reopen", "--dryrun"), "--dry-run"), (("begin", "-", "--nam=x", "--wiat"), "--wait")):
+            status, _, err = printed(*words)
+            self.assertEqual(status, 2)
+            self.assertIn(f"did you mean '{meant}'?", err)
+        self.assertNotIn("did you mean", printed("state", "more")[2])
+
     def test_the_version(self):
         self.assertEqual(printed("--version"), (0, f"smplan-control {__version__}\n", ""))
 
