@@ -1,10 +1,11 @@
-"""`smplan-control run` with servers of examples/kv_http.py, under load, while the controller and servers are killed: nothing acknowledged is lost or doubled.
+"""`smplan-control run` with servers of examples/kv_http.py, under load, while everything is killed: nothing acknowledged is lost or doubled, no order has its
+effect twice, each server ends with what is recorded, and drains end by themselves.
 
-    python3 tests/python/control_storm.py 'build/smpland' [--seconds 60] [--servers 4] [--shards 6] [--seed 1] [--etcd 3] [--keep FOLDER]
+    python3 tests/python/control_storm.py 'build/smpland' [--kills 200] [--servers 5] [--shards 6] [--seed 1] [--etcd 3] [--lease 3] [--keep FOLDER]
 
-Clients append words under identities until each is acknowledged. Meanwhile servers are drained and filled again, and at random moments the controller or a
-server is killed (-9) and started anew. In the end each acknowledged word stands once in its key, replicas agree, and each server has what is recorded. With --etcd there are three controllers over
-so many members of etcd, which are killed as well.
+Clients append words under identities until each is acknowledged. Meanwhile servers are drained in turn, old orders come again, and at random moments a
+controller, a server, with --etcd (three controllers over so many members of it) also the controller that leads, a member of etcd or its leader, is killed (-9)
+and started anew. With --bug NAME servers have a bug of storm_server.py, which has to be found.
 """
 import argparse
 import json
@@ -13,11 +14,13 @@ import random
 import shutil
 import signal
 import socket
+import sqlite3
 import subprocess
 import sys
 import tempfile
 import threading
 import time
+from collections import Counter
 from pathlib import Path
 from urllib.request import urlopen
 
@@ -41,8 +44,9 @@ def free_ports(count):
 class Fleet:
     """The processes."""
 
-    def __init__(self, folder, session, servers, shards, members):
-        self.folder, self.session, self.running = folder, session, {}
+    def __init__(self, folder, session, servers, shards, members, lease=3, bug=""):
+        self.folder, self.session, self.lease, self.running = folder, session, str(lease), {}
+        self.environment = {**ENVIRONMENT, "STORM_BUG": bug}
         names = [f"v{it}" for it in range(servers)]
         ports = free_ports(servers + 3 + 2 * members)
         self.urls = {name: f"http://127.0.0.1:{ports.pop()}" for name in names}
@@ -60,29 +64,33 @@ class Fleet:
                 {"server": one, "state": "primary"}, {"server": two, "state": "secondary"}]} for it, (one, two) in cells.items()]}))
 
     def start(self, name):
-        words, at = [sys.executable, ROOT / "examples/kv_http.py", name, ",".join(self.controllers.values()), self.folder / f"{name}.sqlite", "--new"], self.folder
+        words = [sys.executable, ROOT / "tests/python/storm_server.py", name, ",".join(self.controllers.values()), self.database(name)]
+        at = self.folder
         if name in self.members:
             clients, peers = self.members[name]
             cluster = ",".join(f"{it}={peer}" for it, (_, peer) in self.members.items())
-            words = ["etcd", "--name", name, "--data-dir", self.folder / name, "--listen-client-urls", clients, "--advertise-client-urls", clients, "--listen-peer-urls",
-                     peers, "--initial-advertise-peer-urls", peers, "--initial-cluster", cluster, "--log-level", "error"]
+            words = ["etcd", "--name", name, "--data-dir", self.folder / name, "--listen-client-urls", clients, "--advertise-client-urls", clients,
+                     "--listen-peer-urls", peers, "--initial-advertise-peer-urls", peers, "--initial-cluster", cluster, "--log-level", "error",
+                     "--heartbeat-interval", "300", "--election-timeout", "3000"]
         if name in self.controllers:
             at, journal = self.folder / name, "-" if self.members else self.folder / "journal"
             words = [sys.executable, "-m", "smplan.control_commands", "run", "../fleet.json", "--session", f"{self.session} {journal}",
                      "--http", self.controllers[name].removeprefix("http://"), "--open", "../service.json"]
-            words += [word for urls in self.members.values() for word in ("--etcd", urls[0])] + (["--name", name, "--lease", "2"] if self.members else [])
+            words += [word for urls in self.members.values() for word in ("--etcd", urls[0])] + (["--name", name, "--lease", self.lease] if self.members else [])
         with open(self.folder / f"{name}.log", "a", encoding="utf-8") as log:
-            self.running[name] = subprocess.Popen(words, stdout=log, stderr=log, cwd=at, env=ENVIRONMENT)
+            self.running[name] = subprocess.Popen(words, stdout=log, stderr=log, cwd=at, env=self.environment)
+
+    def database(self, name):
+        return self.folder / f"{name}.sqlite"
 
     def kill(self, name, how=signal.SIGKILL):
         self.running[name].send_signal(how)
         self.running[name].wait()
 
-    def wait(self, name, seconds=60):
-        if name in self.members:
-            return time.sleep(0.5)
-        url = f"{self.controllers[name]}/healthz" if name in self.controllers else f"{self.urls[name]}/base"
-        for _ in range(int(seconds * 10)):
+    def wait(self, name, seconds=120):
+        url = self.members[name][0] + "/health" if name in self.members else f"{self.controllers[name]}/healthz" if name in self.controllers else f"{self.urls[name]}/base"
+        until = time.monotonic() + seconds
+        while time.monotonic() < until:
             try:
                 return ask(url)
             except (OSError, ValueError):
@@ -90,21 +98,40 @@ class Fleet:
         raise SystemExit(f"{name} does not answer: see {self.folder}/{name}.log")
 
     def control(self, *words):
-        return subprocess.run([sys.executable, "-m", "smplan.control_commands", *words], capture_output=True, text=True, check=False,
-                              env={**ENVIRONMENT, "SMPLAN_CONTROLLER": ",".join(self.controllers.values())})
+        """Begins a command of an operator."""
+        return subprocess.Popen([sys.executable, "-m", "smplan.control_commands", *words], stdout=subprocess.PIPE, stderr=subprocess.STDOUT, text=True,
+                                env={**self.environment, "SMPLAN_CONTROLLER": ",".join(self.controllers.values())})
 
-    def leader(self, seconds=60):
+    def leading(self):
+        """The controller that leads, none if nobody says so."""
+        for name, url in self.controllers.items():
+            try:
+                if ask(f"{url}/healthz")["leads"]:
+                    return name
+            except (OSError, ValueError):
+                pass
+        return None
+
+    def leader(self, seconds=120):
         """The address of the controller that leads."""
         until = time.monotonic() + seconds
         while time.monotonic() < until:
-            for url in self.controllers.values():
-                try:
-                    if ask(f"{url}/healthz")["leads"]:
-                        return url
-                except (OSError, ValueError):
-                    pass
+            name = self.leading()
+            if name is not None:
+                return self.controllers[name]
             time.sleep(0.1)
         raise SystemExit("nobody leads")
+
+    def leading_member(self):
+        """The member of etcd that leads, none if nobody says so."""
+        for name, (url, _) in self.members.items():
+            try:
+                told = ask(f"{url}/v3/maintenance/status", {})
+                if told.get("leader") == told["header"]["member_id"]:
+                    return name
+            except (OSError, ValueError, KeyError):
+                pass
+        return None
 
 
 class Client(threading.Thread):
@@ -118,6 +145,7 @@ class Client(threading.Thread):
     def run(self):
         place = 0
         while not self.is_over:
+            time.sleep(self.dice.uniform(0.0, 0.1))
             shard, place = self.dice.choice(self.fleet.shards), place + 1
             word, begun = f"<{self.number}.{place}>", time.monotonic()
             self.append(shard, word)
@@ -144,33 +172,90 @@ class Client(threading.Thread):
             return None
 
 
-def harm(fleet, dice, seconds):
+class Repeater(threading.Thread):
+    """Sends old orders again, as a network or an old process may."""
+
+    def __init__(self, fleet, seed):
+        super().__init__(daemon=True)
+        self.fleet, self.dice, self.is_over, self.sent = fleet, random.Random(seed), False, 0
+
+    def run(self):
+        while not self.is_over:
+            time.sleep(self.dice.uniform(0.05, 0.5))
+            name = self.dice.choice(list(self.fleet.urls))
+            try:
+                lines = rows_of(self.fleet.database(name), "SELECT line FROM heard ORDER BY random() LIMIT 3")
+                for (line,) in lines:
+                    ask(f"{self.fleet.urls[name]}/order", json.loads(line), timeout=3.0)
+                    self.sent += 1
+            except (OSError, ValueError, sqlite3.Error):
+                pass
+
+
+def rows_of(path, query):
+    """What a server's database answers, read alone."""
+    db = sqlite3.connect(f"file:{path}?mode=ro", uri=True, timeout=5.0)
+    try:
+        return db.execute(query).fetchall()
+    finally:
+        db.close()
+
+
+class Mover(threading.Thread):
+    """Drains one server after the other. Each drain has to end by itself, however often what it asks is killed."""
+
+    def __init__(self, fleet, seed):
+        super().__init__(daemon=True)
+        self.fleet, self.dice, self.is_over, self.drains, self.moved, self.faults = fleet, random.Random(seed), False, 0, 0, []
+        self.drain = None
+
+    def run(self):
+        while not self.is_over:
+            server = self.dice.choice(list(self.fleet.urls))
+            self.drain = self.fleet.control("drain", server, "--batch", "3", "--pause", "0.1")
+            text, _ = self.drain.communicate()
+            self.moved += text.count(" to ")
+            if self.drain.returncode == 3 and "waits for" not in text:
+                continue  # (it has begun nothing, as nobody was there to ask)
+            if self.drain.returncode != 0 or f"{server} is empty" not in text:
+                self.faults.append(f"drain {server} ended with {self.drain.returncode}: {text[-500:]}")
+                time.sleep(1.0)
+            self.drains += 1
+
+    def end(self, seconds):
+        """Lets the drain under way end by itself."""
+        self.is_over = True
+        self.join(seconds)
+        if self.is_alive():
+            self.faults.append(f"a drain has not ended within {seconds:g} s of the last kill")
+            self.drain.kill()
+
+
+def harm(fleet, dice, kills, most_seconds, only):
     """Kills at random moments, and starts anew. Returns how often what was killed."""
-    counts = {}
-    until = time.monotonic() + seconds
-    while time.monotonic() < until:
-        time.sleep(dice.uniform(0.2, 2.0))
-        kind = dice.choice([fleet.urls, fleet.controllers, fleet.controllers, *([fleet.members] if len(fleet.members) > 2 else [])])
-        name = dice.choice(list(kind))
-        fleet.kill(name, signal.SIGTERM if kind is fleet.controllers and dice.random() < 0.3 else signal.SIGKILL)
+    kinds = {"a server": lambda: dice.choice(list(fleet.urls)), "a controller": lambda: dice.choice(list(fleet.controllers)), "the leader": fleet.leading}
+    if len(fleet.members) > 2:
+        kinds.update({"a member of etcd": lambda: dice.choice(list(fleet.members)), "etcd's leader": fleet.leading_member})
+    kinds = {kind: it for kind, it in kinds.items() if only in kind}
+    counts, until = Counter(), time.monotonic() + most_seconds
+    while sum(counts.values()) < kills and time.monotonic() < until:
+        time.sleep(dice.uniform(0.0, 2.0))
+        kind = dice.choice(list(kinds))
+        name = kinds[kind]()
+        if name is None:
+            continue
+        fleet.kill(name)
         time.sleep(dice.choice([0.0, 0.1, 1.0]))
         fleet.start(name)
+        counts[kind] += 1
+        if dice.random() < 0.7:
+            fleet.wait(name)
+    for name in fleet.running:
         fleet.wait(name)
-        what = "server" if kind is fleet.urls else "controller" if kind is fleet.controllers else "member of etcd"
-        counts[what] = counts.get(what, 0) + 1
-    return counts
+    return dict(counts)
 
 
-def move(fleet, dice, is_over, moved):
-    """Drains one server after the other."""
-    while not is_over.is_set():
-        told = fleet.control("drain", dice.choice(list(fleet.urls)), "--batch", "3", "--pause", "0.1", "--stop", "30")
-        moved.append(told.stdout.count(" to "))
-        if told.returncode not in (0, 1):
-            print(f"drain ended with {told.returncode}: {told.stderr.strip()}", flush=True)
-
-
-def wait_for_rest(fleet, seconds=90):
+def wait_for_rest(fleet, seconds):
     """Waits until no message is outstanding, and no plan runs."""
     until, outgoing = time.monotonic() + seconds, []
     while time.monotonic() < until:
@@ -178,23 +263,28 @@ def wait_for_rest(fleet, seconds=90):
         try:
             state, outgoing = ask(f"{leader}/ask", {"do": "state"})["state"], ask(f"{leader}/outgoing")
             if not outgoing and all(it["is"] != "running" for it in state["plans"]):
-                return None
+                return []
         except OSError:
             pass
         time.sleep(0.3)
-    return f"no rest: {outgoing}"
+    return [f"no rest: {outgoing}"]
 
 
-def faults_of(fleet, clients):
-    """Compares what was acknowledged with what is there, and what is there with the record."""
-    faults = [it.fault for it in clients if it.fault]
-    leader = fleet.leader()
+def audit(fleet):
+    """Compares what each server has with what is recorded."""
+    leader, faults = fleet.leader(), []
     place = ask(f"{leader}/ask", {"do": "hello"})["hello"]["place"]
     for name, url in fleet.urls.items():
         slots = [{key: it for key, it in slot.items() if key not in ("position", "reached")} for slot in ask(f"{url}/slots")["slots"]]
         told = ask(f"{leader}/ask", {"do": "audit", "server": name, "place": place, "slots": slots})
         if told.get("audit", {}).get("is") != "agrees":
             faults.append(f"{name}: {told}")
+    return faults
+
+
+def lost_words(fleet, clients):
+    """Compares what was acknowledged with what is there."""
+    faults = [it.fault for it in clients if it.fault]
     for client in clients:
         for shard in fleet.shards:
             value = None
@@ -208,45 +298,75 @@ def faults_of(fleet, clients):
     return faults
 
 
-def main():
+def repeated_orders(fleet):
+    """Each order that had its effect twice, or behind a later one of its shard, and how many orders had one."""
+    faults, count = [], 0
+    for name in fleet.urls:
+        last = {}
+        for journal, shard, number, call in rows_of(fleet.database(name), "SELECT journal, shard, number, call FROM effects ORDER BY place"):
+            count += 1
+            if number <= last.get((journal, shard), -1):
+                faults.append(f"{name}: order {number} of {shard} ({call}) has its effect behind {last[journal, shard]}")
+            last[journal, shard] = number
+    return faults, count
+
+
+def arguments():
+    """What the command line says."""
     parser = argparse.ArgumentParser(description=__doc__, formatter_class=argparse.RawDescriptionHelpFormatter)
     parser.add_argument("session", help="smpland, without its journal")
-    for name, value in (("--seconds", 60.0), ("--servers", 4), ("--shards", 6), ("--clients", 4), ("--seed", 1), ("--etcd", 0)):
+    for name, value in (("--kills", 200), ("--seconds", 3600.0), ("--servers", 5), ("--shards", 6), ("--clients", 3), ("--seed", 1), ("--etcd", 0),
+                        ("--lease", 3), ("--patience", 240.0)):
         parser.add_argument(name, type=type(value), default=value)
+    parser.add_argument("--only", default="", metavar="TEXT", help="kill only what is told with this text, as 'server'")
+    parser.add_argument("--bug", default="", choices=["", "forgets", "early"])
     parser.add_argument("--keep", type=Path)
-    told = parser.parse_args()
+    return parser.parse_args()
+
+
+def storm(told, fleet):
+    """Starts everything, kills, lets it come to rest, and looks. Returns the faults, and what has happened in words."""
+    begun, dice = time.monotonic(), random.Random(told.seed)
+    for name in [*fleet.members, *fleet.controllers, *fleet.urls]:
+        fleet.start(name)
+    for name in fleet.urls:
+        fleet.wait(name)
+    fleet.leader()
+    clients = [Client(fleet, it, told.seed * 100 + it) for it in range(told.clients)]
+    mover, repeater = Mover(fleet, told.seed + 1), Repeater(fleet, told.seed + 2)
+    for it in [*clients, mover, repeater]:
+        it.start()
+    counts = harm(fleet, dice, told.kills, told.seconds, told.only)
+    mover.end(told.patience)
+    for it in [*clients, repeater]:
+        it.is_over = True
+    for it in [*clients, repeater]:
+        it.join(60)
+    orders, effects = repeated_orders(fleet)
+    faults = [*mover.faults, *wait_for_rest(fleet, told.patience), *audit(fleet), *orders, *lost_words(fleet, clients)]
+    words = sum(len(it.acknowledged) for it in clients)
+    return faults + ([] if words else ["no word was acknowledged"]), (
+        f"{sum(counts.values())} kills in {time.monotonic() - begun:.0f} s: {counts}\n{words} words acknowledged, the longest wait "
+        f"{max(it.longest for it in clients):.1f} s; {effects} orders, {repeater.sent} sent again; {mover.moved} moves in {mover.drains} drains")
+
+
+def main():
+    told = arguments()
     folder = told.keep or Path(tempfile.mkdtemp(prefix="control-storm-"))
     folder.mkdir(parents=True, exist_ok=True)
-    dice, fleet = random.Random(told.seed), Fleet(folder, told.session, told.servers, told.shards, told.etcd)
+    fleet = Fleet(folder, told.session, told.servers, told.shards, told.etcd, told.lease, told.bug)
     try:
-        for name in [*fleet.members, *fleet.controllers, *fleet.urls]:
-            fleet.start(name)
-        for name in fleet.urls:
-            fleet.wait(name)
-        clients = [Client(fleet, it, told.seed * 100 + it) for it in range(told.clients)]
-        is_over, moved = threading.Event(), []
-        mover = threading.Thread(target=move, args=(fleet, random.Random(told.seed + 1), is_over, moved), daemon=True)
-        for it in [*clients, mover]:
-            it.start()
-        counts = harm(fleet, dice, told.seconds)
-        is_over.set()
-        mover.join(120)
-        for it in clients:
-            it.is_over = True
-        for it in clients:
-            it.join(30)
-        faults = [it for it in [wait_for_rest(fleet)] if it] + faults_of(fleet, clients)
+        faults, text = storm(told, fleet)
     finally:
         for it in fleet.running.values():
             it.kill()
             it.wait()
-    words = sum(len(it.acknowledged) for it in clients)
-    print(f"{words} words acknowledged, {sum(moved)} moves in {len(moved)} drains, {counts}, longest {max(it.longest for it in clients):.1f} s: {len(faults)} faults")
+    print(f"{text}: {len(faults)} faults")
     for it in faults[:20]:
         print(f"  {it}")
     if not faults and told.keep is None:
         shutil.rmtree(folder)
-    return 1 if faults or not words else 0
+    return 1 if faults else 0
 
 
 if __name__ == "__main__":
