@@ -246,13 +246,17 @@ class Running:
     async def metrics(self, _: bytes) -> Page:
         """Figures of the controller, of the map's file and of the journal."""
         assert self.controller is not None
+        try:
+            figures = await metrics_of(self.controller)
+        except SessionEnded as why:
+            return Page.of({"fault": str(why)}, 503)
         lines = [
             *metric("map_writes_total", "counter", "how often the map was written and told", [({}, float(self.owner.writes))]),
             *metric("map_failures_total", "counter", "how often that failed", [({}, float(self.owner.failures))]),
             *metric("map_is_shown", "gauge", "whether all that is published is shown", [({}, float(self.owner.shown == self.owner.changes))]),
             *self.journal_figures(),
         ]
-        return Page((await metrics_of(self.controller) + "\n".join(lines) + "\n").encode(), "text/plain; version=0.0.4; charset=utf-8")
+        return Page((figures + "\n".join(lines) + "\n").encode(), "text/plain; version=0.0.4; charset=utf-8")
 
     def journal_figures(self) -> List[str]:
         """The size of the journal, which is the file that the session's last word names."""
@@ -277,10 +281,13 @@ class Running:
     async def told_document(self, _: bytes) -> Page:
         """The service as a document."""
         assert self.controller is not None
-        told = await self.controller.ask({"do": "document"})
+        try:
+            told = await self.controller.ask({"do": "document"})
+            state = (await self.controller.ask({"do": "state"}))["state"]
+        except SessionEnded as why:
+            return Page.of({"fault": str(why)}, 503)
         if "document" in told:
             return Page.of(told["document"])
-        state = (await self.controller.ask({"do": "state"}))["state"]
         try:
             if state["is"] == "new":
                 raise Unknown("nothing is opened yet")

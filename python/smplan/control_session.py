@@ -83,6 +83,7 @@ class Session:
             waiting, _ = self.waiting.popleft()
             if not waiting.done():
                 waiting.set_exception(self.end)
+                waiting.exception()  # (many lines may wait, and whoever fed them waits for the first alone)
 
     def feed(self, text: str, heed: Optional[Heed] = None) -> "asyncio.Future[Line]":
         """Feeds a line, and returns the reply to come. Replies are heeded in the order of their lines."""

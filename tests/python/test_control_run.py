@@ -1,6 +1,7 @@
 """smplan-control run and its commands: the map's file, servers over HTTP, who may ask, and a fleet of examples/kv_http.py from its opening to its repair."""
 import asyncio
 import contextlib
+import gc
 import io
 import json
 import logging
@@ -18,7 +19,7 @@ from types import SimpleNamespace
 from urllib.request import Request, urlopen
 
 from smplan import control_commands
-from smplan.control import DONE
+from smplan.control import DONE, Controller, Session, SessionEnded
 from smplan.control_document import Unknown, document_of_state, without_servers
 from smplan.control_fleet import FleetFile, HttpFleet
 from smplan.control_http import NotThere, Page, serve
@@ -404,6 +405,19 @@ class RunningTest(unittest.IsolatedAsyncioTestCase):
         for session, status in [*ends, (kill, 3), (stray, 3)]:
             running = await self.running(session)
             self.assertEqual(await asyncio.wait_for(running.run(), 20), status, session)
+
+    async def test_a_session_that_has_ended_is_told_to_who_asks_and_logged_once(self):
+        running, heard = await self.running(REFERENCE), []
+        asyncio.get_running_loop().set_exception_handler(lambda loop, context: heard.append(context))
+        session = await Session.start([sys.executable, "-c", "import sys; sys.stdin.readline()"])
+        running.controller = Controller(session, running.fleet, None)
+        with self.assertRaises(SessionEnded):
+            await running.controller.follow(['{"do":"hello"}'] * 3)
+        self.assertEqual([(await it(b"")).status for it in (running.metrics, running.told_document, running.health)], [503, 503, 503])
+        await session.close()
+        running.fleet.close()
+        gc.collect()
+        self.assertEqual(heard, [])
 
     async def test_a_map_belongs_to_what_is_opened_by_a_line(self):
         running = await self.running(REFERENCE)
