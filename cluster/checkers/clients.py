@@ -1,6 +1,6 @@
 """What the clients saw, and nothing else: each key is a list of values that were pushed, in one order that fits what
-every client saw and when; or a text that one client sets again and again, of which each read has the last, or the one
-that is being set.
+every client saw and when; a text that one client sets again and again, of which each read has the last, or the one that
+is being set; or a register that clients compare and set.
 
 `python3 -m cluster.checkers.clients HISTORY..` reads the load generator's lines. Exit status 1 if anything is wrong.
 """
@@ -13,10 +13,14 @@ from collections import Counter, defaultdict
 from dataclasses import dataclass
 from typing import Iterable
 
+from .registers import faults_of_register
 from .texts import NEVER, faults_of_text
 
 # What is counted of requests that had a reply.
-ANSWERED = {"push": "pushes acknowledged", "read": "reads", "set": "sets acknowledged", "get": "reads of texts"}
+ANSWERED = {"push": "pushes acknowledged", "read": "reads", "set": "sets acknowledged", "get": "reads of texts", "cas": "comparisons acknowledged",
+            "look": "reads of registers"}
+# What looks at requests that are not about lists.
+LOOKS = {"set": faults_of_text, "get": faults_of_text, "cas": faults_of_register, "look": faults_of_register}
 
 
 @dataclass(frozen=True)
@@ -109,8 +113,8 @@ def check(paths: Iterable[str], excused: frozenset[str] = frozenset()) -> tuple[
     kept = {key: lines for key, lines in read(paths).items() if key.split(":")[0] not in excused}
     found, counts = [], Counter({"keys": len(kept)})
     for key, lines in sorted(kept.items()):
-        is_text = lines[0]["op"] in ("set", "get")
-        found += faults_of_text(key, lines) if is_text else faults_of(key, [Asked.of(it) for it in lines])
+        look = LOOKS.get(lines[0]["op"])
+        found += look(key, lines) if look is not None else faults_of(key, [Asked.of(it) for it in lines])
         counts["requests"] += len(lines)
         for line in lines:
             counts[ANSWERED[line["op"]] if "reply" in line else "without reply"] += 1

@@ -1,4 +1,4 @@
-"""The writes of a shard in the order in which they stand, and what they make."""
+"""The writes of a shard in the order in which they stand, and what they make. Histories have of a long text its length and sum alone."""
 from __future__ import annotations
 
 from dataclasses import dataclass, field
@@ -6,8 +6,10 @@ from dataclasses import dataclass, field
 Value = str | list[str]
 
 
-def executed(before: Value | None, word: str, rest: tuple[str, ...]) -> Value:
-    """A key's value once a write was executed."""
+def executed(before: Value | None, word: str, rest: tuple[str, ...]) -> Value | None:
+    """A key's value once a write was executed, none if it was deleted."""
+    if word == "DEL":
+        return None
     if word == "RPUSH":
         return [*(before or []), *rest]
     if word == "APPEND":
@@ -47,10 +49,10 @@ class Data:
 
     def values(self, position: int) -> dict[str, Value]:
         """What the first writes make."""
-        made: dict[str, Value] = {}
+        made: dict[str, Value | None] = {}
         for _, (word, key, *rest) in self.writes[:position]:
             made[key] = executed(made.get(key), word, tuple(rest))
-        return made
+        return {key: value for key, value in made.items() if value is not None}
 
     def difference(self, position: int, values: dict[str, Value]) -> str | None:
         """Where values are not what the first writes make."""

@@ -24,10 +24,13 @@ def load_of(words: list[str] | None = None) -> tuple[argparse.Namespace, Load]:
     parser.add_argument("--pause", type=float, default=0, help="seconds between a client's requests")
     parser.add_argument("--hot-clients", type=int, default=0, help="how many clients never rest, and use shards that are being moved")
     parser.add_argument("--moving", default="", metavar="FILE", help="which these are, each in a line")
-    parser.add_argument("--largest", type=int, default=0, help="how many bytes a shard's text has at most")
+    parser.add_argument("--open-clients", type=int, default=0, help="how many clients ask for these at times of their own, answered or not")
+    parser.add_argument("--rate", type=float, default=20, help="how often each of them does in a second")
+    parser.add_argument("--comparers", type=int, default=2, help="how many clients compare and set registers")
+    parser.add_argument("--largest", type=int, default=0, help="how many bytes of text a shard has at most")
     parser.add_argument("--seed", type=int, default=1)
     told = parser.parse_args(words)
-    names = ("clients", "keys", "reads", "stray", "pause", "seed", "hot_clients", "moving", "largest")
+    names = ("clients", "keys", "reads", "stray", "pause", "seed", "hot_clients", "moving", "open_clients", "rate", "comparers", "largest")
     return told, Load(tuple(told.shards.split(",")), **{it: getattr(told, it) for it in names})
 
 

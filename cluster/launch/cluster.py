@@ -123,7 +123,8 @@ class LocalCluster:
         self.processes.add(name, [
             *PYTHON, "cluster.clients", "--cluster", str(self.cluster_file(name)), "--shards", ",".join(self.shape.shard_names),
             "--history", str(self.directory / f"{name}.jsonl"), "--seconds", "0", "--clients", str(self.shape.clients), "--seed", str(self.shape.seed),
-            "--pause", str(self.pause), "--hot-clients", str(self.shape.hot_clients), "--moving", str(self.moving), "--largest", str(self.shape.largest),
+            "--pause", str(self.pause), "--hot-clients", str(self.shape.hot_clients), "--open-clients", str(self.shape.open_clients),
+            "--moving", str(self.moving), "--largest", str(self.shape.largest),
         ], says_ready=False, has_input=True, **ENVIRONMENT)
 
     async def start(self) -> None:

@@ -98,7 +98,7 @@ def of_handovers(handovers: list[Handover]) -> str:
     if not met:
         return f"{len(handovers)}, of which none met a request"
     return (f"{len(handovers)}; the longest wait of a client meanwhile {in_words([it.longest for it in met])}; requests met {median(it.requests for it in handovers):.0f} "
-            f"(median), {median(it.requests_at_cut for it in handovers):.0f} between the old owner's last and the new one's first")
+            f"(median), {median(it.requests_at_cut for it in handovers):.0f} of them between the begin of prepare_drop and the seal")
 
 
 def spans_within(spans: list[tuple[int, int]], begin: int, end: int) -> list[tuple[int, int]]:
@@ -121,7 +121,7 @@ def order_waits(events: Iterable[dict], deaths: Iterable[int]) -> list[float]:
 
 def unacknowledged(lines: Iterable[dict], forsaken: Mapping[str, int]) -> int:
     """How many requests had no reply in time, but those of shards whose server was lost, from then on."""
-    return sum("reply" not in it and not forsaken.get(it["shard"], NEVER) <= it["end"] for it in lines)
+    return sum("reply" not in it and "unclear" not in it and not forsaken.get(it["shard"], NEVER) <= it["end"] for it in lines)
 
 
 def without_service(lines: Iterable[dict]) -> dict[str, float]:

@@ -13,6 +13,14 @@ from smplan.control import Line
 from .operator import NoLeader, Operator
 from .plans import move_stream, plan_of, swap_stream
 
+# How many primaries are handed over at once. (clients that never rest use these shards, so that each handover meets many requests)
+HANDOVERS = 3
+
+
+def is_handover(stream: Line) -> bool:
+    """Whether a stream hands a primary over."""
+    return stream["code"][0]["do"] == "prepare_add"
+
 
 class Mover:
     """Makes plans, begins them and waits until they have ended."""
@@ -20,6 +28,8 @@ class Mover:
     def __init__(self, operator: Operator, seed: int, swaps: float = 0.2) -> None:
         self.operator, self.dice, self.swaps = operator, random.Random(f"moves {seed}"), swaps
         self.busy: set[str] = set()
+        # Those of them whose primary stays, or has been handed over by now: clients need not use them.
+        self.passed: set[str] = set()
         self.avoided: set[str] = set()
         self.counts: Counter[str] = Counter()
         self.numbers = 0
@@ -33,23 +43,25 @@ class Mover:
         """One plan after another."""
         while not self.stopped.is_set():
             chosen = self.choose(await self.state(), moves)
-            shards = set(chosen)
-            self.busy |= shards
             try:
-                ended = bool(chosen) and await self.begin(plan_of(list(chosen.values())), len(chosen))
+                ended = bool(chosen) and await self.begin(chosen)
             except NoLeader:
                 ended = False
-            finally:
-                self.busy -= shards
             if not ended:
                 await asyncio.sleep(0.3)
 
+    @property
+    def handed_over(self) -> set[str]:
+        """The shards whose primary is being handed over, and what the story has clients use."""
+        return self.busy - self.passed
+
     async def tell_moves(self, path: Path) -> None:
-        """Names the shards that are being moved in a file, for clients that use these, again and again."""
+        """Names the shards that are handed over in a file, for clients that use these, again and again: all that are moved if none is."""
         told = None
         while True:
-            if told != self.busy:
-                told = set(self.busy)
+            names = self.handed_over or self.busy
+            if told != names:
+                told = set(names)
                 part = path.with_suffix(".part")
                 part.write_text("".join(f"{it}\n" for it in sorted(told)))
                 part.replace(path)
@@ -74,12 +86,16 @@ class Mover:
         self.dice.shuffle(shards)
         chosen: dict[str, Line] = {}
         for shard in shards:
-            stream = self.stream_of(shard, rooms) if len(chosen) < most else None
+            stream = self.stream_of(shard, rooms, self.has_room_for_handover(chosen)) if len(chosen) < most else None
             if stream is not None:
                 chosen[shard["shard"]] = stream
         return chosen
 
-    def stream_of(self, shard: Line, rooms: dict[str, int]) -> Line | None:
+    def has_room_for_handover(self, chosen: dict[str, Line]) -> bool:
+        """Whether one primary more may be handed over beside those that are, or are chosen."""
+        return len(self.handed_over) + sum(map(is_handover, chosen.values())) < HANDOVERS
+
+    def stream_of(self, shard: Line, rooms: dict[str, int], may_hand_over: bool = True) -> Line | None:
         """Chooses where a replica of a shard goes, or that its primary and a secondary change roles."""
         has = {it["server"]: it["state"] for it in shard["cells"]}
         if any(it not in ("primary", "secondary") for it in has.values()) or "primary" not in has.values():
@@ -90,32 +106,46 @@ class Mover:
         secondaries = [it for it in staying if has[it] == "secondary"]
         if primary is not None and secondaries and self.dice.random() < self.swaps:
             return swap_stream(shard, primary, self.dice.choice(secondaries))
-        if not staying or not free:
+        sources = [it for it in staying if it != primary or may_hand_over]
+        if not sources or not free:
             return None
         target = self.dice.choice(free)
         rooms[target] -= shard["load"]
-        return move_stream(shard, self.dice.choice(staying), target)
+        return move_stream(shard, self.dice.choice(sources), target)
 
-    async def begin(self, plan: Line, moves: int) -> bool:
+    async def begin(self, streams: dict[str, Line]) -> bool:
+        """Begins a plan of streams, each for a shard, and waits until it has ended; tells whether it did."""
+        shards = set(streams)
+        self.busy |= shards
+        self.passed |= {shard for shard, stream in streams.items() if not is_handover(stream)}
+        try:
+            return await self.begin_and_wait(streams)
+        finally:
+            self.busy -= shards
+            self.passed -= shards
+
+    async def begin_and_wait(self, streams: dict[str, Line]) -> bool:
         """Begins a plan, and waits until it has ended; tells whether it did."""
         self.numbers += 1
         name = f"moves-{self.numbers}"
-        begun = await self.operator.do({"do": "begin", "plan": plan, "name": name})
+        begun = await self.operator.do({"do": "begin", "plan": plan_of(list(streams.values())), "name": name})
         if "begun" not in begun:
             self.counts["plans not begun"] += 1
             return False
         self.counts["plans begun"] += 1
-        if not await self.wait(name, begun["begun"]):
+        if not await self.wait(name, begun["begun"], list(streams)):
             self.counts["plans broken off"] += 1
             return False
         self.counts["plans"] += 1
-        self.counts["moves"] += moves
+        self.counts["moves"] += len(streams)
         return True
 
-    async def wait(self, name: str, begun: dict[str, Any]) -> bool:
-        """Waits until a plan has ended; false if a reopening has broken it off."""
+    async def wait(self, name: str, begun: dict[str, Any], shards: list[str]) -> bool:
+        """Waits until a plan has ended, and notes which of its shards are moved by then; false if a reopening has broken it off."""
         while True:
             told = (await self.operator.ask({"do": "state", "plan": begun["plan"]})).get("state", {}).get("plan", {})
+            if told.get("name") == name:
+                self.passed |= {shard for shard, stream in zip(shards, told.get("streams", [])) if stream["is"] == "done"}
             if told.get("name") == name and told["is"] != "running":
                 return told["is"] == "ended"
             if told.get("name") != name and (await self.state()).get("epoch", begun["epoch"]) != begun["epoch"]:
@@ -145,10 +175,10 @@ class Mover:
             free = [it for it, room in rooms.items() if it not in has and room >= shard["load"]]
             if shard["shard"] in self.busy or not free or not set(has.values()) <= {"primary", "secondary"}:
                 continue
+            if has[server] == "primary" and not self.has_room_for_handover(chosen):
+                continue
             target = max(free, key=lambda it: rooms[it])
             rooms[target] -= shard["load"]
             chosen[shard["shard"]] = move_stream(shard, server, target)
         if chosen:
-            self.busy |= set(chosen)
-            await self.begin(plan_of(list(chosen.values())), len(chosen))
-            self.busy -= set(chosen)
+            await self.begin(chosen)

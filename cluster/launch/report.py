@@ -11,8 +11,9 @@ from .situations import SITUATIONS
 # What a violation is about, by words of its text. The first that fits counts.
 KINDS = (
     ("acknowledged writes lost", r"acknowledged and is lost|acknowledged as number|nobody could read it|in the end: "),
-    ("writes executed twice", r"is there more than once|and was write \d"),
-    ("stale reads", r"acknowledged or read before|no beginning of the final list|stands before a value|before its push|before it was set|by nobody"),
+    ("writes executed twice", r"is there more than once|and was write \d|was (replaced|deleted) twice"),
+    ("stale reads", r"acknowledged or read before|no beginning of the final list|stands before a value|before its push|before it was set|by nobody|"
+     r"had been found|while there was a value|follow nothing|in a circle"),
     ("two primaries", r"has the primaries|its term overlaps|executed by a server that is|executed at a fenced server"),
     ("floors broken", r"has -?\d+ replicas"),
     ("lines that were not true", r"was not true when it was written"),
@@ -47,8 +48,8 @@ def seconds_of(times: list[float]) -> str:
 def trust_lines(faults: list[str], counts: Mapping[str, int]) -> list[str]:
     """The violations by what they are about, with how much was looked at."""
     found = Counter(map(kind_of, faults))
-    of = {"acknowledged writes lost": counts["clients: pushes acknowledged"] + counts["clients: sets acknowledged"], "writes executed twice": counts["servers: execute"],
-          "stale reads": counts["clients: reads"] + counts["clients: reads of texts"], "lines that were not true": counts["servers: lines that were true"]}
+    of = {"acknowledged writes lost": sum(counts[f"clients: {it} acknowledged"] for it in ("pushes", "sets", "comparisons")), "writes executed twice": counts["servers: execute"],
+          "stale reads": sum(counts[f"clients: {it}"] for it in ("reads", "reads of texts", "reads of registers")), "lines that were not true": counts["servers: lines that were true"]}
     kinds = [f"{found[kind]} {kind}" + (f" (of {of[kind]:,})" if kind in of else "") for kind in (*(kind for kind, _ in KINDS), OTHERS)]
     return [f"verdict      {counted(len(faults), 'violations')}: {', '.join(kinds[:3])},", f"             {', '.join(kinds[3:])}"]
 

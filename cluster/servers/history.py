@@ -13,7 +13,7 @@ from pathlib import Path
 from typing import Iterator
 
 from ..resp import Redis
-from .shard import STATES
+from .shard import STATES, shortened
 from .store import Store, data_key, open_redis, start_redis
 
 
@@ -21,7 +21,7 @@ async def value_of(redis: Redis, key: bytes) -> object:
     """A key's value, as a text or a list of texts."""
     if await redis.call("TYPE", key) == b"list":
         return [it.decode("latin-1") for it in await redis.call("LRANGE", key, 0, -1)]
-    return (await redis.call("GET", key)).decode("latin-1")
+    return shortened((await redis.call("GET", key)).decode("latin-1"))
 
 
 async def data_of(store: Store, name: str) -> dict:

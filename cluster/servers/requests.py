@@ -12,18 +12,18 @@ from smplan.agent import Answer, Cell, Request
 from ..resp import ErrorReply, Parser, Reply, encode_reply
 from ..wire import Failed, Message
 from . import agent, limits
-from .shard import Entry, Shard, chained
+from .shard import Entry, Shard, chained, shortened
 from .store import data_key
 
 if TYPE_CHECKING:
     from .server import Server
 
 # For each write the command that tells what its reply will be, and how many words it has at least.
-WRITES = {"SET": None, "INCR": "GET", "APPEND": "STRLEN", "RPUSH": "LLEN"}
+WRITES = {"SET": None, "INCR": "GET", "APPEND": "STRLEN", "RPUSH": "LLEN", "CAS": "GET"}
 READS = ("GET", "LRANGE")
 # What INCR takes: below the largest number of 64 bits.
 INTEGER, LARGEST = re.compile(rb"0|-?[1-9][0-9]{0,17}"), 10**18
-LENGTHS = {"SET": (3, 3), "INCR": (2, 2), "APPEND": (3, 3), "RPUSH": (3, 1 << 20), "GET": (2, 2), "LRANGE": (4, 4)}
+LENGTHS = {"SET": (3, 3), "INCR": (2, 2), "APPEND": (3, 3), "RPUSH": (3, 1 << 20), "CAS": (4, 4), "GET": (2, 2), "LRANGE": (4, 4)}
 
 
 def answered(reply: Reply) -> Reply:
@@ -166,7 +166,13 @@ class Requests:
         done = None if known is None else answered(await known)
         if done is not None:
             return done
-        reply = "OK" if before is None else foreseen(command, answered(await before))
+        found = None if before is None else answered(await before)
+        if command[0] == "CAS":
+            _, key, old, value = command
+            if (found or b"").decode("latin-1") != old:
+                return encode_reply(found)
+            return await self.write(shard, identity, ("SET", key, value) if value else ("DEL", key), how, encode_reply(found))
+        reply = "OK" if before is None else foreseen(command, found)
         return await self.write(shard, identity, command, how, encode_reply(reply))
 
     async def write(self, shard: Shard, identity: str | None, command: tuple[str, ...], how: Request, reply: bytes) -> bytes:
@@ -177,7 +183,7 @@ class Requests:
         commands = self.store.entry_commands(shard.name, entry) + self.store.trim_commands(shard.name, position)
         commands += self.store.mark_commands(shard.name, position, entry.chain)
         await self.store.save(
-            commands, "execute", shard=shard.name, position=position, identity=identity, command=command,
+            commands, "execute", shard=shard.name, position=position, identity=identity, command=[shortened(it) for it in command],
             passed=self.server.cluster.name_of(how.party) if how.is_passed else None)
         shard.position, shard.chain = position, entry.chain
         self.server.sources.send(shard, entry)

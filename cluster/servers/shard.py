@@ -21,6 +21,10 @@ if TYPE_CHECKING:
     from .work import Work
 
 
+# History has texts of at most so many characters as they are.
+LONG_TEXT = 200
+
+
 @dataclass(frozen=True)
 class Entry:
     """A write as it is stored and sent on: its place, who asked for it, the command, the reply, and a sum over all
@@ -46,6 +50,11 @@ class Entry:
 def chained(chain: str, identity: str | None, command: tuple[str, ...]) -> str:
     """The sum over all writes once one more was executed."""
     return hashlib.blake2b(json.dumps([chain, identity, command]).encode(), digest_size=8).hexdigest()
+
+
+def shortened(text: str) -> str:
+    """A text as history has it: of a long one its length and sum alone."""
+    return text if len(text) <= LONG_TEXT else f"{len(text)}:{hashlib.blake2b(text.encode(), digest_size=8).hexdigest()}"
 
 
 @dataclass

@@ -163,7 +163,7 @@ class Store:
         word, key, *rest = entry.command
         commands: list[Command] = [
             (word, data_key(shard, key), *(it.encode("latin-1") for it in rest)),
-            ("SADD", f"keys:{shard}", key.encode("latin-1")),
+            ("SREM" if word == "DEL" else "SADD", f"keys:{shard}", key.encode("latin-1")),
             ("RPUSH", f"tail:{shard}", entry.text()),
         ]
         if entry.identity is not None:

@@ -85,6 +85,43 @@ WRONG_TEXTS = {
 }
 
 
+def register_lines(*told) -> list[dict]:
+    """Lines of the history of a register: (start, end, what is compared, what it is set to, what was there) or (start, end, None, None, what is read); "" is nothing. The
+    last is final."""
+    lines = []
+    for start, end, old, value, reply in told:
+        line = {"client": "c", "op": "look" if old is None else "cas", "shard": "s", "key": "s:r", "start": start, "end": end}
+        lines.append(line | ({} if old is None else {"old": old, "value": value}) | ({} if reply is None else {"reply": reply}))
+    lines[-1]["final"] = True
+    return lines
+
+
+SET_X, X_TO_Y, Y_GONE = (0, 1, "", "x", ""), (2, 3, "x", "y", "x"), (4, 5, "y", "", "y")
+RIGHT_REGISTERS = {
+    "a register that is set, and set again, and deleted": (SET_X, X_TO_Y, Y_GONE, (6, 7, None, None, "")),
+    "two comparisons at the same time, of which one finds the other's value": (SET_X, (2, 9, "x", "y", "x"), (2, 9, "x", "z", "y"), (10, 11, None, None, "y")),
+    "a comparison without reply that comes late": (SET_X, (2, 3, "x", "y", None), (4, 5, None, None, "x"), (6, 7, None, None, "y")),
+    "a comparison without reply that is never done": (SET_X, (2, 3, "x", "y", None), X_TO_Y[:3] + ("z", "x"), (6, 7, None, None, "z")),
+    "a deletion without reply, and a value behind it": (SET_X, (2, 3, "x", "", None), (4, 5, "", "z", ""), (6, 7, None, None, "z")),
+    "values that follow nothing, in either order": ((0, 9, "", "x", ""), (0, 9, "", "y", ""), (0, 9, "y", "", "y"), (0, 9, None, None, ""), (10, 11, None, None, "x")),
+    "nothing is found before, between and behind": (
+        (0, 1, None, None, ""), (2, 3, "", "x", ""), (4, 5, "x", "", "x"), (6, 7, None, None, ""), (8, 9, "", "y", ""), (10, 11, None, None, "y")),
+}
+WRONG_REGISTERS = {
+    "x was replaced twice": (SET_X, X_TO_Y, (4, 5, "x", "z", "x"), (6, 7, None, None, "z")),
+    "x was deleted twice": (SET_X, (2, 3, "x", "", "x"), (4, 5, "x", "", "x"), (6, 7, None, None, "")),
+    "z was set by nobody": (SET_X, (2, 3, None, None, "z")),
+    "r: x was read before": ((0, 1, None, None, "x"), (4, 5, "", "x", ""), (6, 7, None, None, "x")),
+    "when the next one had been found": (SET_X, X_TO_Y, (4, 5, None, None, "x")),
+    "found or set when the next": (SET_X, (2, 30, "x", "y", None), (3, 4, None, None, "y"), (5, 6, None, None, "x")),
+    "neither was deleted": (SET_X, (2, 3, "", "y", ""), (4, 5, None, None, "y")),
+    "while there was a value": (SET_X, X_TO_Y, (4, 5, None, None, "")),
+    "nothing was found while": (SET_X, (2, 3, "x", "", None), (4, 5, None, None, ""), (6, 7, None, None, "x")),
+    "in a circle": (SET_X, (2, 3, "v", "w", "v"), (2, 3, "w", "v", "w"), (4, 5, None, None, "x")),
+    "r: nobody could read": (SET_X, (4, 5, None, None, None)),
+}
+
+
 # -- what servers did
 
 class History:
@@ -228,6 +265,8 @@ RIGHT_SERVERS = {
     "an Unknown server that starts, and meets the fence of before": lambda it: started(
         it.add("b", "forget", before=STEP, nonce="k").add("b", "fence", base=2 * STEP, slots={}, at_work=0, nonce="m"), "n")
         .add("b", "fence", base=2 * STEP, slots={}, at_work=0, nonce="o").found(),
+    "a key that is deleted": lambda it: it.write("a", identity="x").add("a", "execute", shard="s", position=2, identity=None, command=["DEL", "k"], passed=None).found(
+        data=[{"server": "a", "state": "primary", "position": 2, "values": {}}]),
     "a server that is given up, and a drop of one of three replicas": lambda it: with_secondary(it).add("b", "lost").found(),
     "a reopening that leaves a replica": lambda it: settled(fenced(with_secondary(it)), {"s": ["primary", 0]}, {}).order(
         "b", "add", "secondary", number=2 * STEP + 1, position=0).found(),
@@ -270,6 +309,8 @@ WRONG_SERVERS = {
         "b", "restore", base=STEP + 1, slots={}, nonce="k").found(),
     "under the nonce of before": lambda it: started(it.add("b", "forget", before=STEP, nonce="k"), "k").found(),
     "at or below its base": lambda it: it.add("a", "fence", base=STEP, slots={}, at_work=0, nonce="m").found(),
+    "k is not what the first 2": lambda it: it.write("a", identity="x").add("a", "execute", shard="s", position=2, identity=None, command=["DEL", "k"], passed=None).found(
+        data=[{"server": "a", "state": "primary", "position": 2, "values": {"k": ["x"]}}]),
     "is not what the first": lambda it: it.write("a", identity="x").found(data=[{"server": "a", "state": "primary", "position": 1, "values": {"k": []}}]),
     "writes of 1": lambda it: it.write("a").found(data=[{"server": "a", "state": "primary", "position": 2, "values": {}}]),
     "has not done it": lambda it: it.found(orders=[order_line("b", 1)], answered=ANSWERED),
@@ -292,6 +333,10 @@ def main() -> int:
         wrong += report(name, found_by_clients(text_lines(*told)), None)
     for text, told in WRONG_TEXTS.items():
         wrong += report(text, found_by_clients(text_lines(*told)), text)
+    for name, told in RIGHT_REGISTERS.items():
+        wrong += report(name, found_by_clients(register_lines(*told)), None)
+    for text, told in WRONG_REGISTERS.items():
+        wrong += report(text, found_by_clients(register_lines(*told)), text)
     for name, tell in RIGHT_SERVERS.items():
         wrong += report(name, tell(History()), None)
     for text, tell in WRONG_SERVERS.items():
@@ -300,7 +345,8 @@ def main() -> int:
         wrong += report(name, tell(History()), None)
     for text, tell in WRONG_TRUTHS.items():
         wrong += report(text, tell(History()), text)
-    rights, wrongs = (RIGHT_CLIENTS, RIGHT_TEXTS, RIGHT_SERVERS, RIGHT_TRUTHS), (WRONG_CLIENTS, WRONG_TEXTS, WRONG_SERVERS, WRONG_TRUTHS)
+    rights, wrongs = (RIGHT_CLIENTS, RIGHT_TEXTS, RIGHT_REGISTERS, RIGHT_SERVERS, RIGHT_TRUTHS), (
+        WRONG_CLIENTS, WRONG_TEXTS, WRONG_REGISTERS, WRONG_SERVERS, WRONG_TRUTHS)
     print(f"{sum(map(len, rights))} right histories, {sum(map(len, wrongs))} wrong ones, {wrong} taken for the other")
     return 1 if wrong else 0
 

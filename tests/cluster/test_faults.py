@@ -280,8 +280,10 @@ class LoadTest(unittest.TestCase):
 
     def test_each_word_says_what_it_names(self):
         words = "--cluster f --history h --shards s,t --clients 3 --keys 4 --reads 0.5 --stray 0.25 --pause 0.75 --hot-clients 2 --moving m --largest 900 --seed 1001"
+        words += " --open-clients 5 --rate 7 --comparers 6"
         _, load = load_of(words.split())
-        self.assertEqual(load, Load(shards=("s", "t"), clients=3, keys=4, reads=0.5, stray=0.25, pause=0.75, hot_clients=2, moving="m", largest=900, seed=1001))
+        self.assertEqual(load, Load(shards=("s", "t"), clients=3, keys=4, reads=0.5, stray=0.25, pause=0.75, hot_clients=2, moving="m", largest=900, seed=1001, open_clients=5, rate=7,
+                                    comparers=6))
 
 
 class MovingTest(unittest.IsolatedAsyncioTestCase):
