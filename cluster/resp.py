@@ -49,13 +49,19 @@ class Parser:
     """Takes replies, or commands, out of bytes as they come. A line of any other kind is a command as somebody types it."""
 
     def __init__(self) -> None:
-        self.rest = b""
+        # What is not complete, and how many bytes it has at least when it is.
+        self.rest: list[bytes] = []
+        self.size = self.needed = 0
         # The lists that have begun, each with how many parts it will have.
         self.lists: list[tuple[list[Reply], int]] = []
 
     def feed(self, data: bytes) -> list[Reply]:
         """Returns what is complete with these bytes. Raises ValueError if they are none of the protocol."""
-        data, at, complete = self.rest + data, 0, []
+        self.rest.append(data)
+        self.size += len(data)
+        if self.size < self.needed:
+            return []
+        data, at, complete, needed = b"".join(self.rest), 0, [], 0
         while (end := data.find(b"\r\n", at)) >= 0:
             kind, text, at_next = data[at:at + 1], data[at + 1:end], end + 2
             value: Reply = None
@@ -63,6 +69,7 @@ class Parser:
                 size = int(text)
                 if size >= 0:
                     if len(data) < at_next + size + 2:
+                        needed = at_next + size + 2 - at
                         break
                     value, at_next = data[at_next:at_next + size], at_next + size + 2
             elif kind == b"*":
@@ -75,7 +82,7 @@ class Parser:
                 value = value_of_line(kind, text)
             at = at_next
             self.put(value, complete)
-        self.rest = data[at:]
+        self.rest, self.size, self.needed = [data[at:]] if at < len(data) else [], len(data) - at, needed
         return complete
 
     def put(self, value: Reply, complete: list[Reply]) -> None:

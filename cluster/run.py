@@ -297,7 +297,7 @@ def add_load(parser: argparse.ArgumentParser) -> None:
     parser.add_argument("--pause", type=float, default=Settings.pause, metavar="SECONDS", help="how long a client rests between two requests (default %(default)s)")
     parser.add_argument("--hot-clients", type=int, default=48, help="how many clients never rest, and use shards that are being moved (default %(default)s)")
     parser.add_argument("--open-clients", type=int, default=2, help="how many clients ask for these at times of their own, answered or not (default %(default)s)")
-    parser.add_argument("--largest", type=int, default=200_000, metavar="BYTES", help="how large the text is that each shard has, at most (default %(default)s)")
+    parser.add_argument("--largest", type=int, default=200_000, metavar="BYTES", help="how many bytes the largest shard has, the next one a third of that, and so on (default %(default)s)")
     parser.add_argument("--busy", action="store_true", help="the machine has other work: waits are longer, and slow requests are no violations")
 
 
@@ -325,6 +325,7 @@ def arguments() -> argparse.Namespace:
     parser.add_argument("--draw", type=int, metavar="COUNT", help="have so many parts instead, drawn by the seed")
     parser.add_argument("--bug", action="append", default=[], help="plant a bug, which the checkers are to find")
     parser.add_argument("--keep", type=Path, metavar="DIR", help="keep logs and histories there")
+    parser.set_defaults(largest=50_000_000)
     told = parser.parse_args()
     if told.draw is not None:
         told.parts = drawn(told.seed, told.draw)

@@ -32,7 +32,7 @@ def lines_of(path: Path) -> list[dict]:
 class Handover:
     """A shard's primary that was handed over, and what clients met of it: the longest that one of them waited, from the first begin of its stream's work until the
     old owner has dropped the shard, and how many requests there were meanwhile, and from the moment when the old owner lets running ones end until the new one has
-    the writes up to the cut."""
+    the writes up to the cut; and how many bytes were copied."""
 
     shard: str
     begin: int
@@ -40,14 +40,17 @@ class Handover:
     longest: float
     requests: int
     requests_at_cut: int
+    bytes: int = 0
 
 
 @dataclass
 class Window:
-    """A handover as histories tell it: its first begin, the begin of `prepare_drop`, and the seal."""
+    """A handover as histories tell it: the new owner, its first begin, how much it copied, the begin of `prepare_drop`, and the seal."""
 
     shard: str
+    new: str
     begin: int
+    bytes: int = 0
     holding: int | None = None
     seal: int | None = None
 
@@ -56,22 +59,28 @@ def windows_of(events: Iterable[dict]) -> list[tuple[Window, int]]:
     """The handovers that came to their end, each with its end."""
     windows: dict[tuple[int, int, int], Window] = {}
     passing: dict[str, Window] = {}
+    preparing: dict[tuple[str, str], Window] = {}
     found = []
     for event in sorted((it for it in events if "t" in it), key=lambda it: it["t"]):
         kind, call, time = event["kind"], event.get("call"), event["t"]
         if kind == "seal" and event["shard"] in passing:
             passing[event["shard"]].seal = time
+        if kind == "copy" and (window := preparing.get((event["shard"], event["server"]))):
+            window.bytes = event["bytes"]
         if kind not in ("begin", "commit"):
             continue
         stream = (event["number"] // STEP, event["plan"], event["stream"])
         if kind == "begin" and call == "prepare_add":
-            windows.setdefault(stream, Window(event["shard"], time))
+            window = windows.setdefault(stream, Window(event["shard"], event["server"], time))
+            preparing[window.shard, window.new] = window
         elif stream in windows and kind == "begin" and call == "prepare_drop":
             window = passing[event["shard"]] = windows[stream]
             window.holding = window.holding or time
         elif stream in windows and kind == "commit" and call == "drop":
-            found.append((windows.pop(stream), time))
-            passing.pop(event["shard"], None)
+            window = windows.pop(stream)
+            found.append((window, time))
+            passing.pop(window.shard, None)
+            preparing.pop((window.shard, window.new), None)
     return found
 
 
@@ -88,7 +97,7 @@ def handovers_of(events: Iterable[dict], asked: Iterable[dict]) -> list[Handover
         met = spans_within(requests[window.shard], window.begin, end)
         at_cut = spans_within(met, window.holding, window.seal) if window.holding and window.seal else []
         longest = max((last - first for first, last in met), default=0) / BILLION
-        found.append(Handover(window.shard, window.begin, end, longest, len(met), len(at_cut)))
+        found.append(Handover(window.shard, window.begin, end, longest, len(met), len(at_cut), window.bytes))
     return found
 
 
@@ -97,8 +106,10 @@ def of_handovers(handovers: list[Handover]) -> str:
     met = [it for it in handovers if it.requests]
     if not met:
         return f"{len(handovers)}, of which none met a request"
-    return (f"{len(handovers)}; the longest wait of a client meanwhile {in_words([it.longest for it in met])}; requests met {median(it.requests for it in handovers):.0f} "
-            f"(median), {median(it.requests_at_cut for it in handovers):.0f} of them between the begin of prepare_drop and the seal")
+    largest = max(met, key=lambda it: it.bytes)
+    return (f"{len(handovers)}; the longest wait of a client meanwhile {in_words([it.longest for it in met])}, of the largest shard ({largest.bytes / 1e6:.1f} MB) "
+            f"{1000 * largest.longest:.0f} ms\n             requests met by each: {median(it.requests for it in handovers):.0f} (median), "
+            f"{median(it.requests_at_cut for it in handovers):.0f} of them between the begin of prepare_drop and the seal")
 
 
 def spans_within(spans: list[tuple[int, int]], begin: int, end: int) -> list[tuple[int, int]]:

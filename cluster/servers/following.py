@@ -4,6 +4,7 @@ from __future__ import annotations
 
 import asyncio
 import random
+import time
 from typing import TYPE_CHECKING
 
 from smplan.agent import Cell
@@ -11,6 +12,7 @@ from smplan.agent import Cell
 from ..wire import Message, line_of, open_lines, read_message
 from . import limits
 from .shard import Entry, Shard
+from .store import Command, Copying
 
 if TYPE_CHECKING:
     from .server import Server
@@ -42,6 +44,9 @@ class Following:
         self.joined = asyncio.Event()
         self.writer: asyncio.StreamWriter | None = None
         self.tries = 0
+        # The copy that is on its way, and when something of it came last.
+        self.copying: Copying | None = None
+        self.copied_at = time.monotonic()
         self.task = asyncio.create_task(self.run())
 
     def stop(self, leaves: bool = False) -> None:
@@ -91,7 +96,9 @@ class Following:
             except BrokenOff:
                 self.shard.copy_failed()
             except (OSError, EOFError, TimeoutError):
-                pass
+                if self.copying is not None:
+                    self.shard.copy_failed()
+            self.copying = None
             self.tries += 1
             if self.joined.is_set():
                 pause, self.tries, self.hint = 0.02, 0, source
@@ -144,7 +151,7 @@ class Following:
         while True:
             batch = [await queue.get()]
             await self.lag()
-            while not queue.empty():
+            while not queue.empty() and "piece" not in (batch[-1] or {}):
                 batch.append(queue.get_nowait())
             await self.take_all([it for it in batch if it is not None], source)
             if None in batch:
@@ -166,7 +173,7 @@ class Following:
             writes: list[Entry] = []
             for message in batch:
                 if "write" in message:
-                    writes.append(Entry.of(message["write"]))
+                    (writes if self.copying is None else self.copying.writes).append(Entry.of(message["write"]))
                 elif "tail" in message:
                     self.shard.away = {}
                     writes += map(Entry.of, message["tail"])
@@ -176,7 +183,8 @@ class Following:
                     await self.take(message, source)
             await self.apply(writes)
             is_done = self.is_done()
-        self.writer.write(line_of({"ack": self.shard.position}))
+        if self.copying is None:
+            self.writer.write(line_of({"ack": self.shard.position}))
         self.shard.wake()
         if is_done:
             raise EOFError
@@ -185,7 +193,13 @@ class Following:
         """Takes a message that is no write."""
         shard = self.shard
         if "copy" in message:
-            await self.take_copy(message["copy"], source)
+            await self.store.save(await self.store.forget_copy_commands(shard.name))
+            self.copying, self.copied_at = Copying(**message["copy"]), time.monotonic()
+        elif "piece" in message and self.copying is not None:
+            await self.store.keep_piece(shard.name, message["piece"], self.copying)
+            self.copied_at = time.monotonic()
+        elif "copied" in message and self.copying is not None:
+            await self.take_copy(message["copied"], self.copying, source)
         elif "joined" in message or "members" in message:
             members = message["joined"]["members"] if "joined" in message else message["members"]
             if set(members) != shard.members:
@@ -200,18 +214,28 @@ class Following:
         elif "moved" in message:
             raise Elsewhere(message["moved"]["to"])
         elif "toolarge" in message:
-            raise Refused(f"a copy of {shard.name} has {message['toolarge']['bytes']} bytes, and one of at most {message['toolarge']['most']} can be sent")
+            raise Refused(f"a value of {shard.name} has {message['toolarge']['bytes']} bytes, and one of at most {message['toolarge']['most']} can be sent")
         else:
             raise Elsewhere(message.get("nothere", {}).get("hint"))
 
-    async def take_copy(self, copy: Message, source: str) -> None:
-        """Puts the source's copy in place of what is here."""
-        shard = self.shard
-        commands = await self.store.copy_commands(shard.name, copy)
-        await self.store.save(commands, "copy", shard=shard.name, source=source, position=copy["position"], bytes=sum(map(len, copy["keys"].values())))
-        shard.position, shard.chain, shard.members, shard.away = copy["position"], copy["chain"], set(copy["members"]), {}
-        self.is_fresh = False
+    async def take_copy(self, told: Message, copying: Copying, source: str) -> None:
+        """Puts the source's copy, with the writes that came meanwhile, in place of what is here."""
+        shard, store = self.shard, self.store
+        position, chain, members = told["position"], told["chain"], set(told["members"])
+        commands = await store.copied_commands(shard.name, copying)
+        for entry in copying.writes if self.server.bug != "copy-without-meanwhile" else ():
+            has_it = entry.position <= copying.positions.get(entry.command[1], -1) and self.server.bug != "copy-counts-twice"
+            commands += self.commands_of(entry, has_it)
+        commands += store.member_commands(shard.name, members) + store.mark_commands(shard.name, position, chain)
+        await store.save(commands, "copy", shard=shard.name, source=source, position=position, bytes=copying.bytes, meanwhile=len(copying.writes))
+        shard.position, shard.chain, shard.members, shard.away = position, chain, members, {}
+        self.copying, self.is_fresh = None, False
         shard.copy_came()
+
+    def commands_of(self, entry: Entry, is_there: bool = False) -> list[Command]:
+        """Executes a write of the source, whose data may be there."""
+        is_left_out = self.server.bug == "tail-not-copied" and self.shard.slot.cell != Cell.SECONDARY
+        return [] if is_left_out else self.store.entry_commands(self.shard.name, entry, is_there)
 
     async def apply(self, entries: list[Entry]) -> None:
         """Executes writes of the source, all in one transaction."""
@@ -223,8 +247,7 @@ class Following:
             raise EOFError
         commands = []
         for entry in entries:
-            if self.server.bug != "tail-not-copied" or shard.slot.cell == Cell.SECONDARY:
-                commands += store.entry_commands(shard.name, entry)
+            commands += self.commands_of(entry)
         last = entries[-1]
         commands += store.mark_commands(shard.name, last.position, last.chain) + store.trim_commands(shard.name, last.position)
         await store.save(commands)

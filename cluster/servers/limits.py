@@ -1,10 +1,10 @@
-"""How long a server waits for what, in seconds, and how much it copies, in bytes."""
+"""How long a server waits for what, in seconds, and how much it sends of a copy at once, in bytes."""
 from ..wire import LONGEST_LINE
 
 # A follower that is gone or silent for so long is no longer waited for; it has to catch up before it counts again.
 DEAD_AFTER = 3.0
 SILENT_AFTER = 4.0
-# Work that holds requests back is given up after the first, work that copies after the second; the order comes again.
+# Work that holds requests back is given up after the first, work that copies if nothing comes for the second; the order comes again.
 HOLDING = 3.0
 COPYING = 20.0
 # A fence waits so long for requests of handovers that run.
@@ -20,6 +20,9 @@ PROBING = 2.0
 # After a copy that broke off or was refused, a follower rests so long before it asks for another one, doubled each time up to the second.
 RESTING = 0.25
 RESTING_AT_MOST = 16.0
-# A copy is one line, of at most so many bytes. A source that found one too large makes none for so long.
-LARGEST_COPY = LONGEST_LINE - 1
+# A copy goes in pieces of about so many bytes; a value is never divided. With the copy go the last writes before it, so many of so many bytes at most.
+PIECE = 1 << 17
+KEPT, KEPT_BYTES = 100, 1 << 20
+# A piece is one line, so that a value has at most so many bytes. A source that has a larger one makes no copy for so long.
+LARGEST_VALUE = LONGEST_LINE // 4 * 3 - (1 << 20)
 TOO_LARGE_FOR = 300.0

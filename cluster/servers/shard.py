@@ -87,7 +87,7 @@ class Shard:
     copies_failed: int = 0
     refusal: str = ""
     next_copy: float = 0.0
-    # (at the source: the bytes of a copy that was too large, and until when none is made)
+    # (at the source: the bytes of a value that was too large, and until when no copy is made)
     too_large: tuple[int, float] = (0, 0.0)
 
     def expect(self, members: set[str]) -> None:

@@ -1,6 +1,5 @@
-"""The side of a server whose writes others follow: it sends them a shard's copy or its last writes, then each write,
-and waits until all who
-are alive have a write before it is acknowledged."""
+"""The side of a server whose writes others follow: it sends them a shard's copy, piece by piece, or its last writes, and
+each write, and waits until all who are alive have a write before it is acknowledged."""
 from __future__ import annotations
 
 import asyncio
@@ -12,6 +11,7 @@ from smplan.agent import Cell
 from ..wire import Message, line_of, read_message
 from . import limits
 from .shard import Entry, Shard
+from .store import TooLarge
 
 if TYPE_CHECKING:
     from .server import Server
@@ -25,6 +25,13 @@ class Stream:
         self.name, self.writer, self.start, self.takes_over = name, writer, start, takes_over
         self.acked = -1
         self.has_joined = False
+        # When a piece of a copy was sent last, until all of it is.
+        self.copied_at: float | None = None
+
+    @property
+    def is_copying(self) -> bool:
+        """Whether pieces of a copy are on their way, and have been a moment ago."""
+        return self.copied_at is not None and time.monotonic() - self.copied_at < limits.COPYING
 
     def send(self, message: Message) -> None:
         """Sends a message, unless the connection is gone."""
@@ -66,6 +73,8 @@ class Sources:
             if shard.streams.get(stream.name) is stream:
                 del shard.streams[stream.name]
                 shard.seen[stream.name] = time.monotonic()
+                if self.server.bug == "who-ends-leaves":
+                    await self.leave(shard, stream.name)
             shard.wake()
 
     async def begin(self, shard: Shard, writer: asyncio.StreamWriter, ask: Message) -> Stream | None:
@@ -78,34 +87,67 @@ class Sources:
                 writer.write(line_of({"moved": {"to": party}}))
                 return None
             tail = await self.store.tail_after(shard, ask["position"], ask["chain"])
-            first = await self.copy_line(shard) if tail is None else line_of({"tail": [it.text() for it in tail]})
-            if first is None:
-                writer.write(line_of({"toolarge": {"bytes": shard.too_large[0], "most": limits.LARGEST_COPY}}))
+            if tail is None and time.monotonic() < shard.too_large[1]:
+                writer.write(line_of(self.too_large(shard)))
                 return None
-            writer.write(first)
             stream = Stream(name, writer, shard.position, ask["takes_over"])
+            if tail is None:
+                stream.copied_at = time.monotonic()
+                stream.send({"copy": {"position": shard.position, "tail": await self.store.last_writes(shard.name)}})
+            else:
+                stream.send({"tail": [it.text() for it in tail]})
             before = shard.streams.get(name)
             if before is not None:
                 before.close()
             shard.streams[name] = stream
             if shard.slot.cell == Cell.FORWARDING:
                 stream.send(self.seal(shard))
+            if tail is None:
+                self.server.begin(self.send_copy(shard, stream))
+        if self.server.bug == "joined-at-once":
+            await self.join(shard, stream)
         return stream
 
-    async def copy_line(self, shard: Shard) -> bytes | None:
-        """A copy of a shard as a line; none if it is too large, or was a moment ago: it would hold requests back for nothing. The shard's lock is held."""
-        now = time.monotonic()
-        if now < shard.too_large[1]:
-            return None
-        copy = await self.store.copy_of(shard)
-        if self.server.bug == "copy-without-identities":
-            copy["done"] = {}
-        line = line_of({"copy": copy})
-        if len(line) <= limits.LARGEST_COPY:
-            return line
-        shard.too_large = (len(line), now + limits.TOO_LARGE_FOR)
-        self.store.note("copy-too-large", shard=shard.name, bytes=len(line))
-        return None
+    async def send_copy(self, shard: Shard, stream: Stream) -> None:
+        """Sends a shard piece by piece while it is used: writes go out between the pieces."""
+        try:
+            async for piece in self.store.pieces(shard.name):
+                if shard.streams.get(stream.name) is not stream:
+                    return
+                if self.server.bug == "copy-without-identities" and "done" in piece:
+                    continue
+                await self.send_piece(shard, stream, line_of({"piece": piece}))
+                if self.server.bug == "copy-half":
+                    break
+        except TooLarge as error:
+            shard.too_large = (error.size, time.monotonic() + limits.TOO_LARGE_FOR)
+            self.store.note("value-too-large", shard=shard.name, bytes=error.size)
+            stream.send(self.too_large(shard))
+            return
+        except EOFError:
+            stream.close()
+            return
+        async with shard.lock:
+            if shard.streams.get(stream.name) is stream:
+                # (all writes up to this position were sent: no piece has a later one)
+                stream.send({"copied": {"position": shard.position, "chain": shard.chain, "members": sorted(shard.members)}})
+                stream.copied_at = None
+
+    async def send_piece(self, shard: Shard, stream: Stream, line: bytes) -> None:
+        """Sends a piece once there is room for it, and rests as long as that took, so that requests go on. Raises EOFError if nobody follows any longer."""
+        begun = time.monotonic()
+        try:
+            stream.writer.write(line)
+            await stream.writer.drain()
+        except OSError as error:
+            raise EOFError from error
+        stream.copied_at = time.monotonic()
+        await asyncio.sleep(min(time.monotonic() - begun, limits.RESTING))
+
+    @staticmethod
+    def too_large(shard: Shard) -> Message:
+        """Says that a value is too large."""
+        return {"toolarge": {"bytes": shard.too_large[0], "most": limits.LARGEST_VALUE}}
 
     async def join(self, shard: Shard, stream: Stream) -> None:
         """The follower has what there was when it came, and is told so; from now on each write waits for it, unless
@@ -114,7 +156,8 @@ class Sources:
             if shard.streams.get(stream.name) is not stream or not shard.is_source:
                 return
             stream.has_joined = True
-            if stream.name not in shard.members and not stream.takes_over:
+            is_left_out = self.server.bug == "newcomers-not-waited-for" or (self.server.bug == "old-owner-not-waited-for" and shard.slot.cell == Cell.PREPARED)
+            if stream.name not in shard.members and not stream.takes_over and not is_left_out:
                 await self.set_members(shard, shard.members | {stream.name})
             stream.send({"joined": {"members": sorted(shard.members)}})
 
@@ -172,12 +215,13 @@ class Sources:
     def lacking(self, shard: Shard, position: int) -> list[str]:
         """Who is alive, as far as it is known, and has not acknowledged the writes up to a position."""
         now, lacking = time.monotonic(), []
+        dead_after = 0 if self.server.bug == "dead-at-once" else limits.DEAD_AFTER
         for name in shard.members - {self.server.name}:
             stream = shard.streams.get(name)
             if stream is not None and stream.acked >= position:
                 continue
             is_firm = name == shard.old_owner or (stream is not None and stream.has_joined)
-            if is_firm or now - shard.seen.get(name, self.start) < limits.DEAD_AFTER:
+            if is_firm or now - shard.seen.get(name, self.start) < dead_after:
                 lacking.append(name)
         return lacking
 
@@ -210,6 +254,8 @@ class Sources:
     def give_up(self, shard: Shard, names: list[str]) -> None:
         """These are silent for too long: they have to come again. (An old owner is waited for all the same.)"""
         for name in names:
+            if name in shard.streams and shard.streams[name].is_copying:
+                continue
             stream = shard.streams.pop(name, None)
             if stream is not None:
                 stream.close()

@@ -3,11 +3,13 @@
     base          the base, as JSON            slots, mark, members, old_owner    by shard
     keys:S        the keys of shard S          d:S:key                 their values
     done:S        by identity, the reply       tail:S                  the last writes, which who follows may lack
+    copied:S, new:S:key, answered:S            a copy that is on its way: its keys, their values, and the replies by identity
     history       what happened, as JSON lines
 """
 from __future__ import annotations
 
 import asyncio
+import base64
 import ctypes
 import fcntl
 import json
@@ -15,15 +17,15 @@ import os
 import signal
 import subprocess
 import time
-from dataclasses import astuple
+from dataclasses import astuple, dataclass, field
 from pathlib import Path
-from typing import Callable, Iterable
+from typing import AsyncIterator, Callable, Iterable
 
 from smplan.agent import Base, Slot
 
 from ..resp import ErrorReply, Part, Redis
 from ..wire import text_of
-from . import agent
+from . import agent, limits
 from .shard import Entry, Event, Shard
 
 Command = tuple[Part, ...]
@@ -72,6 +74,34 @@ async def open_redis(folder: Path, seconds: float = 20) -> Redis:
 def data_key(shard: str, key: str) -> bytes:
     """Where a shard's key is stored."""
     return f"d:{shard}:{key}".encode("latin-1")
+
+
+def new_key(shard: str, key: str) -> bytes:
+    """Where a copy of a shard's key is stored until the copy is whole."""
+    return f"new:{shard}:{key}".encode("latin-1")
+
+
+@dataclass
+class Copying:
+    """A copy that comes in pieces, each as it was at some position, and the writes behind the first of these positions."""
+
+    position: int
+    tail: list[str]
+    # By key the position at which it was copied.
+    positions: dict[str, int] = field(default_factory=dict)
+    writes: list[Entry] = field(default_factory=list)
+    # The keys that have values, and how many bytes these have; whether identities have come.
+    keys: list[str] = field(default_factory=list)
+    bytes: int = 0
+    has_identities: bool = False
+
+
+class TooLarge(Exception):
+    """A value is too large to be copied."""
+
+    def __init__(self, size: int) -> None:
+        super().__init__(size)
+        self.size = size
 
 
 class Store:
@@ -158,14 +188,13 @@ class Store:
         return [("HSET", "members", shard, json.dumps(sorted(members)))]
 
     @staticmethod
-    def entry_commands(shard: str, entry: Entry) -> list[Command]:
-        """Executes a write: its data, its identity, and its place among the last writes."""
+    def entry_commands(shard: str, entry: Entry, is_there: bool = False) -> list[Command]:
+        """Executes a write: its data, unless that is there, its identity, and its place among the last writes."""
         word, key, *rest = entry.command
-        commands: list[Command] = [
-            (word, data_key(shard, key), *(it.encode("latin-1") for it in rest)),
-            ("SREM" if word == "DEL" else "SADD", f"keys:{shard}", key.encode("latin-1")),
-            ("RPUSH", f"tail:{shard}", entry.text()),
-        ]
+        commands: list[Command] = [("RPUSH", f"tail:{shard}", entry.text())]
+        if not is_there:
+            commands.append((word, data_key(shard, key), *(it.encode("latin-1") for it in rest)))
+            commands.append(("SREM" if word == "DEL" else "SADD", f"keys:{shard}", key.encode("latin-1")))
         if entry.identity is not None:
             commands.append(("HSET", f"done:{shard}", entry.identity, entry.reply.encode("latin-1")))
         return commands
@@ -183,35 +212,71 @@ class Store:
         """Deletes a shard's data; the slot stays."""
         keys = [data_key(shard, it) for it in await self.data_keys(shard)]
         own = [f"{it}:{shard}" for it in ("keys", "done", "tail")]
-        return [("DEL", *own, *keys), ("HDEL", "mark", shard), ("HDEL", "members", shard), ("HDEL", "old_owner", shard)]
+        return [("UNLINK", *own, *keys), ("HDEL", "mark", shard), ("HDEL", "members", shard), ("HDEL", "old_owner", shard)]
 
-    # -- copies
+    # -- copies: at the source
 
-    async def copy_of(self, shard: Shard) -> dict[str, object]:
-        """A shard's data with all that belongs to it, as it is sent. The shard's lock is held."""
-        keys = await self.data_keys(shard.name)
-        dumps = await asyncio.gather(*(self.redis.call("DUMP", data_key(shard.name, it)) for it in keys))
-        done = await self.hash(f"done:{shard.name}")
-        tail = await self.redis.call("LRANGE", f"tail:{shard.name}", -LONGEST_TAIL, -1)
-        return {
-            "position": shard.position, "chain": shard.chain, "members": sorted(shard.members),
-            "keys": {key: dump.decode("latin-1") for key, dump in zip(keys, dumps)},
-            "done": {identity: reply.decode("latin-1") for identity, reply in done},
-            "tail": [it.decode() for it in tail],
-        }
+    async def last_writes(self, shard: str) -> list[str]:
+        """Some of the last writes, which go with a copy: who follows the copy's owner later may lack them."""
+        texts = [it.decode() for it in await self.redis.call("LRANGE", f"tail:{shard}", -limits.KEPT, -1)]
+        size, first = 0, len(texts)
+        while first and (size := size + len(texts[first - 1])) <= limits.KEPT_BYTES:
+            first -= 1
+        return texts[first:]
 
-    async def copy_commands(self, shard: str, copy: dict) -> list[Command]:
-        """Puts a copy in place of what there is."""
+    async def pieces(self, shard: str) -> AsyncIterator[dict]:
+        """A shard's data piece by piece, while it is written to: each value with the position at which it is this one, and then identities with their replies. Raises
+        EOFError if the shard is deleted meanwhile, and TooLarge if a value is."""
+        piece, size = {}, 0
+        for key in await self.data_keys(shard):
+            used = await self.redis.call("MEMORY", "USAGE", data_key(shard, key))
+            if (used or 0) > limits.LARGEST_VALUE:
+                raise TooLarge(used)
+            mark, dump = await self.redis.transaction([("HGET", "mark", shard), ("DUMP", data_key(shard, key))])
+            if mark is None:
+                raise EOFError
+            piece[key] = [json.loads(mark)[0], None if dump is None else base64.b64encode(dump).decode()]
+            size += len(dump or b"")
+            if size >= limits.PIECE:
+                yield {"keys": piece}
+                piece, size = {}, 0
+        yield {"keys": piece}
+        cursor: bytes | None = None
+        while cursor != b"0":
+            cursor, flat = await self.redis.call("HSCAN", f"done:{shard}", cursor or 0, "COUNT", 1000)
+            yield {"done": {flat[it].decode("latin-1"): flat[it + 1].decode("latin-1") for it in range(0, len(flat), 2)}}
+
+    # -- copies: at the follower
+
+    async def forget_copy_commands(self, shard: str) -> list[Command]:
+        """Deletes what has come of a copy."""
+        keys = [it.decode("latin-1") for it in await self.redis.call("SMEMBERS", f"copied:{shard}")]
+        return [("UNLINK", f"copied:{shard}", f"answered:{shard}", *(new_key(shard, it) for it in keys))]
+
+    async def keep_piece(self, shard: str, piece: dict, copying: Copying) -> None:
+        """Stores a piece of a copy."""
+        commands: list[Command] = []
+        for key, (position, text) in piece.get("keys", {}).items():
+            copying.positions[key] = position
+            if text is not None:
+                dump = base64.b64decode(text)
+                copying.keys.append(key)
+                copying.bytes += len(dump)
+                commands += [("RESTORE", new_key(shard, key), 0, dump, "REPLACE"), ("SADD", f"copied:{shard}", key.encode("latin-1"))]
+        done = piece.get("done", {})
+        if done:
+            copying.has_identities = True
+            commands.append(("HSET", f"answered:{shard}", *(it for identity, reply in done.items() for it in (identity, reply.encode("latin-1")))))
+        if commands:
+            await self.save(commands)
+
+    async def copied_commands(self, shard: str, copying: Copying) -> list[Command]:
+        """Puts a copy that is whole in place of what there is. Its last writes stand, and those that came meanwhile are yet to be executed."""
         commands = await self.delete_commands(shard)
-        for key, dump in copy["keys"].items():
-            commands.append(("RESTORE", data_key(shard, key), 0, dump.encode("latin-1")))
-            commands.append(("SADD", f"keys:{shard}", key.encode("latin-1")))
-        for identity, reply in copy["done"].items():
-            commands.append(("HSET", f"done:{shard}", identity, reply.encode("latin-1")))
-        if copy["tail"]:
-            commands.append(("RPUSH", f"tail:{shard}", *copy["tail"]))
-        commands += self.member_commands(shard, set(copy["members"]))
-        return commands + self.mark_commands(shard, copy["position"], copy["chain"])
+        commands += [("RENAME", new_key(shard, key), data_key(shard, key)) for key in copying.keys]
+        commands += [("RENAME", f"copied:{shard}", f"keys:{shard}")] if copying.keys else []
+        commands += [("RENAME", f"answered:{shard}", f"done:{shard}")] if copying.has_identities else []
+        return commands + ([("RPUSH", f"tail:{shard}", *copying.tail)] if copying.tail else [])
 
     async def tail_after(self, shard: Shard, position: int, chain: str) -> list[Entry] | None:
         """The writes behind a position, None if they are not all kept, or if the other one's writes up to there were

@@ -190,9 +190,8 @@ class Orders:
                 shard.following.stop()
             hint = party_of(work.told) or work.told.get("primary")
             following = shard.following = Following(self.server, shard, hint, is_fresh=True)
-        deadline = time.monotonic() + limits.COPYING
         while not following.joined.is_set():
-            if not await shard.look_again(deadline):
+            if not await shard.look_again(following.copied_at + limits.COPYING):
                 raise Failed("GivenUp", "nobody gives a copy")
             self.refuse(shard)
 
@@ -212,7 +211,7 @@ class Orders:
             if slot is None:
                 return False
             empty = slot.cell == Cell.ABSENT or (slot.cell == Cell.PRIMARY and before.cell == Cell.ABSENT)
-            commands = await self.store.delete_commands(shard.name) if empty else []
+            commands = [*await self.store.delete_commands(shard.name), *await self.store.forget_copy_commands(shard.name)] if empty else []
             told, order = work.told, work.order
             # (who becomes primary by a change of roles waits for every replica, also for the former primary, which has yet to come)
             if slot.cell == Cell.PRIMARY and before.cell == Cell.SECONDARY:

@@ -1,28 +1,127 @@
-"""A shard whose copy is too large to be sent is not moved: the order is told why, and the shard's requests go on, although the order comes again and again.
+"""A shard of 50 MB is handed over while it is used: it is copied piece by piece, and requests go on. A shard with a value that is larger than a line may be is not moved:
+the order is told why, and requests go on, although the order comes again and again.
 
-`python3 tests/cluster/copies.py`
+`python3 tests/cluster/copies.py [MEGABYTES]`
 """
 from __future__ import annotations
 
 import asyncio
+import random
 import sys
 import time
 
 from scripted import Scripted
 
-from cluster.resp import Redis
+from cluster.resp import ErrorReply, Redis
+from cluster.servers.store import open_redis
 from cluster.wire import Failed
 
-# How large the shard is: more than a line may be.
-MEGABYTES = 70
-# What a read waits at most while the order comes again: so many seconds, less than a copy of the shard takes, or so many times as long as without the order.
-QUICK, TIMES = 0.3, 4
+# How many bytes each text of the shard has, and how many there are; and the end of a value that no line takes.
+BYTES = 200_000
+TEXTS = int(sys.argv[1] if len(sys.argv) > 1 else "50") * 1_000_000 // BYTES
+END = 48 << 20
+# What a request waits at most meanwhile: so many seconds, or so many times as long as before. (a machine with other work is slow)
+QUICK, TIMES = 0.2, 10
+dice = random.Random(1)
 
 
-async def fill(redis: Redis) -> None:
-    """Writes the shard's data."""
-    for number in range(MEGABYTES):
-        await redis.call("SET", f"s:k{number}", "x" * 1_000_000)
+def text(size: int) -> bytes:
+    """A text that cannot be made shorter by much."""
+    return dice.randbytes(size // 2).hex().encode()
+
+
+async def fill(redis: Redis) -> dict[str, bytes]:
+    """Writes the shard's texts, and returns them."""
+    texts = {f"s:text{it}": text(BYTES) for it in range(TEXTS)}
+    for key, value in texts.items():
+        await redis.call("SET", key, value)
+    return texts
+
+
+class Users:
+    """A client that pushes, reads, sets and deletes, one request after the other, and notes how long each took."""
+
+    def __init__(self, it: Scripted) -> None:
+        self.it, self.redis = it, {}
+        self.pushed: list[bytes] = []
+        self.waits: list[tuple[float, float]] = []
+        self.set: dict[str, bytes] = {}
+
+    async def ask(self, *words: object) -> object:
+        """Asks whichever server has the shard."""
+        begun = time.monotonic()
+        while True:
+            for name, redis in self.redis.items():
+                try:
+                    reply = await redis.call(*words)
+                    self.waits.append((begun, time.monotonic() - begun))
+                    return reply
+                except ErrorReply as error:
+                    if error.kind not in ("NOTHERE", "TRYAGAIN", "LOST"):
+                        raise
+            await asyncio.sleep(0.002)
+
+    async def use(self) -> None:
+        """Uses the shard until it is cancelled."""
+        for name, entry in self.it.cluster.servers.items():
+            self.redis[name] = await Redis.open_port("127.0.0.1", entry.clients.port)
+        while True:
+            value = f"v{len(self.pushed)}".encode()
+            await self.ask("DO", value, "RPUSH", "s:list", value)
+            self.pushed.append(value)
+            key, small = f"s:text{len(self.pushed) % TEXTS}", b"anew%d" % len(self.pushed)
+            if len(self.pushed) % 5 == 0:
+                await self.ask("DO", small, "SET", key, small)
+                self.set[key] = small
+            await self.ask("INCR", "s:count")
+            await self.ask("GET", "s:count")
+
+    def slowest(self, since: float, until: float) -> float:
+        """The longest that a request waited which began between two moments."""
+        return max((wait for begun, wait in self.waits if since <= begun < until), default=0.0)
+
+
+async def moved() -> dict[str, bool]:
+    """What is found of a shard of 50 MB that is handed over."""
+    it = Scripted("ab")
+    try:
+        await it.start()
+        await it.open({"s": {"a": "primary"}})
+        redis = await Redis.open_port("127.0.0.1", it.cluster.servers["a"].clients.port)
+        texts = await fill(redis)
+        users = Users(it)
+        using = asyncio.create_task(users.use())
+        begun = time.monotonic()
+        await asyncio.sleep(2)
+        start = time.monotonic()
+        for order in it.handover("s", "a", "b", ["a"]):
+            while True:
+                try:
+                    await it.channels[order["server"]].ask(60, order=order)
+                    break
+                except Failed:
+                    await asyncio.sleep(0.05)
+        end = time.monotonic()
+        await asyncio.sleep(0.5)
+        using.cancel()
+        await asyncio.gather(using, return_exceptions=True)
+        usual, slowest = users.slowest(begun, start), users.slowest(start, end)
+        met = sum(start <= at < end for at, _ in users.waits)
+        print(f"{TEXTS * BYTES / 1e6:.0f} MB were handed over in {end - start:.1f} s; the slowest of {met} requests took {1000 * slowest:.0f} ms, and "
+              f"{1000 * usual:.0f} ms before")
+        new = await Redis.open_port("127.0.0.1", it.cluster.servers["b"].clients.port)
+        found = {key: await new.call("GET", key) for key in texts}
+        pushed, count = await new.call("LRANGE", "s:list", "0", "-1"), int(await new.call("GET", "s:count"))
+        wanted = texts | users.set
+        unsure = {key for key in wanted if found[key] != wanted[key] and found[key].startswith(b"anew")}
+        return {
+            "all texts are there": all(found[key] == wanted[key] for key in wanted if key not in unsure) and len(unsure) <= 1,
+            "each push is there once": pushed[:len(users.pushed)] == users.pushed and len(pushed) <= len(users.pushed) + 1,
+            "each increment is there once": len(users.pushed) - 1 <= count <= len(users.pushed) + 1,
+            "requests go on": slowest < max(QUICK, TIMES * usual),
+        }
+    finally:
+        it.close()
 
 
 async def said_by(it: Scripted, order: dict) -> str:
@@ -54,28 +153,29 @@ async def slowest_read(redis: Redis, seconds: float) -> float:
     return slowest
 
 
-async def found() -> dict[str, bool]:
-    """What is found of a shard that is too large."""
+async def refused() -> dict[str, bool]:
+    """What is found of a shard with a value that is too large."""
     it = Scripted("ab")
     try:
         await it.start()
         await it.open({"s": {"a": "primary"}})
         redis = await Redis.open_port("127.0.0.1", it.cluster.servers["a"].clients.port)
-        await fill(redis)
+        await redis.call("SET", "s:large", "x")
+        await (await open_redis(it.dir / "a")).call("SETRANGE", "d:s:large", END, "x")
         usual = await slowest_read(redis, 2)
         order = it.handover("s", "a", "b", ["a"])[0]
         first = await said_by(it, order)
         said, slowest = await asyncio.gather(refusals(it, order, 5), slowest_read(redis, 5))
         redis.close()
         print(f"{first}; {len(said)} times again; the slowest read took {slowest:.2f} s, and {usual:.2f} s before")
-        return {"the order is told how large the copy is": all("bytes" in text for text in [first, *said]), "reads go on": slowest < max(QUICK, TIMES * usual)}
+        return {"the order is told how large the value is": all("bytes" in text for text in [first, *said]), "reads go on": slowest < max(QUICK, TIMES * usual)}
     finally:
         it.close()
 
 
 def main() -> int:
-    """Runs it, and returns 0 if all is so."""
-    result = asyncio.run(found())
+    """Runs both, and returns 0 if all is so."""
+    result = asyncio.run(moved()) | asyncio.run(refused())
     for what, is_so in result.items():
         print(f"{what}: {'so' if is_so else 'NOT SO'}")
     return 0 if all(result.values()) else 1

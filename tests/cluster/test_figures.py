@@ -18,7 +18,8 @@ def request(start, end, shard="s", **more):
 
 # The copy takes a second, and what clients wait for the old owner behind the cut some milliseconds.
 HANDOVER = [
-    order(1000, "b", "begin", "prepare_add"), order(2100, "b", "commit", "prepare_add"), order(2200, "a", "begin", "prepare_drop", 2),
+    order(1000, "b", "begin", "prepare_add"), {"t": 2090 * MILLI, "server": "c", "kind": "copy", "shard": "s", "bytes": 3},
+    {"t": 2090 * MILLI, "server": "b", "kind": "copy", "shard": "s", "bytes": 7}, order(2100, "b", "commit", "prepare_add"), order(2200, "a", "begin", "prepare_drop", 2),
     order(2202, "a", "commit", "prepare_drop", 2), {"t": 2205 * MILLI, "server": "b", "kind": "seal", "shard": "s"}, order(2300, "b", "begin", "add", 3),
     order(2310, "b", "commit", "add", 3), order(2400, "a", "begin", "drop", 4), order(2410, "a", "commit", "drop", 4),
 ]
@@ -30,7 +31,7 @@ class HandoverTest(unittest.TestCase):
     def test_the_wait_for_the_copy_is_counted(self):
         asked = [request(900, 910), request(1010, 2080), request(2199, 2204), request(2203, 2206), request(2500, 9000), request(1000, 9000, "t"),
                  request(1000, 9000, final=True)]
-        self.assertEqual(handovers_of(HANDOVER, asked), [Handover("s", 1000 * MILLI, 2410 * MILLI, 1.07, 3, 2)])
+        self.assertEqual(handovers_of(HANDOVER, asked), [Handover("s", 1000 * MILLI, 2410 * MILLI, 1.07, 3, 2, 7)])
 
     def test_work_that_begins_again_began_with_the_first(self):
         again = [order(100, "b", "begin", "prepare_add"), order(900, "b", "abandon", "prepare_add"), *HANDOVER]

@@ -20,7 +20,7 @@ class ParserTest(unittest.TestCase):
             parser, found = Parser(), []
             for at in range(0, len(TEXT), size):
                 found += parser.feed(TEXT[at:at + size])
-            self.assertEqual((found, parser.rest, parser.lists), (VALUES, b"", []), size)
+            self.assertEqual((found, parser.rest, parser.lists), (VALUES, [], []), size)
 
     def test_errors_are_values(self):
         (error,) = Parser().feed(b"-NOTHERE s\r\n")
