@@ -8,7 +8,7 @@ import sys
 import time
 
 from cluster.controllers.bugs import BUGS as CONTROLLER_BUGS
-from cluster.faults.parts import storm_of
+from cluster.faults.parts import COPIES, MAP, MEMBERS, of_rule, storm_of
 from cluster.faults.reopenings import NotOpened
 from cluster.launch.cluster import ROUGH, program_of
 from cluster.launch.directory import add_directory, new_directory
@@ -36,9 +36,14 @@ PARTS_OF = {
     "commit-after-fence": REOPENINGS,
     "settle-twice": REOPENINGS,
     "cut-unheeded": tuple((share, "break_following") for share in OFTEN),
-    "acknowledge-alone": ((0.1, "lose_lagging"), (0.5, "lose_lagging")),
-    "impatient": ((0.1, "lose_lagging"), (0.5, "lose_lagging")),
-    "heed-nothing": ((0.1, "reopen_while_down"), (0.4, "reopen_while_down"), (0.7, "reopen_while_down")),
+}
+# The parts that the rule names which a bug breaks. A run draws from them, and has nothing else that is made for the bug.
+RULE_OF = {
+    "acknowledge-alone": ("lose_lagging",), "impatient": ("lose_lagging",), "newcomers-not-waited-for": ("lose_lagging",), "who-ends-leaves": ("lose_beside_restart",),
+    "old-owner-not-waited-for": ("lose_behind_cut",), "dead-at-once": MEMBERS, "answer-before-done": MEMBERS, "any-reply-counts": MEMBERS,
+    "copy-without-identities": ("hand_over_unheard",), "copy-counts-twice": COPIES, "copy-without-meanwhile": COPIES, "copy-half": COPIES, "joined-at-once": COPIES,
+    "heed-nothing": ("reopen_while_down",), "forgets-and-rests": ("reopen_while_down",),
+    "map-names-prepared": MAP, "map-write-left-out": MAP, "map-settled-without-entries": ("reopen_behind_cut", "reopen_amid_passing"),
 }
 # How many of the moves are changes of roles, if not as many as otherwise.
 SWAPS_OF = {"change-while-writing": 0.9, "no-numbers": 0.5}
@@ -46,7 +51,7 @@ SWAPS_OF = {"change-while-writing": 0.9, "no-numbers": 0.5}
 MANY_COPIES = {**ROUGH, "order": {**ROUGH["order"], "repeat": 0.5}}
 # Nobody is asked twice unless a reply is lost.
 MANY_LOSSES = {**ROUGH, "client": {**ROUGH["client"], "drop": 0.02}}
-RATES_OF = {"no-numbers": MANY_COPIES, "slot-deleted": MANY_COPIES, "no-identities": MANY_LOSSES, "copy-without-identities": MANY_LOSSES}
+RATES_OF = {"no-numbers": MANY_COPIES, "slot-deleted": MANY_COPIES, "no-identities": MANY_LOSSES}
 # How many plans there are at once, if not as many as otherwise. (then there are shards that the parts can hand over)
 WORKERS_OF = {"fence-while-passed": 1, "cut-unheeded": 1, "commit-after-fence": 4, "settle-twice": 2}
 # How many moves a plan has at most, if not as many as otherwise. (a plan of many stands still where one of its servers hears no order, and then no order is at work)
@@ -67,7 +72,7 @@ async def first_violation(bug: str, seed: int, told: argparse.Namespace) -> str 
     directory = new_directory(f"catch-{bug}-", told.dir)
     shape = shape_of(told, seed)
     recipe = "a storm" if told.storm else bug
-    parts = storm_of(seed) if told.storm else PARTS_OF.get(bug, PARTS)
+    parts = storm_of(seed) if told.storm else of_rule(RULE_OF[bug], seed) if bug in RULE_OF else PARTS_OF.get(bug, PARTS)
     settings = Settings(directory, shape, program_of(told.program), told.seconds, RATES_OF.get(recipe, ROUGH), parts, () if told.sound else (bug,),
                         WORKERS_OF.get(recipe, 3), MOVES_OF.get(recipe, 4), pause=told.pause, is_quiet=True, swaps=SWAPS_OF.get(recipe, 0.2), is_busy=told.busy,
                         ending=25.0, patience=40.0)

@@ -6,6 +6,10 @@ from smplan.control import Controller, Line
 BUGS = {
     "feed-before-store": "a line is fed and acted on before it is stored",
     "map-write-without-compare": "an entry of the map is written whatever stands there",
+    "map-names-prepared": "the map names a new owner as soon as it is prepared",
+    "map-write-left-out": "every third entry of the map is not written, and called done",
+    "map-settled-without-entries": "the map's owner takes a settle without its entries",
+    "any-reply-counts": "an order counts as answered by whatever a server says",
     "map-not-fenced": "a reopening passes the map's owner by",
     "confirm-moves-primary": "a settle makes another replica the primary than the one that told it is",
     "restart-without-approval": "servers are restarted without leave",

@@ -46,8 +46,11 @@ class Fleet:
         """Sends an order. Returns DONE if the server names this very order, and otherwise what it said."""
         reply = await self.ask(order["server"], order=order)
         told = reply.get("answered")
+        if "any-reply-counts" in self.owner.bugs:
+            return DONE
         if told is None:
             return reply.get("said", "no answer")
+        await self.owner.name_prepared(order)
         return DONE if all(told[it] == order[it] for it in ("plan", "stream", "number")) else "another order was answered"
 
     async def publish(self, publication: Line) -> str:

@@ -85,15 +85,35 @@ class HandoverStory(OutsideStory):
     async def lose_behind_cut(self) -> bool:
         """Gives the new owner of handovers up for good, under load, once it has executed requests that were passed on: the old owners have all that it acknowledged."""
         async with self.restarting:
-            return await self.may_lose() and await self.in_handovers(self.undisturbed, self.lose_new_owner)
+            return await self.may_lose() and await self.in_handovers(self.late, self.lose_new_owner)
 
     async def lose_new_owner(self, found: Handovers) -> bool:
         """Kills the new owner as it is, and reopens without it."""
+        await asyncio.sleep(1.0)
         await self.lose(found.new, f"which has taken requests for {', '.join(sorted(found.olds))} over")
         for shard in found.olds:
             self.forsaken.setdefault(shard, time.monotonic_ns())
         self.counts["losses of a new owner behind the cut"] += 1
         return await self.reopen(without(found.state, self.document, self.lost), [found.new], f"{found.new} was lost behind the cut")
+
+    async def hand_over_unheard(self) -> bool:
+        """Hands shards over while their old owners' answers to clients are lost, so that clients ask the new one for what was done."""
+        async with self.reopening:
+            found = self.handovers_in(await self.state(), 4)
+            if found is None:
+                return False
+            self.mover.busy |= set(found.olds)
+            try:
+                async with self.muted(*(f"client clients {it}" for it in set(found.olds.values()))):
+                    # (a request that is executed before the copy, and is not answered, is made again behind it)
+                    await asyncio.sleep(0.5)
+                    await self.operator.do({"do": "begin", "plan": plan_of(found.streams), "name": self.name("handover")})
+                    is_done = await self.wait_for_cells(dict.fromkeys(found.olds, found.new), "primary", 5.0)
+                self.tell(f"{', '.join(sorted(found.olds))} were handed over to {found.new}, while answers to clients were lost")
+                self.counts["handovers of which clients heard nothing"] += is_done
+                return is_done
+            finally:
+                self.mover.busy -= set(found.olds)
 
     async def in_handovers(self, harm: Harm, act: Callable[[Handovers], Awaitable[bool]]) -> bool:
         """Begins handovers, and acts once requests are passed on, while no order gets to the new owner, and harm is done to it; tells whether it came to that."""
@@ -121,6 +141,10 @@ class HandoverStory(OutsideStory):
 
     async def undisturbed(self, meanwhile: AsyncExitStack, new: str, olds: set[str]) -> None:
         """Does no harm."""
+
+    async def late(self, meanwhile: AsyncExitStack, new: str, olds: set[str]) -> None:
+        """Has the old owners hear late of what the new one executes, and of what it replies."""
+        await meanwhile.enter_async_context(self.slowed(*(f"peer {it} {new}" for it in olds), shortest=0.3, longest=0.1))
 
     async def unheard(self, meanwhile: AsyncExitStack, new: str, olds: set[str]) -> None:
         """Has the new owner follow the old ones no more, and what they pass on come late."""

@@ -26,6 +26,24 @@ def has_all(replicas: list[Replica], written: list[Replica]) -> bool:
 class LossStory(ReopeningStory):
     """Servers that are lost."""
 
+    async def wait_until_caught_up(self, seconds: float = 20.0) -> bool:
+        """Waits, twice, until all replicas have what was written before, and tells whether they do: then each of them is followed by no write that it is not waited
+        for."""
+        until = time.monotonic() + seconds
+        for _ in range(2):
+            written = await self.replicas(self.alive)
+            while written is None or not await self.have(written):
+                if time.monotonic() > until:
+                    return False
+                await asyncio.sleep(0.2)
+                written = written or await self.replicas(self.alive)
+        return True
+
+    async def have(self, written: list[Replica]) -> bool:
+        """Whether all replicas have what was written."""
+        replicas = await self.replicas(self.alive)
+        return replicas is not None and has_all(replicas, written)
+
     async def wait_for_replicas(self, servers: list[str], seconds: float = 20.0) -> bool:
         """Waits until all replicas have what these servers have, and tells whether they do. A server that was away for long was not waited for, so that the loss of
         another one would take acknowledged writes along."""
@@ -46,7 +64,7 @@ class LossStory(ReopeningStory):
 
     async def may_lose(self) -> bool:
         """Waits until a server may be given up: each shard has as many replicas as it is to have, and they have all writes. Tells whether it may."""
-        if await self.wait_until_whole() and await self.wait_for_replicas(self.alive):
+        if await self.wait_until_whole() and await self.wait_until_caught_up():
             return True
         self.tell("no server is given up: some shard lacks a replica that has all writes")
         self.counts["losses left out"] += 1

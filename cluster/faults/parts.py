@@ -16,12 +16,24 @@ AWAY = (
 # Reopenings without a loss.
 REOPENINGS = ("reopen_behind_leader", "reopen_before_write", "reopen_behind_cut", "reopen_amid_passing", "reopen_while_down")
 # What is done with handovers, and with servers that lose their slots twice.
-OTHERS = ("break_following", "forget_twice")
+OTHERS = ("break_following", "hand_over_unheard", "forget_twice")
 # A server, or its disk, is given up. Each shard has all its replicas before, and they have all writes, so that the rules keep what was acknowledged.
 LOSSES = ("lose_server", "lose_lagging", "lose_behind_cut", "lose_beside_restart", "replace_disk")
 # What the rules as they stand do not survive: never drawn. A run has them if they are named.
 OUTSIDE = ("return_given_up", "roll_back", "replace_disk_under_permit", "lose_tail_of_journal")
 EVERY = (*(name for name, _ in USUAL), *AWAY, *REOPENINGS, *OTHERS, *LOSSES)
+
+
+# The parts that are about copies, about members that are away or late, and about the map.
+COPIES = ("drain", "restart_server", "crash_two", "hand_over_unheard")
+MEMBERS = ("crash_server", "crash_two", "restart_server", "stop_store", "isolate_server")
+MAP = ("drain", "kill_leader", "freeze_leader", "restart_server", "lose_answers_of_etcd")
+
+
+def of_rule(names: tuple[str, ...], seed: int) -> Parts:
+    """Parts drawn by a seed from those that a rule names: four, or two if a server is given up."""
+    dice = random.Random(f"rule {seed}")
+    return evenly(dice.choices(names, k=2 if set(names) & set(LOSSES) else 4))
 
 
 def storm_of(seed: int) -> Parts:

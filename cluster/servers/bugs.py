@@ -21,4 +21,13 @@ BUGS = {
     "answer-before-done": "an order is answered when its work begins",
     "heed-nothing": "a server that was left behind a reopening keeps its slots",
     "copy-without-identities": "a copy lacks the identities of the requests that made it",
+    "copy-counts-twice": "writes that a copied value has are executed on it again",
+    "copy-without-meanwhile": "writes that come while a shard is copied are counted, and not executed",
+    "copy-half": "a copy is called whole after its first piece",
+    "joined-at-once": "who follows counts as one that has caught up as soon as it comes",
+    "newcomers-not-waited-for": "no write waits for a secondary that has joined",
+    "old-owner-not-waited-for": "a new owner does not wait until the old one has what it executes",
+    "dead-at-once": "no write waits for a member whose connection has ended",
+    "who-ends-leaves": "a member whose connection ends is one no longer",
+    "forgets-and-rests": "a server that was left behind a reopening forgets its slots, and asks for none",
 }

@@ -128,6 +128,8 @@ class Server:
             return
         old_owner = self.party(shard)
         members = (shard.members | {old_owner}) - {self.name}
+        if self.bug == "old-owner-not-waited-for":
+            members, old_owner = members - {old_owner}, ""
         commands = self.store.slot_commands(shard.name, after) + self.store.member_commands(shard.name, members)
         commands.append(("HSET", "old_owner", shard.name, old_owner))
         await self.store.save(commands, "seal", shard=shard.name, handover=handover, cut=cut, position=shard.position)
@@ -212,7 +214,8 @@ class Server:
                 shard.slot, shard.old_owner = Slot(), None
                 self.stop_following(shard)
                 self.sources.close(shard)
-        self.resume()
+        if self.bug != "forgets-and-rests":
+            self.resume()
 
     def end_term(self, shard: Shard, why: str) -> None:
         """Work and running requests of the shard come to nothing."""

@@ -9,22 +9,25 @@ import time
 import unittest
 from collections import Counter
 from pathlib import Path
+from random import Random
 from types import SimpleNamespace
 
-from cluster.catch import PARTS, PARTS_OF, most_telling
+from cluster.catch import PARTS, PARTS_OF, RULE_OF, most_telling
 from cluster.clients.__main__ import load_of
-from cluster.clients.load import Generator, Load
+from cluster.clients.load import LONGEST_TEXT, Generator, Load, text_sizes, told_of
+from cluster.controllers.bugs import BUGS as CONTROLLER_BUGS
 from cluster.faults.__main__ import release, sending
 from cluster.faults.dice import Dice, Rates
 from cluster.faults.handovers import HandoverStory
-from cluster.faults.parts import EVERY, LOSSES, OUTSIDE, drawn, storm_of
+from cluster.faults.parts import EVERY, LOSSES, OUTSIDE, drawn, of_rule, storm_of
 from cluster.faults.proxies import Link, open_proxy
 from cluster.launch.figures import order_waits, unacknowledged
-from cluster.launch.moving import Mover
+from cluster.launch.moving import HANDOVERS, Mover, is_handover
 from cluster.launch.operator import Operator
 from cluster.launch.processes import Ports
 from cluster.launch.shape import Shape, document_of
 from cluster.launch.situations import SITUATIONS, situations_of
+from cluster.servers.bugs import BUGS as SERVER_BUGS
 from cluster.servers.following import BrokenOff, Following
 from cluster.servers.shard import Shard
 from cluster.servers.work import Orders
@@ -261,6 +264,18 @@ class ShapeTest(unittest.TestCase):
         self.assertEqual(targets, Counter({"b": 1, "c": 1}))
 
 
+    def test_few_primaries_are_handed_over_at_once(self):
+        mover = Mover(None, 1, swaps=0.0)
+        servers = [{"server": it, "room": 99, "load": 0, "held": 0, "permit": None} for it in "abc"]
+        cells = [{"server": "a", "state": "primary"}, {"server": "b", "state": "secondary"}]
+        shards = [{"shard": f"s{it}", "load": 3, "listed": "a", "cells": cells} for it in range(40)]
+        chosen = mover.choose({"servers": servers, "shards": shards}, 40)
+        self.assertEqual((len(chosen), sum(map(is_handover, chosen.values()))), (40 - sum(it not in chosen for it in (shard["shard"] for shard in shards)), HANDOVERS))
+        mover.busy, mover.passed = {"s1", "s2", "s3", "s4"}, {"s4"}
+        again = mover.choose({"servers": servers, "shards": shards}, 40)
+        self.assertEqual(sum(map(is_handover, again.values())), 0)
+
+
 class PortsTest(unittest.TestCase):
     """Ports of several runs."""
 
@@ -284,6 +299,18 @@ class LoadTest(unittest.TestCase):
         _, load = load_of(words.split())
         self.assertEqual(load, Load(shards=("s", "t"), clients=3, keys=4, reads=0.5, stray=0.25, pause=0.75, hot_clients=2, moving="m", largest=900, seed=1001, open_clients=5, rate=7,
                                     comparers=6))
+
+
+    def test_sizes_go_from_some_bytes_to_the_largest(self):
+        sizes = text_sizes(("s", "t", "u", "v", "w"), 5_000_000, Random(1))
+        self.assertEqual([len(it) for it in sizes.values()], [25, 8, 2, 1, 1])
+        self.assertTrue(all(it <= LONGEST_TEXT for its in sizes.values() for it in its))
+
+    def test_what_a_comparison_that_was_made_again_tells(self):
+        line = {"op": "cas", "old": "x", "value": "y", "identity": None}
+        told = [told_of(line, reply, tries) for reply, tries in ((b"x", 2), (b"y", 2), (b"z", 1), (b"z", 2), (None, 2))]
+        self.assertEqual(told, ["x", "x", "z", None, None])
+        self.assertEqual(told_of({**line, "identity": "i"}, b"z", 2), "z")
 
 
 class MovingTest(unittest.IsolatedAsyncioTestCase):
@@ -342,7 +369,8 @@ class PartsTest(unittest.TestCase):
     """What happens in runs."""
 
     def test_there_is_something_to_do_each(self):
-        for parts in (PARTS, *PARTS_OF.values(), *(storm_of(seed) for seed in range(6)), tuple((0.0, it) for it in (*EVERY, *OUTSIDE))):
+        rules = [of_rule(it, 1) for it in RULE_OF.values()]
+        for parts in (PARTS, *PARTS_OF.values(), *rules, *(storm_of(seed) for seed in range(6)), tuple((0.0, it) for it in (*EVERY, *OUTSIDE))):
             self.assertEqual([name for _, name in parts if name != "drain" and not hasattr(HandoverStory, name)], [])
 
     def test_storms_draw_each_part_and_none_that_the_rules_do_not_survive(self):
@@ -352,6 +380,14 @@ class PartsTest(unittest.TestCase):
         self.assertGreater(min(runs.values()), 30)
         self.assertLessEqual(max(sum(name in LOSSES for name in it) for it in names), 2)
         self.assertEqual(storm_of(7), storm_of(7))
+
+    def test_a_run_for_a_bug_draws_from_what_its_rule_names(self):
+        for bug, names in RULE_OF.items():
+            for seed in range(20):
+                drawn_names = [name for _, name in of_rule(names, seed)]
+                self.assertLessEqual(set(drawn_names), set(names), bug)
+                self.assertLessEqual(sum(it in LOSSES for it in drawn_names), 2, bug)
+        self.assertLessEqual(set(RULE_OF), {*CONTROLLER_BUGS, *SERVER_BUGS})
 
     def test_a_draw_is_by_its_seed(self):
         self.assertEqual(drawn(5, 4), drawn(5, 4))
