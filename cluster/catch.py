@@ -41,7 +41,7 @@ PARTS_OF = {
 RULE_OF = {
     "acknowledge-alone": ("lose_lagging",), "impatient": ("lose_lagging",), "newcomers-not-waited-for": ("lose_lagging",), "who-ends-leaves": ("lose_beside_restart",),
     "old-owner-not-waited-for": ("lose_behind_cut",), "dead-at-once": MEMBERS, "answer-before-done": MEMBERS, "any-reply-counts": MEMBERS,
-    "copy-without-identities": ("hand_over_unheard",), "copy-counts-twice": COPIES, "copy-without-meanwhile": COPIES, "copy-half": COPIES, "joined-at-once": COPIES,
+    "copy-without-identities": ("hand_over_unheard",), "copy-counts-twice": COPIES, "copy-without-meanwhile": COPIES, "copy-without-values": COPIES, "joined-at-once": COPIES,
     "heed-nothing": ("reopen_while_down",), "forgets-and-rests": ("reopen_while_down",),
     "map-names-prepared": MAP, "map-write-left-out": MAP, "map-settled-without-entries": ("reopen_behind_cut", "reopen_amid_passing"),
 }

@@ -23,7 +23,7 @@ BUGS = {
     "copy-without-identities": "a copy lacks the identities of the requests that made it",
     "copy-counts-twice": "writes that a copied value has are executed on it again",
     "copy-without-meanwhile": "writes that come while a shard is copied are counted, and not executed",
-    "copy-half": "a copy is called whole after its first piece",
+    "copy-without-values": "a copy has the identities of requests, and none of the values",
     "joined-at-once": "who follows counts as one that has caught up as soon as it comes",
     "newcomers-not-waited-for": "no write waits for a secondary that has joined",
     "old-owner-not-waited-for": "a new owner does not wait until the old one has what it executes",

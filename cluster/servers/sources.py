@@ -114,11 +114,9 @@ class Sources:
             async for piece in self.store.pieces(shard.name):
                 if shard.streams.get(stream.name) is not stream:
                     return
-                if self.server.bug == "copy-without-identities" and "done" in piece:
-                    continue
-                await self.send_piece(shard, stream, line_of({"piece": piece}))
-                if self.server.bug == "copy-half":
-                    break
+                left_out = {"copy-without-identities": "done", "copy-without-values": "keys"}.get(self.server.bug or "")
+                if left_out not in piece:
+                    await self.send_piece(shard, stream, line_of({"piece": piece}))
         except TooLarge as error:
             shard.too_large = (error.size, time.monotonic() + limits.TOO_LARGE_FOR)
             self.store.note("value-too-large", shard=shard.name, bytes=error.size)

@@ -18,6 +18,7 @@ from scripted import JOURNAL, Scripted
 from cluster.checkers.clients import check as check_clients
 from cluster.checkers.servers import Checker
 from cluster.clients.load import Generator, Load
+from cluster.resp import Redis
 from cluster.servers.history import history_of
 from cluster.wire import Failed
 
@@ -41,6 +42,12 @@ async def to_and_fro(it: Scripted, moves: int = 2, repeats: int = 0, pause: floa
         old, new = ("a", "b") if number % 2 == 0 else ("b", "a")
         await it.move("s", old, new, [old, "c"], repeats)
         await asyncio.sleep(pause)
+
+
+async def late_to_and_fro(it: Scripted) -> None:
+    """The shard goes to b and back, once it has some texts."""
+    await asyncio.sleep(2)
+    await to_and_fro(it)
 
 
 async def late_orders(it: Scripted) -> None:
@@ -174,7 +181,45 @@ async def change(it: Scripted) -> None:
         await asyncio.sleep(0.5)
 
 
+async def crash_secondary(it: Scripted) -> None:
+    """The secondary is killed, and starts again."""
+    it.kill("c")
+    await asyncio.sleep(1)
+    await it.start("c")
+    await asyncio.sleep(1)
+
+
+async def lose_primary(it: Scripted) -> None:
+    """The primary is killed for good a second after its secondary was, which starts again and takes its place."""
+    it.kill("c")
+    await asyncio.sleep(1)
+    it.kill("a")
+    await it.start("c")
+    await it.settle(await it.fence("b", "c"), {"s": {"c": "primary"}, "t": {"b": "primary"}})
+    await asyncio.sleep(1)
+
+
+async def ask_again(it: Scripted) -> None:
+    """A request whose reply was lost is made again when the shard has moved on."""
+    line = {"client": "play", "op": "push", "shard": "s", "key": "s:k0", "value": "again", "start": time.monotonic_ns()}
+    redis = await Redis.open_port("127.0.0.1", it.cluster.servers["a"].clients.port)
+    await redis.call("DO", "again", "RPUSH", "s:k0", "again")
+    redis.close()
+    await it.move("s", "a", "b", ["a", "c"])
+    reply = await it.generator.router(random.Random(1)).request("s", "again", "RPUSH", "s:k0", "again")
+    it.generator.tell(line | {"reply": reply})
+
+
 PLAYS = {
+    "acknowledge-alone": Play(lose_primary),
+    "newcomers-not-waited-for": Play(lose_primary),
+    "dead-at-once": Play(crash_secondary),
+    "who-ends-leaves": Play(lose_primary),
+    "copy-without-identities": Play(ask_again),
+    "copy-counts-twice": Play(late_to_and_fro, Load(("s", "t"), clients=6, largest=2_000_000)),
+    "copy-without-meanwhile": Play(to_and_fro),
+    "copy-without-values": Play(to_and_fro),
+    "joined-at-once": Play(to_and_fro),
     "no-numbers": Play(late_orders),
     "execute-prepared": Play(slow_handover, Load(("s", "t"), clients=6, stray=0.4)),
     "slot-deleted": Play(late_orders),
@@ -187,7 +232,7 @@ PLAYS = {
     "settle-twice": Play(late_settle),
     "add-without-cut": Play(early_add, lag=1.0),
     "fence-while-passed": Play(fence_amid_passing, Load(("s", "t"), clients=16), think=0.7),
-    "cut-unheeded": Play(late_seal, Load(("s", "t"), clients=0), lag=2.0),
+    "cut-unheeded": Play(late_seal, Load(("s", "t"), clients=0, comparers=0), lag=2.0),
     "change-while-writing": Play(change, think=0.1),
 }
 
