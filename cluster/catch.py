@@ -37,7 +37,7 @@ PARTS_OF = {
     "settle-twice": REOPENINGS,
     "cut-unheeded": tuple((share, "break_following") for share in OFTEN),
 }
-# The parts that the rule names which a bug breaks. A run draws from them, and has nothing else that is made for the bug.
+# For a bug that breaks a rule, the parts that this rule is about. A run draws from them, and nothing else is made for the bug.
 RULE_OF = {
     "acknowledge-alone": ("lose_lagging",), "impatient": ("lose_lagging",), "newcomers-not-waited-for": ("lose_lagging",), "who-ends-leaves": ("lose_beside_restart",),
     "old-owner-not-waited-for": ("lose_behind_cut",), "dead-at-once": MEMBERS, "answer-before-done": MEMBERS, "any-reply-counts": MEMBERS,
@@ -63,7 +63,7 @@ NO_END, LEFT_OUT = "the run did not come to its end", "nothing, and a loss was l
 
 
 def most_telling(faults: list[str]) -> str | None:
-    """Returns what a checker found, if one did: that something has not ended or is not shown yet is what a busy machine may do, too."""
+    """Returns what a checker found, if it found anything. What has not ended, or is not shown yet, comes last: a busy machine alone may do that."""
     return min(faults, key=lambda it: (not it.startswith(("servers: ", "clients: ")), it.startswith("plans that have not")), default=None)
 
 

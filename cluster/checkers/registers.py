@@ -1,5 +1,5 @@
-"""Registers that clients compare and set, each time to a value that is used once, or to nothing. What became of what tells their order: from nothing each value follows
-the one that was compared, up to nothing again. Such a chain stands as a whole before or behind another one, and before or behind each read that found nothing."""
+"""Registers that clients compare and set, to values that are used once, or to nothing. Each value follows the one that it was compared with: from nothing they make a
+chain, up to nothing again. A chain stands as a whole before or behind another one, and before or behind each read that found nothing."""
 from __future__ import annotations
 
 from collections import defaultdict
@@ -70,7 +70,7 @@ class Register:
                 self.nothing.append(Zone(end, start))
 
     def done(self) -> dict[str, list[str]]:
-        """By what was compared, the values that were set: all of which it is known, or which somebody found or compared."""
+        """By the value that was compared, those that were set: they were acknowledged, or somebody found or compared them."""
         known = {value for value, line in self.setters.items() if line["end"] != NEVER}
         seen = {*self.found, *self.deleted, *(line["old"] for value, line in self.setters.items() if value in known and line["old"])}
         while new := {self.setters[it]["old"] for it in seen if it in self.setters and self.setters[it]["old"]} - seen:

@@ -249,7 +249,7 @@ class Checker:
             self.look_at_floor(event, shard)
 
     def on_lost(self, host: Host, event: dict) -> None:
-        """It is given up: each shard of which it has anything may have one replica less from now on."""
+        """It is given up: each shard that it has, or has a part of, may have one replica less from now on."""
         host.is_lost = True
         for shard, at in host.shards.items():
             if at.state != "absent" and shard in self.wants:

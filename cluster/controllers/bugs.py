@@ -5,11 +5,11 @@ from smplan.control import Controller, Line
 
 BUGS = {
     "feed-before-store": "a line is fed and acted on before it is stored",
-    "map-write-without-compare": "an entry of the map is written whatever stands there",
+    "map-write-without-compare": "an entry of the map is written without a look at what stands there",
     "map-names-prepared": "the map names a new owner as soon as it is prepared",
-    "map-write-left-out": "every third entry of the map is not written, and called done",
+    "map-write-left-out": "every third entry of the map is called done, and not written",
     "map-settled-without-entries": "the map's owner takes a settle without its entries",
-    "any-reply-counts": "an order counts as answered by whatever a server says",
+    "any-reply-counts": "an order counts as answered by any reply, or by none",
     "map-not-fenced": "a reopening passes the map's owner by",
     "confirm-moves-primary": "a settle makes another replica the primary than the one that told it is",
     "restart-without-approval": "servers are restarted without leave",

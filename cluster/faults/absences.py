@@ -105,7 +105,7 @@ class AbsenceStory(ServerStory, LossStory):
     # Disks.
 
     async def fill_disk(self) -> None:
-        """Lets the files of a server's store grow no more, so that the store ends, and the server with it; then it starts again with what it has."""
+        """Lets the files of a server's store grow no more. The store ends, and the server with it; then it starts again with what it has."""
         async with self.restarting:
             name = self.dice.choice(self.alive)
             folder = self.cluster.directory / name / "appendonlydir"
@@ -138,7 +138,7 @@ class AbsenceStory(ServerStory, LossStory):
             await self.reopen(without(state, self.document, self.lost, frozenset({name})), [], f"the disk of {name} was replaced")
 
     def keep_old(self, name: str) -> None:
-        """Puts a server's folder aside, of which the checkers read what it did."""
+        """Puts a server's folder aside, where the checkers read what it did."""
         folder = self.cluster.directory / name
         count = len(list(self.cluster.directory.glob(f"{name}.*")))
         folder.rename(folder.with_name(f"{name}.{count + 1}"))
@@ -175,7 +175,7 @@ class AbsenceStory(ServerStory, LossStory):
             self.counts["restarts"] += 1
 
     async def take_primaries(self, name: str, seconds: float = 10.0) -> bool:
-        """Has others take the primaries of a server, so that it has secondaries alone; tells whether they did."""
+        """Has others take the primaries of a server, which keeps secondaries alone; tells whether they did."""
         until = time.monotonic() + seconds
         while time.monotonic() < until:
             state = await self.state()

@@ -75,11 +75,11 @@ class HandoverStory(OutsideStory):
         return await self.in_handovers(self.undisturbed, self.reopen_at_work)
 
     async def reopen_behind_cut(self) -> bool:
-        """Reopens while requests are passed on to new owners that have not heard of the cuts, so that the old owners keep the shards."""
+        """Reopens while requests are passed on to new owners that have not heard of the cuts: the old owners keep the shards."""
         return await self.in_handovers(self.unheard, self.reopen_at_work)
 
     async def break_following(self) -> bool:
-        """Hands shards over while the new owners lose the connections by which they follow, again and again, so that they hear of cuts by requests alone."""
+        """Hands shards over while the new owners lose the connections by which they follow, again and again: they hear of cuts by requests alone."""
         return await self.in_handovers(self.lossy, self.let_pass)
 
     async def lose_behind_cut(self) -> bool:
@@ -97,7 +97,7 @@ class HandoverStory(OutsideStory):
         return await self.reopen(without(found.state, self.document, self.lost), [found.new], f"{found.new} was lost behind the cut")
 
     async def hand_over_unheard(self) -> bool:
-        """Hands shards over while their old owners' answers to clients are lost, so that clients ask the new one for what was done."""
+        """Hands shards over while their old owners' answers to clients are lost: clients ask the new one for what was done."""
         async with self.reopening:
             found = self.handovers_in(await self.state(), 4)
             if found is None:
@@ -110,7 +110,7 @@ class HandoverStory(OutsideStory):
                     await self.operator.do({"do": "begin", "plan": plan_of(found.streams), "name": self.name("handover")})
                     is_done = await self.wait_for_cells(dict.fromkeys(found.olds, found.new), "primary", 5.0)
                 self.tell(f"{', '.join(sorted(found.olds))} were handed over to {found.new}, while answers to clients were lost")
-                self.counts["handovers of which clients heard nothing"] += is_done
+                self.counts["handovers unheard by clients"] += is_done
                 return is_done
             finally:
                 self.mover.busy -= set(found.olds)

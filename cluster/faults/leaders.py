@@ -84,7 +84,7 @@ class LeaderStory(MemberStory, ReopeningStory):
         self.tell(f"answers of etcd to {leader}, which leads, are lost")
         async with self.muted(f"etcd {leader} "):
             await asyncio.sleep(self.dice.uniform(1.0, 4.0))
-        self.counts["leaders to whom etcd's answers were lost"] += 1
+        self.counts["leaders without etcd's answers"] += 1
 
     async def ask_too_much(self) -> None:
         """Sends the leading controller a line that is larger than etcd takes, once."""

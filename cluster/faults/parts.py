@@ -17,7 +17,7 @@ AWAY = (
 REOPENINGS = ("reopen_behind_leader", "reopen_before_write", "reopen_behind_cut", "reopen_amid_passing", "reopen_while_down")
 # What is done with handovers, and with servers that lose their slots twice.
 OTHERS = ("break_following", "hand_over_unheard", "forget_twice")
-# A server, or its disk, is given up. Each shard has all its replicas before, and they have all writes, so that the rules keep what was acknowledged.
+# A server, or its disk, is given up. Before that each shard has all its replicas, with all writes: the rules keep what was acknowledged.
 LOSSES = ("lose_server", "lose_lagging", "lose_behind_cut", "lose_beside_restart", "replace_disk")
 # What the rules as they stand do not survive: never drawn. A run has them if they are named.
 OUTSIDE = ("return_given_up", "roll_back", "replace_disk_under_permit", "lose_tail_of_journal")
@@ -52,7 +52,7 @@ def storm_of(seed: int) -> Parts:
 
 
 def drawn(seed: int, count: int) -> Parts:
-    """Some different parts, drawn by a seed, at most one of which gives a server up, at the end."""
+    """Some different parts, drawn by a seed. The last one gives a server or its disk up, and no other does."""
     dice = random.Random(f"drawn {seed}")
     names = dice.sample([it for it in EVERY if it not in LOSSES], count - 1)
     return evenly([*names, dice.choice(LOSSES)])

@@ -105,7 +105,7 @@ def of_handovers(handovers: list[Handover]) -> str:
     """What clients met of handovers, in words."""
     met = [it for it in handovers if it.requests]
     if not met:
-        return f"{len(handovers)}, of which none met a request"
+        return f"{len(handovers)}; none met a request"
     largest = max(met, key=lambda it: it.bytes)
     return (f"{len(handovers)}; the longest wait of a client meanwhile {in_words([it.longest for it in met])}, of the largest shard ({largest.bytes / 1e6:.1f} MB) "
             f"{1000 * largest.longest:.0f} ms\n             requests met by each: {median(it.requests for it in handovers):.0f} (median), "

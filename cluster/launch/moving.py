@@ -13,7 +13,7 @@ from smplan.control import Line
 from .operator import NoLeader, Operator
 from .plans import move_stream, plan_of, swap_stream
 
-# How many primaries are handed over at once. (clients that never rest use these shards, so that each handover meets many requests)
+# How many primaries are handed over at once: few, since clients that never rest use these shards, and each handover is to meet many requests.
 HANDOVERS = 3
 
 
@@ -175,7 +175,7 @@ class Mover:
             free = [it for it, room in rooms.items() if it not in has and room >= shard["load"]]
             if shard["shard"] in self.busy or not free or not set(has.values()) <= {"primary", "secondary"}:
                 continue
-            if has[server] == "primary" and not self.has_room_for_handover(chosen):
+            if has[server] == "primary" and sum(map(is_handover, chosen.values())) >= HANDOVERS:
                 continue
             target = max(free, key=lambda it: rooms[it])
             rooms[target] -= shard["load"]

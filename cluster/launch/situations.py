@@ -17,7 +17,7 @@ SITUATIONS = (
     "a primary lost while a restarted replica catches up", "a new owner lost behind the cut", "a disk replaced", "a full disk", "a slow disk", "a server stopped",
     "answers of a server lost", "a server cut off from all but clients", "two servers at once", "all servers at once", "all controllers at once", "all of etcd at once",
     "no quorum of etcd", "etcd's leader killed", "etcd's leader stopped", "etcd's answers to a leader lost", "etcd's history compacted",
-    "a line that is too large", "a handover of which clients heard nothing", "a write acknowledged while a member was away",
+    "a line that is too large", "a handover that clients did not hear of", "a write acknowledged while a member was away",
 )
 # What the story itself counts.
 TOLD = {
@@ -29,8 +29,8 @@ TOLD = {
     "all controllers at once": "crashes of all controllers at once", "all of etcd at once": "crashes of all of etcd at once",
     "no quorum of etcd": "times without a quorum of etcd", "etcd's leader killed": "leaders of etcd killed", "etcd's leader stopped": "leaders of etcd stopped",
     "etcd's history compacted": "compactions of etcd", "a line that is too large": "lines that were too large",
-    "etcd's answers to a leader lost": "leaders to whom etcd's answers were lost",
-    "a handover of which clients heard nothing": "handovers of which clients heard nothing",
+    "etcd's answers to a leader lost": "leaders without etcd's answers",
+    "a handover that clients did not hear of": "handovers unheard by clients",
 }
 # What a deposed leader does to the map, as controllers and the story count it.
 DEPOSED = ("publications of one that does not lead", "map writes of one that does not lead", "map writes that a deposed leader had sent")

@@ -23,6 +23,6 @@ RESTING_AT_MOST = 16.0
 # A copy goes in pieces of about so many bytes; a value is never divided. With the copy go the last writes before it, so many of so many bytes at most.
 PIECE = 1 << 17
 KEPT, KEPT_BYTES = 100, 1 << 20
-# A piece is one line, so that a value has at most so many bytes. A source that has a larger one makes no copy for so long.
+# A piece is one line, so a value has at most so many bytes. A source that has a larger one makes no copy for so long.
 LARGEST_VALUE = LONGEST_LINE // 4 * 3 - (1 << 20)
 TOO_LARGE_FOR = 300.0

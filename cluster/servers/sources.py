@@ -132,7 +132,7 @@ class Sources:
                 stream.copied_at = None
 
     async def send_piece(self, shard: Shard, stream: Stream, line: bytes) -> None:
-        """Sends a piece once there is room for it, and rests as long as that took, so that requests go on. Raises EOFError if nobody follows any longer."""
+        """Sends a piece once there is room for it, and then rests as long as that took: requests go on. Raises EOFError if nobody follows any longer."""
         begun = time.monotonic()
         try:
             stream.writer.write(line)

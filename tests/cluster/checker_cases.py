@@ -99,7 +99,7 @@ def register_lines(*told) -> list[dict]:
 SET_X, X_TO_Y, Y_GONE = (0, 1, "", "x", ""), (2, 3, "x", "y", "x"), (4, 5, "y", "", "y")
 RIGHT_REGISTERS = {
     "a register that is set, and set again, and deleted": (SET_X, X_TO_Y, Y_GONE, (6, 7, None, None, "")),
-    "two comparisons at the same time, of which one finds the other's value": (SET_X, (2, 9, "x", "y", "x"), (2, 9, "x", "z", "y"), (10, 11, None, None, "y")),
+    "two comparisons at the same time: one finds the other's value": (SET_X, (2, 9, "x", "y", "x"), (2, 9, "x", "z", "y"), (10, 11, None, None, "y")),
     "a comparison without reply that comes late": (SET_X, (2, 3, "x", "y", None), (4, 5, None, None, "x"), (6, 7, None, None, "y")),
     "a comparison without reply that is never done": (SET_X, (2, 3, "x", "y", None), X_TO_Y[:3] + ("z", "x"), (6, 7, None, None, "z")),
     "a deletion without reply, and a value behind it": (SET_X, (2, 3, "x", "", None), (4, 5, "", "z", ""), (6, 7, None, None, "z")),

@@ -1,5 +1,5 @@
-"""Plays of real servers under load, each of which a planted bug makes go wrong: without the bug both checkers find
-nothing, with it at least one does.
+"""Plays of real servers under load. Without a bug both checkers find nothing; with the bug that a play is named after at
+least one finds something.
 
 `python3 tests/cluster/plays.py [--sound] [--runs N] [NAME..]`; a name is that of a bug (cluster/servers/bugs.py).
 """

@@ -178,7 +178,7 @@ class Scripted:
                 self.publish({shard: new})
 
     async def repeat(self, order: dict) -> str:
-        """Sends an order once more, whatever comes of it."""
+        """Sends an order once more, and returns what the server said."""
         try:
             await self.channels[order["server"]].ask(5, order=order)
             return "answered"
