@@ -99,7 +99,7 @@ class HandoverStory(OutsideStory):
     async def hand_over_unheard(self) -> bool:
         """Hands shards over while their old owners' answers to clients are lost: clients ask the new one for what was done."""
         async with self.reopening:
-            found = self.handovers_in(await self.state(), 4)
+            found = self.handovers_in(await self.state(), 4, None)
             if found is None:
                 return False
             self.mover.busy |= set(found.olds)
