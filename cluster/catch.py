@@ -39,9 +39,10 @@ PARTS_OF = {
 }
 # For a bug that breaks a rule, the parts that this rule is about. A run draws from them, and nothing else is made for the bug.
 RULE_OF = {
-    "acknowledge-alone": ("lose_lagging",), "impatient": ("lose_lagging",), "newcomers-not-waited-for": ("lose_lagging",), "who-ends-leaves": ("lose_beside_restart",),
-    "old-owner-not-waited-for": ("lose_behind_cut",), "dead-at-once": MEMBERS, "answer-before-done": MEMBERS, "any-reply-counts": MEMBERS,
-    "copy-without-identities": ("hand_over_unheard",), "copy-counts-twice": COPIES, "copy-without-meanwhile": COPIES, "copy-without-values": COPIES, "joined-at-once": COPIES,
+    "acknowledge-alone": ("lose_lagging",), "impatient": ("lose_lagging",), "newcomers-not-waited-for": ("lose_lagging",),
+    "who-ends-leaves": ("lose_beside_restart",), "old-owner-not-waited-for": ("lose_behind_cut",), "dead-at-once": MEMBERS, "answer-before-done": MEMBERS, "any-reply-counts": MEMBERS,
+    "copy-without-identities": ("hand_over_unheard",), "copy-counts-twice": COPIES, "copy-without-meanwhile": COPIES,
+    "copy-without-values": COPIES, "joined-at-once": COPIES,
     "heed-nothing": ("reopen_while_down",), "forgets-and-rests": ("reopen_while_down",),
     "map-names-prepared": MAP, "map-write-left-out": MAP, "map-settled-without-entries": ("reopen_behind_cut", "reopen_amid_passing"),
 }

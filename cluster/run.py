@@ -296,14 +296,17 @@ def add_load(parser: argparse.ArgumentParser) -> None:
     """Adds the options that say how much is asked of the machine."""
     parser.add_argument("--pause", type=float, default=Settings.pause, metavar="SECONDS", help="how long a client rests between two requests (default %(default)s)")
     parser.add_argument("--hot-clients", type=int, default=48, help="how many clients never rest, and use shards that are being moved (default %(default)s)")
-    parser.add_argument("--open-clients", type=int, default=2, help="how many clients ask for these at times of their own, answered or not (default %(default)s)")
-    parser.add_argument("--largest", type=int, default=200_000, metavar="BYTES", help="how many bytes the largest shard has, the next one a third of that, and so on (default %(default)s)")
+    parser.add_argument("--open-clients", type=int, default=2,
+                        help="how many clients ask for these at times of their own, answered or not (default %(default)s)")
+    parser.add_argument("--largest", type=int, default=200_000, metavar="BYTES",
+                        help="how many bytes the largest shard has, the next one a third of that, and so on (default %(default)s)")
     parser.add_argument("--busy", action="store_true", help="the machine has other work: waits are longer, and slow requests are no violations")
 
 
 def shape_of(told: argparse.Namespace, seed: int) -> Shape:
     """The cluster and its load as the command line says."""
-    return Shape(servers=told.servers, shards=told.shards, clients=told.clients, seed=seed, hot_clients=told.hot_clients, open_clients=told.open_clients, largest=told.largest)
+    return Shape(servers=told.servers, shards=told.shards, clients=told.clients, seed=seed, hot_clients=told.hot_clients,
+                 open_clients=told.open_clients, largest=told.largest)
 
 
 def arguments() -> argparse.Namespace:

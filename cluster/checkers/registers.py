@@ -1,5 +1,6 @@
-"""Registers that clients compare and set, to values that are used once, or to nothing. Each value follows the one that it was compared with: from nothing they make a
-chain, up to nothing again. A chain stands as a whole before or behind another one, and before or behind each read that found nothing."""
+"""Registers that clients compare and set, to values that are used once, or to nothing. Each value follows the one that it was compared with: from
+nothing they make a chain, up to nothing again. A chain stands as a whole before or behind another one, and before or behind each read that found
+nothing."""
 from __future__ import annotations
 
 from collections import defaultdict
@@ -12,8 +13,8 @@ NEVER = 1 << 63
 
 @dataclass
 class Zone:
-    """Requests that stand together: the first end and the last start among them. They stand behind all that ended before that start, and before all that began behind
-    that end."""
+    """Requests that stand together: the first end and the last start among them. They stand behind all that ended before that start, and before all
+    that began behind that end."""
 
     first_end: int = NEVER
     last_start: int = 0

@@ -35,8 +35,8 @@ DELETES = 0.3
 
 
 def told_of(line: dict, reply: Reply, tries: int) -> object:
-    """A reply as history has it: of a text its number alone, 0 if there is none. None if it is unclear, as a request that was tried more than once may have been done
-    before."""
+    """A reply as history has it: of a text its number alone, 0 if there is none. None if it is unclear: a request that was tried more than once may
+    have been done before."""
     if line["op"] == "get":
         return int(reply.partition(b":")[0]) if isinstance(reply, bytes) else 0
     if line["op"] in ("cas", "look"):
@@ -50,8 +50,8 @@ def told_of(line: dict, reply: Reply, tries: int) -> object:
 
 
 def text_sizes(shards: tuple[str, ...], largest: int, dice: random.Random) -> dict[str, list[int]]:
-    """The sizes of each shard's texts: the first shard has `largest` bytes, each next one a third of that, as long as this is more than one text; the others have one
-    of any size."""
+    """The sizes of each shard's texts: the first shard has `largest` bytes, each next one a third of that, as long as this is more than one text; the
+    others have one of any size."""
     sizes, left = {}, largest
     for shard in shards:
         if left > LONGEST_TEXT:
@@ -181,8 +181,8 @@ class Generator:
         router.close()
 
     async def comparer(self, number: int) -> None:
-        """One of the clients that compare and set the same register for a second, each with values of its own. Every other request has no identity: if it came twice, the
-        second time would change nothing."""
+        """One of the clients that compare and set the same register for a second, each with values of its own. Every other request has no identity: if it
+        came twice, the second time would change nothing."""
         dice, name = random.Random(f"{self.load.seed} compare {number}"), f"{self.load.name}-compare{number}"
         router, count, known = self.router(dice), 0, dict.fromkeys(self.load.shards, "")
         while not self.is_stopped:

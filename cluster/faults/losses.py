@@ -27,7 +27,7 @@ class LossStory(ReopeningStory):
     """Servers that are lost."""
 
     async def wait_until_caught_up(self, seconds: float = 20.0) -> bool:
-        """Waits, twice, until all replicas have what was written before, and tells whether they do. From then on all are connected, so writes wait for them."""
+        """Waits, twice, until all replicas have what was written before, and tells whether they do. From then on writes wait for all of them."""
         until = time.monotonic() + seconds
         for _ in range(2):
             written = await self.replicas(self.alive)
@@ -44,8 +44,8 @@ class LossStory(ReopeningStory):
         return replicas is not None and has_all(replicas, written)
 
     async def wait_for_replicas(self, servers: list[str], seconds: float = 20.0) -> bool:
-        """Waits until all replicas have what these servers have, and tells whether they do. Writes did not wait for a server that was away for long: if another one were
-        lost now, acknowledged writes would be, too."""
+        """Waits until all replicas have what these servers have, and tells whether they do. Writes did not wait for a server that was away for long: if
+        another one were lost now, acknowledged writes would be, too."""
         until = time.monotonic() + seconds
         while time.monotonic() < until:
             written, replicas = await self.replicas(servers), await self.replicas(self.alive)

@@ -16,8 +16,8 @@ Relay = Callable[[Reader, Writer, Reader, Writer, "Link"], Awaitable[None]]
 
 @dataclass
 class Link:
-    """A way through a proxy. Nothing gets through if it is cut, and nothing comes back if it is mute. A message that has all texts of `held` does not get through (a line)
-    or waits (a request of HTTP). If there are `copies`, each message that is seldom sent is kept among them, to come again."""
+    """A way through a proxy. Nothing gets through if it is cut, and nothing comes back if it is mute. A message that has all texts of `held` does not
+    get through (a line) or waits (a request of HTTP). If there are `copies`, each message that is seldom sent is kept among them, to come again."""
 
     name: str
     dice: Dice

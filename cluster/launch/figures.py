@@ -107,8 +107,8 @@ def of_handovers(handovers: list[Handover]) -> str:
     if not met:
         return f"{len(handovers)}; none met a request"
     largest = max(met, key=lambda it: it.bytes)
-    return (f"{len(handovers)}; the longest wait of a client meanwhile {in_words([it.longest for it in met])}, of the largest shard ({largest.bytes / 1e6:.1f} MB) "
-            f"{1000 * largest.longest:.0f} ms\n             requests met by each: {median(it.requests for it in handovers):.0f} (median), "
+    return (f"{len(handovers)}; the longest wait of a client meanwhile {in_words([it.longest for it in met])}, of the largest shard "
+            f"({largest.bytes / 1e6:.1f} MB) {1000 * largest.longest:.0f} ms\n             requests met by each: {median(it.requests for it in handovers):.0f} (median), "
             f"{median(it.requests_at_cut for it in handovers):.0f} of them between the begin of prepare_drop and the seal")
 
 

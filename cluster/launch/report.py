@@ -48,8 +48,10 @@ def seconds_of(times: list[float]) -> str:
 def trust_lines(faults: list[str], counts: Mapping[str, int]) -> list[str]:
     """The violations by what they are about, with how much was looked at."""
     found = Counter(map(kind_of, faults))
-    of = {"acknowledged writes lost": sum(counts[f"clients: {it} acknowledged"] for it in ("pushes", "sets", "comparisons")), "writes executed twice": counts["servers: execute"],
-          "stale reads": sum(counts[f"clients: {it}"] for it in ("reads", "reads of texts", "reads of registers")), "lines that were not true": counts["servers: lines that were true"]}
+    of = {"acknowledged writes lost": sum(counts[f"clients: {it} acknowledged"] for it in ("pushes", "sets", "comparisons")),
+          "writes executed twice": counts["servers: execute"],
+          "stale reads": sum(counts[f"clients: {it}"] for it in ("reads", "reads of texts", "reads of registers")),
+          "lines that were not true": counts["servers: lines that were true"]}
     kinds = [f"{found[kind]} {kind}" + (f" (of {of[kind]:,})" if kind in of else "") for kind in (*(kind for kind, _ in KINDS), OTHERS)]
     return [f"verdict      {counted(len(faults), 'violations')}: {', '.join(kinds[:3])},", f"             {', '.join(kinds[3:])}"]
 

@@ -18,7 +18,8 @@ class Shape:
     clients: int = 4
     want: int = 2
     seed: int = 1
-    # How many clients never rest, and how many ask at times of their own, both of shards that are being moved; and how many bytes of text a shard has at most.
+    # How many clients never rest, and how many ask at times of their own, both of shards that are being moved; and how many bytes of text a shard
+    # has at most.
     hot_clients: int = 0
     open_clients: int = 0
     largest: int = 0

@@ -214,7 +214,8 @@ class Following:
         elif "moved" in message:
             raise Elsewhere(message["moved"]["to"])
         elif "toolarge" in message:
-            raise Refused(f"a value of {shard.name} has {message['toolarge']['bytes']} bytes, and one of at most {message['toolarge']['most']} can be sent")
+            told = message["toolarge"]
+            raise Refused(f"a value of {shard.name} has {told['bytes']} bytes, and one of at most {told['most']} can be sent")
         else:
             raise Elsewhere(message.get("nothere", {}).get("hint"))
 

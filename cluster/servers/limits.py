@@ -20,7 +20,7 @@ PROBING = 2.0
 # After a copy that broke off or was refused, a follower rests so long before it asks for another one, doubled each time up to the second.
 RESTING = 0.25
 RESTING_AT_MOST = 16.0
-# A copy goes in pieces of about so many bytes; a value is never divided. With the copy go the last writes before it, so many of so many bytes at most.
+# A copy goes in pieces of about so many bytes; a value is never divided. The last writes before it go along: so many, of so many bytes at most.
 PIECE = 1 << 17
 KEPT, KEPT_BYTES = 100, 1 << 20
 # A piece is one line, so a value has at most so many bytes. A source that has a larger one makes no copy for so long.

@@ -132,7 +132,7 @@ class Sources:
                 stream.copied_at = None
 
     async def send_piece(self, shard: Shard, stream: Stream, line: bytes) -> None:
-        """Sends a piece once there is room for it, and then rests as long as that took: requests go on. Raises EOFError if nobody follows any longer."""
+        """Sends a piece once there is room for it, and then rests as long as that took: requests go on. Raises EOFError if nobody follows."""
         begun = time.monotonic()
         try:
             stream.writer.write(line)
@@ -154,10 +154,14 @@ class Sources:
             if shard.streams.get(stream.name) is not stream or not shard.is_source:
                 return
             stream.has_joined = True
-            is_left_out = self.server.bug == "newcomers-not-waited-for" or (self.server.bug == "old-owner-not-waited-for" and shard.slot.cell == Cell.PREPARED)
-            if stream.name not in shard.members and not stream.takes_over and not is_left_out:
+            if stream.name not in shard.members and not stream.takes_over and not self.leaves_out(shard):
                 await self.set_members(shard, shard.members | {stream.name})
             stream.send({"joined": {"members": sorted(shard.members)}})
+
+    def leaves_out(self, shard: Shard) -> bool:
+        """A planted bug: who joins is no member."""
+        bug, is_prepared = self.server.bug, shard.slot.cell == Cell.PREPARED
+        return bug == "newcomers-not-waited-for" or (bug == "old-owner-not-waited-for" and is_prepared)
 
     async def leave(self, shard: Shard, name: str) -> None:
         """The follower has nothing of the shard any more."""

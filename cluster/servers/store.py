@@ -225,8 +225,8 @@ class Store:
         return texts[first:]
 
     async def pieces(self, shard: str) -> AsyncIterator[dict]:
-        """A shard's data piece by piece, while it is written to: each value with the position at which it is this one, and then identities with their replies. Raises
-        EOFError if the shard is deleted meanwhile, and TooLarge if a value is."""
+        """A shard's data piece by piece, while it is written to: each value with the position at which it was read, and then identities with their
+        replies. Raises EOFError if the shard is deleted meanwhile, and TooLarge if a value is."""
         piece, size = {}, 0
         for key in await self.data_keys(shard):
             used = await self.redis.call("MEMORY", "USAGE", data_key(shard, key))

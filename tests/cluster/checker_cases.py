@@ -86,8 +86,8 @@ WRONG_TEXTS = {
 
 
 def register_lines(*told) -> list[dict]:
-    """Lines of the history of a register: (start, end, what is compared, what it is set to, what was there) or (start, end, None, None, what is read); "" is nothing. The
-    last is final."""
+    """Lines of the history of a register: (start, end, what is compared, what it is set to, what was there) or (start, end, None, None, what is read);
+    "" is nothing. The last is final."""
     lines = []
     for start, end, old, value, reply in told:
         line = {"client": "c", "op": "look" if old is None else "cas", "shard": "s", "key": "s:r", "start": start, "end": end}
@@ -103,7 +103,8 @@ RIGHT_REGISTERS = {
     "a comparison without reply that comes late": (SET_X, (2, 3, "x", "y", None), (4, 5, None, None, "x"), (6, 7, None, None, "y")),
     "a comparison without reply that is never done": (SET_X, (2, 3, "x", "y", None), X_TO_Y[:3] + ("z", "x"), (6, 7, None, None, "z")),
     "a deletion without reply, and a value behind it": (SET_X, (2, 3, "x", "", None), (4, 5, "", "z", ""), (6, 7, None, None, "z")),
-    "values that follow nothing, in either order": ((0, 9, "", "x", ""), (0, 9, "", "y", ""), (0, 9, "y", "", "y"), (0, 9, None, None, ""), (10, 11, None, None, "x")),
+    "values that follow nothing, in either order": (
+        (0, 9, "", "x", ""), (0, 9, "", "y", ""), (0, 9, "y", "", "y"), (0, 9, None, None, ""), (10, 11, None, None, "x")),
     "nothing is found before, between and behind": (
         (0, 1, None, None, ""), (2, 3, "", "x", ""), (4, 5, "x", "", "x"), (6, 7, None, None, ""), (8, 9, "", "y", ""), (10, 11, None, None, "y")),
 }
@@ -212,6 +213,11 @@ def with_secondary(it: History) -> History:
     return it.order("b", "add", "secondary", position=0)
 
 
+def deleted(it: History) -> History:
+    """The key is deleted."""
+    return it.add("a", "execute", shard="s", position=2, identity=None, command=["DEL", "k"], passed=None)
+
+
 def untrue(it: History, line: dict, time: int, **reply: object) -> list[str]:
     """What is not true of a line that was seen at a moment."""
     truth = Truth(Past.of(it.lines), [order_line("b", 1)])
@@ -265,7 +271,7 @@ RIGHT_SERVERS = {
     "an Unknown server that starts, and meets the fence of before": lambda it: started(
         it.add("b", "forget", before=STEP, nonce="k").add("b", "fence", base=2 * STEP, slots={}, at_work=0, nonce="m"), "n")
         .add("b", "fence", base=2 * STEP, slots={}, at_work=0, nonce="o").found(),
-    "a key that is deleted": lambda it: it.write("a", identity="x").add("a", "execute", shard="s", position=2, identity=None, command=["DEL", "k"], passed=None).found(
+    "a key that is deleted": lambda it: deleted(it.write("a", identity="x")).found(
         data=[{"server": "a", "state": "primary", "position": 2, "values": {}}]),
     "a server that is given up, and a drop of one of three replicas": lambda it: with_secondary(it).add("b", "lost").found(),
     "a reopening that leaves a replica": lambda it: settled(fenced(with_secondary(it)), {"s": ["primary", 0]}, {}).order(
@@ -309,7 +315,7 @@ WRONG_SERVERS = {
         "b", "restore", base=STEP + 1, slots={}, nonce="k").found(),
     "under the nonce of before": lambda it: started(it.add("b", "forget", before=STEP, nonce="k"), "k").found(),
     "at or below its base": lambda it: it.add("a", "fence", base=STEP, slots={}, at_work=0, nonce="m").found(),
-    "k is not what the first 2": lambda it: it.write("a", identity="x").add("a", "execute", shard="s", position=2, identity=None, command=["DEL", "k"], passed=None).found(
+    "k is not what the first 2": lambda it: deleted(it.write("a", identity="x")).found(
         data=[{"server": "a", "state": "primary", "position": 2, "values": {"k": ["x"]}}]),
     "is not what the first": lambda it: it.write("a", identity="x").found(data=[{"server": "a", "state": "primary", "position": 1, "values": {"k": []}}]),
     "writes of 1": lambda it: it.write("a").found(data=[{"server": "a", "state": "primary", "position": 2, "values": {}}]),

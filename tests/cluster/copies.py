@@ -1,5 +1,5 @@
-"""A shard of 50 MB is handed over while it is used: it is copied piece by piece, and requests go on. A shard with a value that is larger than a line may be is not moved:
-the order is told why, and requests go on, although the order comes again and again.
+"""A shard of 50 MB is handed over while it is used: it is copied piece by piece, and requests go on. A shard with a value that is too large is not
+moved: the order is told why, and requests go on, although the order comes again and again.
 
 `python3 tests/cluster/copies.py [MEGABYTES]`
 """
@@ -107,8 +107,8 @@ async def moved() -> dict[str, bool]:
         await asyncio.gather(using, return_exceptions=True)
         usual, slowest = users.slowest(begun, start), users.slowest(start, end)
         met = sum(start <= at < end for at, _ in users.waits)
-        print(f"{TEXTS * BYTES / 1e6:.0f} MB were handed over in {end - start:.1f} s; the slowest of {met} requests took {1000 * slowest:.0f} ms, and "
-              f"{1000 * usual:.0f} ms before")
+        print(f"{TEXTS * BYTES / 1e6:.0f} MB were handed over in {end - start:.1f} s; the slowest of {met} requests took {1000 * slowest:.0f} ms, "
+              f"and {1000 * usual:.0f} ms before")
         new = await Redis.open_port("127.0.0.1", it.cluster.servers["b"].clients.port)
         found = {key: await new.call("GET", key) for key in texts}
         pushed, count = await new.call("LRANGE", "s:list", "0", "-1"), int(await new.call("GET", "s:count"))
@@ -168,7 +168,8 @@ async def refused() -> dict[str, bool]:
         said, slowest = await asyncio.gather(refusals(it, order, 5), slowest_read(redis, 5))
         redis.close()
         print(f"{first}; {len(said)} times again; the slowest read took {slowest:.2f} s, and {usual:.2f} s before")
-        return {"the order is told how large the value is": all("bytes" in text for text in [first, *said]), "reads go on": slowest < max(QUICK, TIMES * usual)}
+        return {"the order is told how large the value is": all("bytes" in text for text in [first, *said]),
+                "reads go on": slowest < max(QUICK, TIMES * usual)}
     finally:
         it.close()
 

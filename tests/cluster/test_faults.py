@@ -270,7 +270,8 @@ class ShapeTest(unittest.TestCase):
         cells = [{"server": "a", "state": "primary"}, {"server": "b", "state": "secondary"}]
         shards = [{"shard": f"s{it}", "load": 3, "listed": "a", "cells": cells} for it in range(40)]
         chosen = mover.choose({"servers": servers, "shards": shards}, 40)
-        self.assertEqual((len(chosen), sum(map(is_handover, chosen.values()))), (40 - sum(it not in chosen for it in (shard["shard"] for shard in shards)), HANDOVERS))
+        self.assertEqual(sum(map(is_handover, chosen.values())), HANDOVERS)
+        self.assertGreater(len(chosen), HANDOVERS)
         mover.busy, mover.passed = {"s1", "s2", "s3", "s4"}, {"s4"}
         again = mover.choose({"servers": servers, "shards": shards}, 40)
         self.assertEqual(sum(map(is_handover, again.values())), 0)
@@ -297,8 +298,8 @@ class LoadTest(unittest.TestCase):
         words = "--cluster f --history h --shards s,t --clients 3 --keys 4 --reads 0.5 --stray 0.25 --pause 0.75 --hot-clients 2 --moving m --largest 900 --seed 1001"
         words += " --open-clients 5 --rate 7 --comparers 6"
         _, load = load_of(words.split())
-        self.assertEqual(load, Load(shards=("s", "t"), clients=3, keys=4, reads=0.5, stray=0.25, pause=0.75, hot_clients=2, moving="m", largest=900, seed=1001, open_clients=5, rate=7,
-                                    comparers=6))
+        self.assertEqual(load, Load(shards=("s", "t"), clients=3, keys=4, reads=0.5, stray=0.25, pause=0.75, hot_clients=2, moving="m", largest=900,
+                                    seed=1001, open_clients=5, rate=7, comparers=6))
 
 
     def test_sizes_go_from_some_bytes_to_the_largest(self):

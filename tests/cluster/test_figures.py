@@ -19,7 +19,8 @@ def request(start, end, shard="s", **more):
 # The copy takes a second, and what clients wait for the old owner behind the cut some milliseconds.
 HANDOVER = [
     order(1000, "b", "begin", "prepare_add"), {"t": 2090 * MILLI, "server": "c", "kind": "copy", "shard": "s", "bytes": 3},
-    {"t": 2090 * MILLI, "server": "b", "kind": "copy", "shard": "s", "bytes": 7}, order(2100, "b", "commit", "prepare_add"), order(2200, "a", "begin", "prepare_drop", 2),
+    {"t": 2090 * MILLI, "server": "b", "kind": "copy", "shard": "s", "bytes": 7}, order(2100, "b", "commit", "prepare_add"),
+    order(2200, "a", "begin", "prepare_drop", 2),
     order(2202, "a", "commit", "prepare_drop", 2), {"t": 2205 * MILLI, "server": "b", "kind": "seal", "shard": "s"}, order(2300, "b", "begin", "add", 3),
     order(2310, "b", "commit", "add", 3), order(2400, "a", "begin", "drop", 4), order(2410, "a", "commit", "drop", 4),
 ]
