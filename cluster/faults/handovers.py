@@ -108,7 +108,7 @@ class HandoverStory(OutsideStory):
                     # (a request that is executed before the copy, and is not answered, is made again behind it)
                     await asyncio.sleep(0.5)
                     await self.operator.do({"do": "begin", "plan": plan_of(found.streams), "name": self.name("handover")})
-                    is_done = await self.wait_for_cells(dict.fromkeys(found.olds, found.new), "primary", 15.0)
+                    is_done = await self.wait_for_cells(dict.fromkeys(found.olds, found.new), "primary", 6.0)
                 self.tell(f"{', '.join(sorted(found.olds))} were handed over to {found.new}, while answers to clients were lost")
                 self.counts["handovers unheard by clients"] += is_done
                 return is_done

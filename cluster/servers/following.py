@@ -224,6 +224,9 @@ class Following:
         shard, store = self.shard, self.store
         position, chain, members = told["position"], told["chain"], set(told["members"])
         commands = await store.copied_commands(shard.name, copying)
+        if shard.slot.cell == Cell.PREPARED and shard.old_owner:  # (the cut came meanwhile)
+            members.add(shard.old_owner)
+            commands.append(("HSET", "old_owner", shard.name, shard.old_owner))
         for entry in copying.writes if self.server.bug != "copy-without-meanwhile" else ():
             has_it = entry.position <= copying.positions.get(entry.command[1], -1) and self.server.bug != "copy-counts-twice"
             commands += self.commands_of(entry, has_it)
