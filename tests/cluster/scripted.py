@@ -82,7 +82,7 @@ class Scripted:
             environment = os.environ | {"PYTHONPATH": f"{ROOT / 'python'}:{ROOT}"}
             self.processes[name] = subprocess.Popen(command, cwd=ROOT, env=environment, stdout=subprocess.PIPE)
         for name in names or self.names:
-            line = await asyncio.wait_for(asyncio.to_thread(self.processes[name].stdout.readline), 30)
+            line = await asyncio.wait_for(asyncio.to_thread(self.processes[name].stdout.readline), 90)
             if line != b"ready\n":
                 raise AssertionError(f"{name} did not start")
 
