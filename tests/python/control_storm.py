@@ -1,5 +1,5 @@
-"""`smplan-control run` with servers of examples/kv_http.py, under load, while everything is killed: nothing acknowledged is lost or doubled, no order has its
-effect twice, each server ends with what is recorded, and drains end by themselves.
+"""`smplan-control run` with servers of examples/kv_server.py (storm_http.py), under load, while everything is killed: nothing acknowledged is
+lost or doubled, no order has its effect twice, each server ends with what is recorded, and drains end by themselves.
 
     python3 tests/python/control_storm.py 'build/smpland' [--kills 200] [--servers 5] [--shards 6] [--seed 1] [--etcd 3] [--lease 3] [--keep FOLDER]
 

@@ -1,4 +1,4 @@
-"""A server of examples/kv_http.py for control_storm.py, which records beside its slots each order that it gets, and each that has its effect.
+"""A server for control_storm.py, which records beside its slots each order that it gets, and each that has its effect.
 
     python3 tests/python/storm_server.py NAME CONTROLLERS PATH
 
@@ -13,7 +13,7 @@ from dataclasses import replace
 from pathlib import Path
 
 sys.path.insert(0, str(Path(__file__).resolve().parents[2] / "examples"))
-import kv_http  # noqa: E402  (the path comes first)
+import storm_http as kv_http  # noqa: E402  (the path comes first)
 
 BUG = os.environ.get("STORM_BUG", "")
 TABLES = """
