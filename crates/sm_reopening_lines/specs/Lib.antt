@@ -1,4 +1,5 @@
 pub mod Laws
+pub mod Outcomes
 pub mod Parties
 pub mod Settles
 pub mod Taken

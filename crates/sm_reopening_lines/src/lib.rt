@@ -2,6 +2,7 @@
 #![tactic(auto)]
 
 mod law;
+mod outcome;
 mod proposed;
 mod refused;
 mod sent;
@@ -9,6 +10,7 @@ mod taken;
 mod told;
 
 pub use law::settles_bring_all;
+pub use outcome::ReopeningOutcome;
 pub use proposed::{write_proposal, write_state, write_waiting};
 pub use refused::{refuse_confirm, refuse_reopen};
 pub use sent::{write_fences, write_settles};

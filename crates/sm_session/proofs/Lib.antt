@@ -3,6 +3,7 @@ pub mod Declined
 pub mod Did
 pub mod Following
 pub mod Outcomes
+pub mod Reopenings
 pub mod Replayed
 pub mod Shifted
 pub mod Told

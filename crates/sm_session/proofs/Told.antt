@@ -26,7 +26,7 @@ use Rattle.sm_session.specs.declared.session.Session.{Session}
 use Rattle.sm_session.specs.Questions.{orders_reply}
 use Rattle.sm_session.specs.Answers.{Answers, AnswersLine, AnswersObject, IsBad, IsCommand, Object}
 use Rattle.sm_session.specs.Asked.{DoesToSession, IsKnownOver, setup_in_force}
-use Rattle.sm_session.specs.Replies.{IsLineReply, SessionTells, TellsChange, TellsChanges, TellsLine, TellsOpened, TellsValue}
+use Rattle.sm_session.specs.Replies.{IsLineReply, SessionTells, TellsChange, TellsChanges, TellsLine, TellsValue}
 
 -- the members of a line's reply, in braces; nothing was written before them
 pub replied : (asked : List ℕ) (old new : Session) (effect : LineEffect) (before after text : List ℕ) (first members : List Token) →
@@ -46,10 +46,6 @@ replied asked old new effect before after text first members is line e none chan
     line,
   ),
 )
-
--- if a call told nothing, the reply after it tells the open journal behind what stood before the call
-pub told_opened : (new : Option Opened) (before mid after : List Token) → mid ≡ before → TellsOpened new mid after → TellsOpened new before after
-told_opened new before mid after quiet told = subst (λ (ts : List Token). TellsOpened new ts after) quiet told
 
 -- the members behind the line's id
 pub told_behind : {E : Type 0} (r : Result Bool E) (value : Data) (command : LineCommand) (id : Option Id) (old new : Session) (before mid after : List Token) →

@@ -5,4 +5,5 @@ pub mod Checks
 pub mod Declines
 pub mod Outcomes
 pub mod Questions
+pub mod Reopenings
 pub mod Replies

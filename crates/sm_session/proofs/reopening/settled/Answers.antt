@@ -1,63 +1,35 @@
--- The last settle brings what was settled into force.
-use Rattle.std.proofs.Common.{◌≡◌, ◌∙◌, Some, Option, ap, inl, inr, refl, subst, sym}
-use Rattle.sm_document_reopening.specs.Reopening.{ReopeningModel}
-use Rattle.sm_reopening_lines.specs.Taken.{TakesSettledBy}
-use Rattle.sm_session.specs.Changes.{BecomesLast, HasGoneOn, reopening_under_way}
-use Rattle.sm_session.specs.declared.reopening.UnderWay.{UnderWay}
-use Rattle.sm_reopening.specs.declared.settling.SettledEffect.TheVariants.{Complete, Waiting}
-use Rattle.sm_session.specs.Asked.{StaysUnderWay}
-use Rattle.sm_session.specs.Replies.{TellsGoneOn}
-use Rattle.sm_session.proofs.Following.{comes_in_force, settled_by_line, tells_settled}
-use Rattle.sm_session.proofs.Told.{told_opened}
+use Rattle.std.proofs.Common.{◌∙◌, sym}
+use Rattle.sm_session.proofs.Reopenings.{old_keeps, old_keeps_open, settled_asked, settled_complete, settled_completes, settled_opens, settled_taken, settled_waits, waiting_keeps_open}
 use Rattle.sm_session.proofs.reopening.settled.Goals as goal
 
-pub returns-in_ok-put_in_force-in-Complete-clause-completes :
-    goal.returns-in_ok-put_in_force-in-Complete-clause-completes
-returns-in_ok-put_in_force-in-Complete-clause-completes c e =
-    let x : ReopeningModel = c.take_settled.new.reopening in
-    let was : Some c.in-Some.current ≡ c.args.under_way.now = (let v = c.in-Some.ensures.value in let i = c.in-Some.is in cc) in (
-      x,
-      subst (λ (o : Option UnderWay). BecomesLast (TakesSettledBy c.args.server c.args.base) (reopening_under_way o) x) was (elim c.in_ok-effect.ensures.taken [
-        | inl old ↦ absurd (let z = sym old ∙ e in cc)
-        | inr taken ↦ taken
-      ]),
-      c.in_ok-effect.ensures.complete e,
-      c.take.ensures.after,
-      c.in_ok-put_in_force-in-Complete.ensures.in_force,
-    )
+-- An old answer changes nothing.
+pub returns-in_ok-write_outcome-in-Ok-clause-old : goal.returns-in_ok-write_outcome-in-Ok-clause-old
+returns-in_ok-write_outcome-in-Ok-clause-old c = λ is. old_keeps_open c.args.server c.args.base _ _ _ _ c.in-Ok.came c.in-Ok.ensures (sym c.settled_effect.ensures ∙ is)
 
--- So it does, whichever party it is.
-pub returns-in_ok-put_in_force-in-Complete-clause-complete :
-    goal.returns-in_ok-put_in_force-in-Complete-clause-complete
-returns-in_ok-put_in_force-in-Complete-clause-complete c e =
-    comes_in_force c.args.server c.args.base _ _ _ (returns-in_ok-put_in_force-in-Complete-clause-completes c e)
+pub returns-in_ok-write_outcome-in-Ok-clause-unchanged : goal.returns-in_ok-write_outcome-in-Ok-clause-unchanged
+returns-in_ok-write_outcome-in-Ok-clause-unchanged c = λ is. old_keeps c.args.server c.args.base _ _ _ _ c.in-Ok.came c.in-Ok.ensures (sym c.settled_effect.ensures ∙ is)
 
--- The last answer itself tells nothing.
-pub returns-in_ok-put_in_force-in-Complete-clause-told :
-    goal.returns-in_ok-put_in_force-in-Complete-clause-told
-returns-in_ok-put_in_force-in-Complete-clause-told c e =
-    told_opened _ _ _ _ (c.in_ok-effect.ensures.quiet e) c.in_ok-put_in_force-in-Complete.ensures.told
+-- One that counts is the line's, and its reply tells who is missing.
+pub returns-in_ok-write_outcome-in-Ok-clause-stays : goal.returns-in_ok-write_outcome-in-Ok-clause-stays
+returns-in_ok-write_outcome-in-Ok-clause-stays c = λ is. waiting_keeps_open c.args.server c.args.base _ _ _ _ c.in-Ok.came c.in-Ok.ensures (sym c.settled_effect.ensures ∙ is)
 
--- An old answer changes nothing, and of one that counts others are missing.
-pub returns-in-Old : goal.returns-in-Old
-returns-in-Old c =
-    let before : ReopeningModel = c.in-Some.current.reopening in
-    let after : ReopeningModel = c.take_settled.new.reopening in
-    let was : Some c.in-Some.current ≡ c.args.under_way.now = (let v = c.in-Some.ensures.value in let i = c.in-Some.is in cc) in
-    let counts : c.in_ok-effect.effect ≡ Waiting → TakesSettledBy c.args.server c.args.base before after =
-    (λ e. elim c.in_ok-effect.ensures.taken [ inl old ↦ absurd (let z = sym old ∙ e in cc) | inr taken ↦ taken ]) in
-    let not_last : c.in_ok-effect.effect ≡ Complete → ⊥ =
-    (λ e. elim c.in-Old.is [ inl old ↦ absurd (let z = sym old ∙ e in cc) | inr waits ↦ absurd (let z = sym waits ∙ e in cc) ]) in
-    record {
-      old = λ _. refl;
-      unchanged = λ e. ap (λ (r : ReopeningModel). Some (record { reopening = r })) (c.in_ok-effect.ensures.unchanged e) ∙ was;
-      stays = λ _. refl;
-      waiting = λ e. subst (λ (o : Option UnderWay). HasGoneOn o (Some (record { reopening = after }))) was
-          (inr (inr (settled_by_line c.args.server c.args.base before after (counts e))));
-      asked = λ e. subst (λ (o : Option UnderWay). StaysUnderWay (TakesSettledBy c.args.server c.args.base) o (Some (record { reopening = after }))) was (counts e);
-      waits = λ e. subst (λ (o : Option UnderWay). TellsGoneOn o (Some (record { reopening = after })) c.args.writer.now.tokens c.take_settled.new.writer.tokens) was
-          (tells_settled c.args.server c.args.base before after _ _ (counts e) (c.in_ok-effect.ensures.waiting e));
-      complete = λ e. absurd (not_last e);
-      completes = λ e. absurd (not_last e);
-      told = λ e. absurd (not_last e);
-    }
+pub returns-in_ok-write_outcome-in-Ok-clause-waiting : goal.returns-in_ok-write_outcome-in-Ok-clause-waiting
+returns-in_ok-write_outcome-in-Ok-clause-waiting c = λ is. settled_taken c.args.server c.args.base _ _ _ _ c.in-Ok.came c.in-Ok.ensures (sym c.settled_effect.ensures ∙ is)
+
+pub returns-in_ok-write_outcome-in-Ok-clause-asked : goal.returns-in_ok-write_outcome-in-Ok-clause-asked
+returns-in_ok-write_outcome-in-Ok-clause-asked c = λ is. settled_asked c.args.server c.args.base _ _ _ _ c.in-Ok.came c.in-Ok.ensures (sym c.settled_effect.ensures ∙ is)
+
+pub returns-in_ok-write_outcome-in-Ok-clause-waits : goal.returns-in_ok-write_outcome-in-Ok-clause-waits
+returns-in_ok-write_outcome-in-Ok-clause-waits c = λ is.
+    settled_waits c.args.server c.args.base _ _ _ _ c.in-Ok.came c.in-Ok.ensures _ _ (sym c.settled_effect.ensures ∙ is) c.in_ok-write_outcome-in-Ok.ensures
+
+-- The last one brings what was settled into force, and its reply tells that.
+pub returns-in_ok-write_outcome-in-Ok-clause-complete : goal.returns-in_ok-write_outcome-in-Ok-clause-complete
+returns-in_ok-write_outcome-in-Ok-clause-complete c = λ is. settled_complete c.args.server c.args.base _ _ _ _ c.in-Ok.came c.in-Ok.ensures (sym c.settled_effect.ensures ∙ is)
+
+pub returns-in_ok-write_outcome-in-Ok-clause-completes : goal.returns-in_ok-write_outcome-in-Ok-clause-completes
+returns-in_ok-write_outcome-in-Ok-clause-completes c = λ is. settled_completes c.args.server c.args.base _ _ _ _ c.in-Ok.came c.in-Ok.ensures (sym c.settled_effect.ensures ∙ is)
+
+pub returns-in_ok-write_outcome-in-Ok-clause-told : goal.returns-in_ok-write_outcome-in-Ok-clause-told
+returns-in_ok-write_outcome-in-Ok-clause-told c = λ is.
+    settled_opens c.args.server c.args.base _ _ _ _ c.in-Ok.came c.in-Ok.ensures _ _ (sym c.settled_effect.ensures ∙ is) c.in_ok-write_outcome-in-Ok.ensures

@@ -1,0 +1,273 @@
+-- What comes of lines of a reopening to a session: what has counted is what was asked for, and its reply tells it.
+use Rattle.std.proofs.Common.{◌≡◌, ◌∙◌, ◌++◌, ◌⊎◌, ℕ, Bool, true, false, Bor, List, Option, Some, None, ap, inl, inr, refl, subst, sym}
+use Rattle.json.specs.Token.{Token}
+use Rattle.sm_reopening.specs.declared.settling.SettledEffect.TheVariants as effect
+use Rattle.sm_driver.specs.Driver.{DriverModel}
+use Rattle.sm_commands.specs.declared.command.ToldText.{ToldText}
+use Rattle.sm_open_journal.specs.declared.opened.Opened.{Opened}
+use Rattle.sm_document_reopening.specs.Reopening.{ReopeningModel}
+use Rattle.sm_reopening_lines.specs.Outcomes.{DoesConfirm, DoesFenced, DoesSettled, has_counted}
+use Rattle.sm_reopening_lines.specs.Taken.{ConfirmsAt, TakesFenced, TakesSettledBy}
+use Rattle.sm_reopening_lines.specs.declared.outcome.ReopeningOutcome.{ReopeningOutcome}
+use Rattle.sm_reopening_lines.specs.declared.outcome.ReopeningOutcome.TheVariants as outcome
+use Rattle.sm_reopening_lines.proofs.Outcomes.{all_took, counts_confirm, counts_fenced, counts_settled, confirm_is, fenced_is, keeps_confirm, keeps_fenced, keeps_settled, settled_is}
+use Rattle.sm_session.specs.Asked.{StaysUnderWay, texts_among}
+use Rattle.sm_session.specs.Changes.{BecomesLast, BeginsReopening, ComesInForce, ComesInForceBy, HasGoneOn, HasReopened, OpensOf, ReopensWithout, driver_of, reopening_under_way}
+use Rattle.sm_session.specs.Reopenings.{DoesReopen, DoesSettle, DoesUnderWay, TellsReopen, TellsUnderWay, has_begun, settled_effect}
+use Rattle.sm_session.specs.Replies.{Confirmed, Fenced, Settled, TellsFences, TellsGoneOn, TellsOn, TellsOpened}
+use Rattle.sm_session.specs.declared.reopening.ReopenLine.{ReopenLine}
+use Rattle.sm_session.specs.declared.reopening.ReopenOutcome.{ReopenOutcome}
+use Rattle.sm_session.specs.declared.reopening.ReopenOutcome.TheVariants as reopen
+use Rattle.sm_session.specs.declared.reopening.UnderWay.{UnderWay}
+use Rattle.sm_session.proofs.Following.{comes_in_force, settled_by_line, told_by_line}
+
+-- ---- lines on the reopening under way
+
+module _ (P : ReopeningModel → ReopeningOutcome → ReopeningModel → Type 0) (came : ReopeningOutcome) where
+  -- what has counted came of it
+  stays : (Q : ReopeningModel → ReopeningModel → Type 0) (old new : Option UnderWay) →
+      ((o n : ReopeningModel) → P o came n → has_counted came ≡ true → Q o n) →
+      DoesUnderWay P old came new → has_counted came ≡ true → StaysUnderWay Q old new
+  stays Q (Some o) (Some n) by does is = by o.reopening n.reopening does is
+  stays Q (Some o) None by does is = does
+  stays Q None (Some n) by does is = does
+  stays Q None None by does is = absurd (let z : false ≡ true = sym (ap has_counted does) ∙ is in cc)
+
+  -- all else leaves it as it is
+  keeps : (old new : Option UnderWay) → ((o n : ReopeningModel) → P o came n → has_counted came ≡ false → n ≡ o) →
+      DoesUnderWay P old came new → has_counted came ≡ false → new ≡ old
+  keeps (Some o) (Some n) by does is = ap (λ (r : ReopeningModel). Some (record { reopening = r })) (by o.reopening n.reopening does is)
+  keeps (Some o) None by does is = absurd does
+  keeps None (Some n) by does is = absurd does
+  keeps None None by does is = refl
+
+  -- and what has counted is told
+  tells : (opened : Option Opened) (old new : Option UnderWay) (before after : List Token) →
+      ((o n : UnderWay) → P o.reopening came n.reopening → has_counted came ≡ true → TellsUnderWay opened (Some n) came before after →
+      TellsOn o.reopening n.reopening before after) →
+      DoesUnderWay P old came new → has_counted came ≡ true → TellsUnderWay opened new came before after → TellsGoneOn old new before after
+  tells opened (Some o) (Some n) before after by does is told = by o n does is told
+  tells opened (Some o) None before after by does is told = does
+  tells opened None (Some n) before after by does is told = does
+  tells opened None None before after by does is told = absurd (let z : false ≡ true = sym (ap has_counted does) ∙ is in cc)
+
+-- a party has done as its line says, so the reopening has gone on
+goes_on : (Q : ReopeningModel → ReopeningModel → Type 0) (old new : Option UnderWay) →
+    ((o n : ReopeningModel) → Q o n → HasGoneOn (Some (record { reopening = o })) (Some (record { reopening = n }))) →
+    StaysUnderWay Q old new → HasGoneOn old new
+goes_on Q (Some o) (Some n) by does = by o.reopening n.reopening does
+goes_on Q (Some o) None by does = does
+goes_on Q None (Some n) by does = does
+goes_on Q None None by does = does
+
+-- ---- answers to fences
+
+module _ (server : Option (Bor (List ℕ))) (base : ℕ) (told : ToldText) (old new : Option UnderWay) (came : ReopeningOutcome) where
+  -- it is the line's
+  pub fenced_asked : DoesUnderWay (DoesFenced server base told) old came new → has_counted came ≡ true → StaysUnderWay (TakesFenced server base told) old new
+  fenced_asked = stays (DoesFenced server base told) came (TakesFenced server base told) old new (λ o n. counts_fenced server base told o n came)
+
+  -- the reopening has gone on
+  pub fenced_taken : DoesUnderWay (DoesFenced server base told) old came new → has_counted came ≡ true → HasGoneOn old new
+  fenced_taken does is =
+      goes_on (TakesFenced server base told) old new (λ o n taken. inl (told_by_line server base told o n taken)) (fenced_asked does is)
+
+  -- or nothing has changed
+  pub fenced_keeps : DoesUnderWay (DoesFenced server base told) old came new → has_counted came ≡ false → new ≡ old
+  fenced_keeps = keeps (DoesFenced server base told) came old new (λ o n. keeps_fenced server base told o n came)
+
+  -- and what has is told
+  pub fenced_tells : (opened : Option Opened) (before after : List Token) → DoesUnderWay (DoesFenced server base told) old came new →
+      has_counted came ≡ true → TellsUnderWay opened new came before after → TellsGoneOn old new before after
+  fenced_tells opened before after = tells (DoesFenced server base told) came opened old new before after (λ o n does is tells.
+      Fenced (told_by_line server base told o.reopening n.reopening (counts_fenced server base told o.reopening n.reopening came does is))
+      (subst (λ (it : ReopeningOutcome). TellsUnderWay opened (Some n) it before after) (fenced_is server base told o.reopening n.reopening came does is) tells))
+
+-- ---- confirmations
+
+module _ (base : ℕ) (old new : Option UnderWay) (came : ReopeningOutcome) where
+  -- it is the line's
+  pub confirm_asked : DoesUnderWay (DoesConfirm base) old came new → has_counted came ≡ true → StaysUnderWay (ConfirmsAt base) old new
+  confirm_asked = stays (DoesConfirm base) came (ConfirmsAt base) old new (λ o n. counts_confirm base o n came)
+
+  -- the reopening has gone on
+  pub confirm_taken : DoesUnderWay (DoesConfirm base) old came new → has_counted came ≡ true → HasGoneOn old new
+  confirm_taken does is = goes_on (ConfirmsAt base) old new (λ o n taken. inr (inl taken.1)) (confirm_asked does is)
+
+  -- or nothing has changed
+  pub confirm_keeps : DoesUnderWay (DoesConfirm base) old came new → has_counted came ≡ false → new ≡ old
+  confirm_keeps = keeps (DoesConfirm base) came old new (λ o n. keeps_confirm base o n came)
+
+  -- and what has is told
+  pub confirm_tells : (opened : Option Opened) (before after : List Token) → DoesUnderWay (DoesConfirm base) old came new →
+      has_counted came ≡ true → TellsUnderWay opened new came before after → TellsGoneOn old new before after
+  confirm_tells opened before after = tells (DoesConfirm base) came opened old new before after (λ o n does is tells.
+      Confirmed (counts_confirm base o.reopening n.reopening came does is).1
+      (subst (λ (it : ReopeningOutcome). TellsUnderWay opened (Some n) it before after) (confirm_is base o.reopening n.reopening came does is) tells))
+
+-- ---- answers to settles
+
+counted : (came : ReopeningOutcome) → settled_effect came ≡ effect.Waiting → has_counted came ≡ true
+counted outcome.Fenced is = refl
+counted outcome.Confirmed is = refl
+counted outcome.Settled is = refl
+counted outcome.Complete is = absurd (let z = is in cc)
+counted outcome.Old is = absurd (let z = is in cc)
+counted (outcome.Bad _) is = absurd (let z = is in cc)
+counted (outcome.Refused _) is = absurd (let z = is in cc)
+
+not_counted : (came : ReopeningOutcome) → settled_effect came ≡ effect.Old → has_counted came ≡ false
+not_counted outcome.Fenced is = absurd (let z = is in cc)
+not_counted outcome.Confirmed is = absurd (let z = is in cc)
+not_counted outcome.Settled is = absurd (let z = is in cc)
+not_counted outcome.Complete is = absurd (let z = is in cc)
+not_counted outcome.Old is = refl
+not_counted (outcome.Bad _) is = refl
+not_counted (outcome.Refused _) is = refl
+
+is_last : (came : ReopeningOutcome) → settled_effect came ≡ effect.Complete → came ≡ outcome.Complete
+is_last outcome.Fenced is = absurd (let z = is in cc)
+is_last outcome.Confirmed is = absurd (let z = is in cc)
+is_last outcome.Settled is = absurd (let z = is in cc)
+is_last outcome.Complete is = refl
+is_last outcome.Old is = absurd (let z = is in cc)
+is_last (outcome.Bad _) is = absurd (let z = is in cc)
+is_last (outcome.Refused _) is = absurd (let z = is in cc)
+
+module _ (server : Option (Bor (List ℕ))) (base : ℕ) (opened : Option Opened) (under : Option UnderWay) (new : Option Opened) (after_it : Option UnderWay) where
+  -- unless it is the last one, the open journal stays as it is
+  before_last : (came : ReopeningOutcome) → (settled_effect came ≡ effect.Complete → ⊥) → DoesSettle server base opened under came new after_it →
+      DoesUnderWay (DoesSettled server base) under came after_it × (new ≡ opened)
+  before_last outcome.Fenced others does = does
+  before_last outcome.Confirmed others does = does
+  before_last outcome.Settled others does = does
+  before_last outcome.Complete others does = absurd (others refl)
+  before_last outcome.Old others does = does
+  before_last (outcome.Bad _) others does = does
+  before_last (outcome.Refused _) others does = does
+
+  old_is : (came : ReopeningOutcome) → settled_effect came ≡ effect.Old → settled_effect came ≡ effect.Complete → ⊥
+  old_is came is last = let z : effect.Old ≡ effect.Complete = sym is ∙ last in cc
+
+  waiting_is : (came : ReopeningOutcome) → settled_effect came ≡ effect.Waiting → settled_effect came ≡ effect.Complete → ⊥
+  waiting_is came is last = let z : effect.Waiting ≡ effect.Complete = sym is ∙ last in cc
+
+  module _ (came : ReopeningOutcome) (does : DoesSettle server base opened under came new after_it) where
+    -- an old answer changes nothing
+    pub old_keeps_open : settled_effect came ≡ effect.Old → new ≡ opened
+    old_keeps_open is = (before_last came (old_is came is) does).1
+
+    -- neither in the reopening
+    pub old_keeps : settled_effect came ≡ effect.Old → after_it ≡ under
+    old_keeps is = keeps (DoesSettled server base) came under after_it (λ o n. keeps_settled server base o n came)
+        (before_last came (old_is came is) does).0 (not_counted came is)
+
+    -- one that counts leaves the journal as it is, as long as others are missing
+    pub waiting_keeps_open : settled_effect came ≡ effect.Waiting → new ≡ opened
+    waiting_keeps_open is = (before_last came (waiting_is came is) does).1
+
+    -- it is the line's
+    pub settled_asked : settled_effect came ≡ effect.Waiting → StaysUnderWay (TakesSettledBy server base) under after_it
+    settled_asked is = stays (DoesSettled server base) came (TakesSettledBy server base) under after_it (λ o n. counts_settled server base o n came)
+        (before_last came (waiting_is came is) does).0 (counted came is)
+
+    -- the reopening has gone on
+    pub settled_taken : settled_effect came ≡ effect.Waiting → HasGoneOn under after_it
+    settled_taken is = goes_on (TakesSettledBy server base) under after_it (λ o n taken. inr (inr (settled_by_line server base o n taken))) (settled_asked is)
+
+    -- and that is told
+    pub settled_waits : (before after : List Token) → settled_effect came ≡ effect.Waiting → TellsUnderWay new after_it came before after →
+        TellsGoneOn under after_it before after
+    settled_waits before after is = tells (DoesSettled server base) came new under after_it before after (λ o n did counts told.
+        Settled (settled_by_line server base o.reopening n.reopening (counts_settled server base o.reopening n.reopening came did counts))
+        (elim (settled_is server base o.reopening n.reopening came did counts) [
+          | inl e ↦ subst (λ (it : ReopeningOutcome). TellsUnderWay new (Some n) it before after) e told
+          | inr e ↦ absurd (waiting_is came is (ap settled_effect e))
+        ]))
+        (before_last came (waiting_is came is) does).0 (counted came is)
+
+    -- with the last one what was settled is in force
+    pub settled_completes : settled_effect came ≡ effect.Complete → ComesInForceBy (TakesSettledBy server base) under after_it new
+    settled_completes is = subst (λ (it : ReopeningOutcome). DoesSettle server base opened under it new after_it) (is_last came is) does
+
+    -- whichever party it is
+    pub settled_complete : settled_effect came ≡ effect.Complete → ComesInForce under after_it new
+    settled_complete is = comes_in_force server base under after_it new (settled_completes is)
+
+    -- and that is told
+    pub settled_opens : (before after : List Token) → settled_effect came ≡ effect.Complete → TellsUnderWay new after_it came before after →
+        TellsOpened new before after
+    settled_opens before after is told = opens new (settled_completes is) (subst (λ (it : ReopeningOutcome). TellsUnderWay new after_it it before after) (is_last came is) told)
+      where
+        opens : (o : Option Opened) → ComesInForceBy (TakesSettledBy server base) under after_it o → TellsUnderWay o after_it outcome.Complete before after →
+            TellsOpened o before after
+        opens (Some o) comes told = told
+        opens None comes told = absurd comes.4
+
+-- the last answer was taken, and what was settled came in force
+pub comes_by_last : (server : Option (Bor (List ℕ))) (base : ℕ) (current : UnderWay) (last : ReopeningModel) (came : ReopeningOutcome) (opened : Option Opened)
+    (under : Option UnderWay) (new : Option Opened) (after_it : Option UnderWay) → came ≡ outcome.Complete → Some current ≡ under →
+    DoesSettled server base current.reopening came last → after_it ≡ None → OpensOf last new → DoesSettle server base opened under came new after_it
+comes_by_last server base current last came opened under new after_it is was did none opens =
+    let does : DoesSettled server base current.reopening outcome.Complete last =
+    subst (λ (it : ReopeningOutcome). DoesSettled server base current.reopening it last) is did in
+    subst (λ (it : ReopeningOutcome). DoesSettle server base opened under it new after_it) (sym is) (
+      last,
+      subst (λ (o : Option UnderWay). BecomesLast (TakesSettledBy server base) (reopening_under_way o) last) was
+          (counts_settled server base current.reopening last outcome.Complete does refl),
+      (all_took server base current.reopening last does).0,
+      none,
+      opens,
+    )
+
+-- any other answer was, and the reopening goes on
+pub goes_on_by : (server : Option (Bor (List ℕ))) (base : ℕ) (current : UnderWay) (next : ReopeningModel) (came : ReopeningOutcome) (opened : Option Opened)
+    (under : Option UnderWay) (new : Option Opened) (after_it : Option UnderWay) → (came ≡ outcome.Complete → ⊥) → Some current ≡ under →
+    DoesSettled server base current.reopening came next → after_it ≡ Some (record { reopening = next }) → new ≡ opened →
+    DoesSettle server base opened under came new after_it
+goes_on_by server base current next came opened under new after_it others was did is stays = by_came came others under_way
+  where
+    under_way : DoesUnderWay (DoesSettled server base) under came after_it × (new ≡ opened)
+    under_way = (
+      subst (λ (o : Option UnderWay). DoesUnderWay (DoesSettled server base) o came after_it) was
+          (subst (λ (o : Option UnderWay). DoesUnderWay (DoesSettled server base) (Some current) came o) (sym is) did),
+      stays,
+    )
+
+    by_came : (it : ReopeningOutcome) → (it ≡ outcome.Complete → ⊥) → DoesUnderWay (DoesSettled server base) under it after_it × (new ≡ opened) →
+        DoesSettle server base opened under it new after_it
+    by_came outcome.Fenced others does = does
+    by_came outcome.Confirmed others does = does
+    by_came outcome.Settled others does = does
+    by_came outcome.Complete others does = absurd (others refl)
+    by_came outcome.Old others does = does
+    by_came (outcome.Bad _) others does = does
+    by_came (outcome.Refused _) others does = does
+
+-- ---- reopenings that begin
+
+nothing_begins : (lost : List (List ℕ)) (driver : Option DriverModel) (before : Option ReopeningModel) → BeginsReopening lost driver before None → ⊥
+nothing_begins lost driver (Some b) begun = begun
+nothing_begins lost (Some d) None begun = begun
+nothing_begins lost None None begun = begun
+
+module _ (line : ReopenLine) (opened : Option Opened) (under after_it : Option UnderWay) where
+  -- it is the line's
+  pub reopens : (came : ReopenOutcome) → DoesReopen line opened under came after_it → has_begun came ≡ true → DoesReopen line opened under reopen.Begun after_it
+  reopens reopen.Begun does is = does
+  reopens (reopen.NotBegun _) does is = absurd (let z = is in cc)
+
+  -- or nothing has changed
+  pub reopen_keeps : (came : ReopenOutcome) → DoesReopen line opened under came after_it → has_begun came ≡ false → after_it ≡ under
+  reopen_keeps reopen.Begun does is = absurd (let z = is in cc)
+  reopen_keeps (reopen.NotBegun _) does is = does
+
+  -- and what has begun is told
+  pub reopen_tells : (came : ReopenOutcome) (before after : List Token) → DoesReopen line opened under came after_it → has_begun came ≡ true →
+      TellsReopen after_it came before after → TellsFences after_it before after
+  reopen_tells (reopen.NotBegun _) before after does is told = absurd (let z = is in cc)
+  reopen_tells reopen.Begun before after does is told = begun after_it does.0 told
+    where
+      begun : (u : Option UnderWay) → ReopensWithout (texts_among line.lost.now) opened under u → TellsReopen u reopen.Begun before after → TellsFences u before after
+      begun (Some u) reopened told = told
+      begun None reopened told = absurd (nothing_begins (texts_among line.lost.now) (driver_of opened) (reopening_under_way under) reopened)

@@ -1,0 +1,85 @@
+-- What comes of lines of a reopening to a session, and the replies that tell it.
+-- `has_begun`, `DoesReopen`, `DoesUnderWay`, `DoesSettle`, `settled_effect`, `TellsNotBegun`, `TellsReopen` and `TellsUnderWay` are internal: you need not read
+-- them for the public contracts.
+use Rattle.std.specs.Prelude.{◌≡◌, ℕ, Bool, true, false, List, ◌++◌, IfSome, Option, Some, None, codes}
+use Rattle.std.specs.Borrow.{Bor}
+use Rattle.json.specs.Token.{Token}
+use Rattle.json_tree.specs.View.{view}
+use Rattle.sm_commands.specs.Members.{text_member}
+use Rattle.sm_commands.specs.BadLines.{told_bad}
+use Rattle.sm_commands.specs.Refusals.{TellsRefused}
+use Rattle.sm_commands.specs.declared.bad_line.BadLine.TheVariants as bad
+use Rattle.sm_commands.specs.declared.command_member.CommandMember.TheVariants as member
+use Rattle.sm_open_journal.specs.declared.opened.Opened.{Opened}
+use Rattle.sm_open_journal.specs.Bits.{hexadecimal}
+use Rattle.sm_open_journal.specs.Permits.{opened_member}
+use Rattle.sm_reopening.specs.declared.settling.SettledEffect.{SettledEffect}
+use Rattle.sm_reopening.specs.declared.settling.SettledEffect.TheVariants as effect
+use Rattle.sm_document_reopening.specs.Reopening.{ReopeningModel}
+use Rattle.sm_reopening_lines.specs.Outcomes.{DoesSettled, TellsOutcome}
+use Rattle.sm_reopening_lines.specs.Parties.{fences_member}
+use Rattle.sm_reopening_lines.specs.Taken.{TakesSettledBy}
+use Rattle.sm_reopening_lines.specs.declared.outcome.ReopeningOutcome.{ReopeningOutcome}
+use Rattle.sm_reopening_lines.specs.declared.outcome.ReopeningOutcome.TheVariants as outcome
+use Rattle.sm_session.specs.Asked.{IsUnderDocument, OpensAsNamed, texts_among}
+use Rattle.sm_session.specs.Changes.{ComesInForceBy, ReopensWithout}
+use Rattle.sm_session.specs.declared.reopening.NotBegun.{NotBegun}
+use Rattle.sm_session.specs.declared.reopening.NotBegun.TheVariants as not_begun
+use Rattle.sm_session.specs.declared.reopening.ReopenLine.{ReopenLine}
+use Rattle.sm_session.specs.declared.reopening.ReopenOutcome.{ReopenOutcome}
+use Rattle.sm_session.specs.declared.reopening.ReopenOutcome.TheVariants as reopen
+use Rattle.sm_session.specs.declared.reopening.UnderWay.{UnderWay}
+
+-- ---- changes
+
+-- a reopening has begun
+abbrev pub has_begun : ReopenOutcome → Bool
+has_begun reopen.Begun = true
+has_begun (reopen.NotBegun _) = false
+
+-- A line asks for a reopening: it has begun, under the line's document and without the servers that are lost; or nothing has changed.
+abbrev pub DoesReopen : ReopenLine → Option Opened → Option UnderWay → ReopenOutcome → Option UnderWay → Type 0
+DoesReopen line opened under reopen.Begun after =
+    ReopensWithout (texts_among line.lost.now) opened under after × IsUnderDocument (view line.document.now) after
+    × OpensAsNamed line.journal line.epoch opened under after
+DoesReopen line opened under (reopen.NotBegun _) after = after ≡ under
+
+-- this has come of a line to the reopening under way; without one, each line is old
+abbrev pub DoesUnderWay : (ReopeningModel → ReopeningOutcome → ReopeningModel → Type 0) → Option UnderWay → ReopeningOutcome → Option UnderWay → Type 0
+DoesUnderWay P (Some old) came (Some new) = P old.reopening came new.reopening
+DoesUnderWay P None came None = came ≡ outcome.Old
+DoesUnderWay P _ came _ = ⊥
+
+-- An answer to a settle, from the party that the line names: with the last one what was settled is in force. Any other leaves the journal as it is.
+abbrev pub DoesSettle : Option (Bor (List ℕ)) → ℕ → Option Opened → Option UnderWay → ReopeningOutcome → Option Opened → Option UnderWay → Type 0
+DoesSettle server base opened under outcome.Complete new after = ComesInForceBy (TakesSettledBy server base) under after new
+DoesSettle server base opened under came new after = DoesUnderWay (DoesSettled server base) under came after × (new ≡ opened)
+
+-- such an answer is the last one, or others are missing, or it is old
+abbrev pub settled_effect : ReopeningOutcome → SettledEffect
+settled_effect outcome.Complete = effect.Complete
+settled_effect outcome.Fenced = effect.Waiting
+settled_effect outcome.Confirmed = effect.Waiting
+settled_effect outcome.Settled = effect.Waiting
+settled_effect outcome.Old = effect.Old
+settled_effect (outcome.Bad _) = effect.Old
+settled_effect (outcome.Refused _) = effect.Old
+
+-- ---- replies
+
+-- the reply that tells why no reopening has begun
+abbrev pub TellsNotBegun : NotBegun → List Token → List Token → Type 0
+TellsNotBegun (not_begun.Malformed fault) before after = after ≡ before ++ told_bad (bad.Within member.Document fault)
+TellsNotBegun _ before after = TellsRefused before after
+
+-- the reply to a line that asks for a reopening: the fences of the one that has begun, or why none has
+abbrev pub TellsReopen : Option UnderWay → ReopenOutcome → List Token → List Token → Type 0
+TellsReopen after_it reopen.Begun before after =
+    IfSome after_it (λ (u : UnderWay). after ≡ before ++ fences_member (hexadecimal u.reopening.journal) u.reopening)
+TellsReopen after_it (reopen.NotBegun why) before after = TellsNotBegun why before after
+
+-- The reply to a line on the reopening under way: with the last settle that the next epoch is open, and otherwise what has come of the line.
+abbrev pub TellsUnderWay : Option Opened → Option UnderWay → ReopeningOutcome → List Token → List Token → Type 0
+TellsUnderWay opened under outcome.Complete before after = IfSome opened (λ (o : Opened). after ≡ before ++ opened_member o.driver)
+TellsUnderWay opened (Some u) came before after = TellsOutcome (hexadecimal u.reopening.journal) u.reopening came before after
+TellsUnderWay opened None came before after = after ≡ before ++ text_member (codes "ignored") (codes "old")
