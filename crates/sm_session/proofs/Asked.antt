@@ -1,5 +1,5 @@
 -- A session does the command that its line asks for.
-use Rattle.std.proofs.Common.{◌≡◌, ◌∙◌, Bool, true, false, ℕ, List, Option, Some, None, Result, Ok, Err, IfOk, ap, refl, subst, sym}
+use Rattle.std.proofs.Common.{◌≡◌, ◌∙◌, Bool, true, false, ℕ, List, Option, Some, None, Ok, ap, refl, subst, sym}
 use Rattle.std.specs.Prelude.{IfSome, is_some, length}
 use Rattle.json.specs.Token.{Token}
 use Rattle.serde_json.specs.Data.{Data}
@@ -8,46 +8,19 @@ use Rattle.sm_placement.specs.Lead.{IsSettled}
 use Rattle.sm_placement.specs.Opening.{opened_place}
 use Rattle.sm_placement.specs.Place.{Place}
 use Rattle.sm_placement.specs.Setup.{Setup, sizes_of}
-use Rattle.sm_plan_code.specs.Plan.{PlanModel}
 use Rattle.sm_plan_text.specs.Opened.{opening_of}
 use Rattle.sm_plan_text.specs.Reading.{read_data, rows_of}
 use Rattle.sm_plan_text.specs.declared.document.Document.{Document}
 use Rattle.sm_protocol.specs.State.{opened}
-use Rattle.sm_driver.specs.Driver.{DriverModel, HasBegunPlan, record_of}
+use Rattle.sm_driver.specs.Driver.{DriverModel, record_of}
 use Rattle.sm_open_journal.specs.declared.opened.Opened.{Opened}
-use Rattle.sm_session.specs.Asked.{BeginsPlanOf, IsFirstOpened, IsOpenedBy, OpensOver, SaysPlan}
+use Rattle.sm_session.specs.Asked.{IsFirstOpened, IsOpenedBy, OpensOver}
 use Rattle.sm_session.specs.Changes.{HasDriven, driver_of}
-use Rattle.sm_session.specs.Replies.{TellsBegun, TellsOpened, TellsPlan}
+use Rattle.sm_session.specs.Replies.{TellsOpened}
 
 -- what holds of what was found holds of it by its name
 pub found_is : {A : Type 0} (P : A → Type 0) (found : Option A) (x : A) → found ≡ Some x → IfSome found P → P x
 found_is P found x is holds = subst (λ o. IfSome o P) is holds
-
--- the plan that a value says was made ready, and has begun
-pub begun_as_said : {E R : Type 0} (r : Result Bool E) (plan_of : R → PlanModel) (read : Option PlanModel) (made : Option R) (plan : PlanModel) (ready : R)
-    (value : Data) (old new : DriverModel) → read ≡ Some plan → made ≡ Some ready →
-    IfSome read (SaysPlan old.machine.placement.setup value) → IfSome made (λ x. plan_of x ≡ plan) →
-    IfOk r (λ begun. begun ≡ true → (number : ℕ) × HasBegunPlan (plan_of ready) number old new) →
-    IfOk r (λ begun. begun ≡ true → BeginsPlanOf value old new)
-begun_as_said (Err _) plan_of read made plan ready value old new is_read is_made says same begun = tt
-begun_as_said (Ok b) plan_of read made plan ready value old new is_read is_made says same begun = λ is.
-    let did = begun is in
-    let equal : plan_of ready ≡ plan = found_is (λ x. plan_of x ≡ plan) made ready is_made same in
-    (plan, did.0, found_is (SaysPlan old.machine.placement.setup value) read plan is_read says, subst (λ p. HasBegunPlan p did.0 old new) equal did.1)
-
--- and its begin is told, behind what was written before the plan was read
-pub begun_and_told : {E R : Type 0} (r : Result Bool E) (plan_of : R → PlanModel) (read : Option PlanModel) (made : Option R) (plan : PlanModel) (ready : R)
-    (value : Data) (old new : DriverModel) (before mid after : List Token) → read ≡ Some plan → made ≡ Some ready → mid ≡ before →
-    IfSome read (SaysPlan old.machine.placement.setup value) → IfSome made (λ x. plan_of x ≡ plan) →
-    IfOk r (λ begun. begun ≡ true → TellsPlan (plan_of ready) old new mid after) →
-    IfOk r (λ begun. begun ≡ true → TellsBegun value old new before after)
-begun_and_told (Err _) plan_of read made plan ready value old new before mid after is_read is_made quiet says same told = tt
-begun_and_told (Ok b) plan_of read made plan ready value old new before mid after is_read is_made quiet says same told = λ is. (
-  plan,
-  found_is (SaysPlan old.machine.placement.setup value) read plan is_read says,
-  subst (λ (ts : List Token). TellsPlan plan old new ts after) quiet
-      (subst (λ p. TellsPlan p old new mid after) (found_is (λ x. plan_of x ≡ plan) made ready is_made same) (told is)),
-)
 
 -- of nothing that is there, there is none
 pub none_open : (o : Option Opened) (some : Bool) → some ≡ is_some o → some ≡ false → o ≡ None

@@ -1,5 +1,5 @@
 -- A reply declines a command, whatever was written before the reply.
-use Rattle.std.proofs.Common.{◌≡◌, ◌∙◌, ◌++◌, ◌∷◌, [], Bool, false, ℕ, List, Option, Some, Result, Ok, Err, IfOk, ap, inl, inr, refl, subst, sym}
+use Rattle.std.proofs.Common.{◌≡◌, ◌∙◌, ◌++◌, ◌∷◌, [], Bool, false, ℕ, List, Option, Some, Result, Ok, Err, IfOk, OnOk, ap, inl, inr, refl, subst, sym}
 use Rattle.std.specs.Prelude.{IfSome}
 use Rattle.json.specs.Token.{Token}
 use Rattle.json.specs.Print.{print}
@@ -13,7 +13,7 @@ use Rattle.sm_commands.specs.declared.bad_line.BadLine.{BadLine}
 use Rattle.sm_commands.specs.declared.command.Id.{Id}
 use Rattle.sm_commands.specs.declared.command.LineCommand.{LineCommand}
 use Rattle.sm_commands.proofs.Printed.{in_braces}
-use Rattle.sm_session.specs.Declines.{Declines, DeclinesBy, DeclinesLine, DeclinesValue, SessionDeclines}
+use Rattle.sm_session.specs.Declines.{Bad, Declines, DeclinesBy, DeclinesLine, DeclinesValue, SessionDeclines}
 use Rattle.sm_session.specs.declared.session.Session.{Session}
 
 -- something was read without a word, and what followed declined
@@ -28,11 +28,11 @@ pub declined_behind : {A B : Type 0} (first : Option A) (second : Option B) (x :
 declined_behind first second x y before mid later after is_first is_second quiet still declined =
     declined_after first x before mid after is_first quiet (declined_after second y mid later after is_second still declined)
 
--- the same of what may have failed
-pub may_decline_after : {E : Type 0} (P : Type 0) (r : Result Bool E) (before mid after : List Token) → mid ≡ before →
-    IfOk r (λ did. did ≡ false → Declines mid after) → IfOk r (λ did. did ≡ false → P → Declines before after)
-may_decline_after P (Ok _) before mid after is declined = λ none _. subst (λ (ts : List Token). Declines ts after) is (declined none)
-may_decline_after P (Err _) before mid after is declined = tt
+-- what is wrong with a line is told, and declines it
+pub bad_declines : {A E : Type 0} (r : Result A E) (fault : BadLine) (before after : List Token) → OnOk r (after ≡ before ++ told_bad fault) →
+    OnOk r (Declines before after)
+bad_declines (Ok _) fault before after told = Bad (fault, told)
+bad_declines (Err _) fault before after told = tt
 
 -- a command that is declined is so behind the line's id
 pub declined_command : {E : Type 0} (r : Result Bool E) (value : Data) (command : LineCommand) (id : Option Id) (s : Session) (before mid after : List Token) →

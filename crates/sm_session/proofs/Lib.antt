@@ -1,6 +1,7 @@
 pub mod Asked
 pub mod Declined
 pub mod Did
+pub mod Exchanged
 pub mod Following
 pub mod Outcomes
 pub mod Reopenings

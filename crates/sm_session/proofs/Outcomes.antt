@@ -1,22 +1,47 @@
--- An outcome of an answer, and the reply that tells it, say what was asked, what has changed and what is told: of one and the same stream.
-use Rattle.std.proofs.Common.{◌≡◌, ◌∙◌, ◌++◌, ◌&&◌, ◌||◌, Bool, true, false, ℕ, List, Result, Ok, Err, IfOk, ap, not, refl, subst, sym}
-use Rattle.std.specs.Prelude.{codes, if◌then◌else◌}
+-- An outcome of a command, and the reply that tells it, say what was asked, what has changed and what is told: of one and the same thing.
+use Rattle.std.proofs.Common.{◌≡◌, ◌∙◌, ◌++◌, ◌∷◌, ◌⊎◌, [], Bool, true, false, ℕ, List, Option, Some, None, Result, Ok, Err, IfOk, ap, inl, inr, not, refl, string_bytes, subst, sym}
+use Rattle.std.specs.Prelude.{IfSome, bytes_eq, codes, if◌then◌else◌}
 use Rattle.std.proofs.lemmas.Bool.{and_parts}
-use Rattle.json.specs.Token.{Token}
+use Rattle.std.proofs.lemmas.Slice.Eq.{bytes_eq-Decides}
+use Rattle.json.specs.Token.{Token, key}
+use Rattle.serde_json.specs.Data.{Data}
+use Rattle.sm_placement.specs.Setup.{Setup, server_named, sizes_of}
+use Rattle.sm_machine.specs.Machine.{MachineModel}
+use Rattle.sm_machine.specs.State.{whole_of}
 use Rattle.sm_reservation.specs.declared.stream_id.StreamId.{StreamId}
-use Rattle.sm_driver.specs.Driver.{DriverModel, HasTakenStep, answer_effect, is_due, is_past, record_of}
+use Rattle.sm_plan_code.specs.Plan.{PlanModel}
+use Rattle.sm_verifier.specs.Plan.{IsCheckedPlan}
+use Rattle.sm_names.specs.Names.{value_of}
+use Rattle.sm_driver.specs.Driver.{DriverModel, HasBegunPlan, HasTakenStep, answer_effect, is_due, is_past, record_of}
+use Rattle.sm_driver.specs.Restores.{RestoreModel, restore_at, was_told}
+use Rattle.sm_driver.specs.declared.driver.AnswerEffect.{AnswerEffect}
 use Rattle.sm_driver.specs.declared.driver.AnswerEffect.TheVariants as effect
 use Rattle.sm_driver.proofs.Effects.{moved_is_due}
-use Rattle.sm_commands.specs.Members.{text_member}
+use Rattle.sm_commands.specs.Members.{server_text, text_member}
+use Rattle.sm_commands.specs.Refusals.{TellsRefused}
+use Rattle.sm_commands.specs.declared.command.DriverCommand.{DriverCommand}
+use Rattle.sm_commands.specs.declared.command.DriverCommand.TheVariants as driver
+use Rattle.sm_open_journal.specs.declared.begun_plan.BegunPlan.{BegunPlan}
+use Rattle.sm_open_journal.specs.declared.given_permits.GivenPermit.{GivenPermit}
+use Rattle.sm_open_journal.specs.declared.opened.Opened.{Opened}
+use Rattle.sm_open_journal.specs.Begun.{begun_again_members, begun_members, begun_plan}
+use Rattle.sm_open_journal.specs.Given.{given_at}
+use Rattle.sm_open_journal.specs.Permits.{given_member, opened_member, permit_member}
 use Rattle.sm_open_journal.specs.Replies.{gone_on, moved_members, sinces_of}
-use Rattle.sm_session.specs.declared.outcome.Ignored.TheVariants as ignored
-use Rattle.sm_session.specs.declared.outcome.Outcome.{Outcome}
-use Rattle.sm_session.specs.declared.outcome.Outcome.TheVariants as outcome
-use Rattle.sm_session.specs.Answers.{TellsIgnored}
-use Rattle.sm_session.specs.Asked.{TakesAnswerOf}
-use Rattle.sm_session.specs.Declines.{Declines, Ignored}
-use Rattle.sm_session.specs.Outcomes.{DoesAnswer, HasMovedWith, has_changed, ignored_word, is_expected, outcome_reply, why_ignored}
-use Rattle.sm_session.specs.Replies.{TellsMoved}
+use Rattle.sm_open_journal.specs.Restores.{TellsKept, restore_object}
+use Rattle.sm_session.specs.declared.decline.Decline.{Decline}
+use Rattle.sm_session.specs.declared.decline.Decline.TheVariants as decline
+use Rattle.sm_session.specs.declared.decline.Ignored.TheVariants as ignored
+use Rattle.sm_session.specs.declared.outcome.DriverOutcome.{DriverOutcome}
+use Rattle.sm_session.specs.declared.outcome.DriverOutcome.TheVariants as outcome
+use Rattle.sm_session.specs.Answers.{AnswersAgain, TellsGiven}
+use Rattle.sm_session.specs.Asked.{DoesToDriver, SaysPlan}
+use Rattle.sm_session.specs.Changes.{Approves, Begins, Changes, Ends, OpensEpoch, Restores, Takes}
+use Rattle.sm_session.specs.Declines.{Declines, DriverDeclines, Ignored, Refused}
+use Rattle.sm_session.specs.Outcomes.{AnsweredOutcome, BeginOutcome, HasMovedWith, HasOutcome, NamesKnown, StartOutcome, TellsDecline, TellsOutcome, has_changed, ignored_word}
+use Rattle.sm_session.specs.Replies.{TellsChange}
+
+-- ---- the outcomes of answers
 
 by_old : (due past : Bool) → (if due then effect.Moved else if past then effect.Old else effect.Unknown) ≡ effect.Old → (due ≡ false) × (past ≡ true)
 by_old true past e = absurd (let z = e in cc)
@@ -32,66 +57,249 @@ not_true : (b : Bool) → not b ≡ true → b ≡ false
 not_true true is = absurd (let z = is in cc)
 not_true false is = refl
 
-module _ (id : StreamId) (number : ℕ) (is_reopening : Bool) (old : DriverModel) where
-  -- ---- the outcomes of answers
+-- a journal whose driver is as it was is as it was
+pub stays : (o : Opened) (d : DriverModel) → d ≡ o.driver → record o { driver = d } ≡ o
+stays o d e = ap (λ (x : DriverModel). record o { driver = x }) e
 
+-- so is one whose stream has not moved
+pub has_not_moved : (o : Opened) (d : DriverModel) (e f : AnswerEffect) → e ≡ f → (f ≡ effect.Moved → ⊥) → (e ≡ effect.Moved) ⊎ (d ≡ o.driver) → record o { driver = d } ≡ o
+has_not_moved o d e f is other (inl moved) = absurd (other (sym is ∙ moved))
+has_not_moved o d e f is other (inr same) = stays o d same
+
+module _ (id : StreamId) (number : ℕ) (is_reopening : Bool) (old : Opened) where
   -- a reopening is under way
-  pub broken_off : is_reopening ≡ true → (is_expected is_reopening old id number ≡ false) × (ignored.Old ≡ why_ignored is_reopening old id number)
-  broken_off is = (rw is refl, rw is refl)
+  pub broken_off : is_reopening ≡ true → AnsweredOutcome id number is_reopening old (outcome.Declined (decline.Ignored ignored.Old)) old
+  broken_off is = (rw is refl, rw is refl, refl)
 
   -- the stream has gone on
-  pub is_old : is_reopening ≡ false → answer_effect old id number ≡ effect.Old →
-      (is_expected is_reopening old id number ≡ false) × (ignored.Old ≡ why_ignored is_reopening old id number)
-  is_old free e = let is = by_old (is_due old id number) (is_past old id number) e in (rw (free, is.0) refl, rw (free, is.1) refl)
+  pub is_old : (new : Opened) → is_reopening ≡ false → answer_effect old.driver id number ≡ effect.Old → new ≡ old →
+      AnsweredOutcome id number is_reopening old (outcome.Declined (decline.Ignored ignored.Old)) new
+  is_old new free e same =
+      let is = by_old (is_due old.driver id number) (is_past old.driver id number) e in (rw (free, is.0) refl, rw (free, is.1) refl, same)
 
   -- nobody waits for it
-  pub is_unknown : is_reopening ≡ false → answer_effect old id number ≡ effect.Unknown →
-      (is_expected is_reopening old id number ≡ false) × (ignored.Unknown ≡ why_ignored is_reopening old id number)
-  is_unknown free e = let is = by_unknown (is_due old id number) (is_past old id number) e in (rw (free, is.0) refl, rw (free, is.1) refl)
+  pub is_unknown : (new : Opened) → is_reopening ≡ false → answer_effect old.driver id number ≡ effect.Unknown → new ≡ old →
+      AnsweredOutcome id number is_reopening old (outcome.Declined (decline.Ignored ignored.Unknown)) new
+  is_unknown new free e same =
+      let is = by_unknown (is_due old.driver id number) (is_past old.driver id number) e in (rw (free, is.0) refl, rw (free, is.1) refl, same)
 
   -- the stream has made its step
-  pub has_moved : {E : Type 0} (r : Result Outcome E) (mid new : DriverModel) (sinces : List ℕ) → is_reopening ≡ false → answer_effect old id number ≡ effect.Moved →
-      HasTakenStep id old mid → new ≡ mid → sinces ≡ sinces_of (record_of old) id.plan → IfOk r (HasMovedWith id (gone_on (record_of mid) id.plan sinces)) →
-      IfOk r (λ o. DoesAnswer id number is_reopening old o new)
+  pub has_moved : {E : Type 0} (r : Result DriverOutcome E) (mid : DriverModel) (new : Opened) (sinces : List ℕ) → is_reopening ≡ false →
+      answer_effect old.driver id number ≡ effect.Moved → HasTakenStep id old.driver mid → new.driver ≡ mid →
+      sinces ≡ sinces_of (record_of old.driver) id.plan → IfOk r (HasMovedWith id (gone_on (record_of mid) id.plan sinces)) →
+      IfOk r (λ o. AnsweredOutcome id number is_reopening old o new)
   has_moved (Ok (outcome.Moved stream gone)) mid new sinces free e taken same stood h = (
-    rw (free, moved_is_due old id number e) refl,
-    subst (HasTakenStep id old) (sym same) taken,
+    rw (free, moved_is_due old.driver id number e) refl,
+    subst (HasTakenStep id old.driver) (sym same) taken,
     h.0,
-    h.1 ∙ ap (λ ks. gone_on (record_of mid) id.plan ks) stood ∙ ap (λ (d : DriverModel). gone_on (record_of d) id.plan (sinces_of (record_of old) id.plan)) (sym same),
+    h.1 ∙ ap (λ ks. gone_on (record_of mid) id.plan ks) stood
+        ∙ ap (λ (d : DriverModel). gone_on (record_of d) id.plan (sinces_of (record_of old.driver) id.plan)) (sym same),
   )
-  has_moved (Ok (outcome.Ignored why)) mid new sinces free e taken same stood h = absurd h
+  has_moved (Ok _) mid new sinces free e taken same stood h = absurd h
   has_moved (Err x) mid new sinces free e taken same stood h = tt
 
-  -- ---- what they say
+-- ---- what they say
 
-  module _ (new : DriverModel) where
-    -- the stream that was asked for has made its step
-    pub takes : (o : Outcome) → DoesAnswer id number is_reopening old o new → has_changed o ≡ true → TakesAnswerOf id number old new
-    takes (outcome.Moved stream gone) h is = ((and_parts (not is_reopening) (is_due old id number) h.0).1, h.1)
-    takes (outcome.Ignored why) h is = absurd (let z = is in cc)
+-- what a command that changed something did, and what is told of it
+abbrev pub Did : (DriverModel → DriverModel → Type 0) → (DriverModel → DriverModel → List Token → List Token → Type 0) → Bool → Opened → DriverOutcome → Opened → Type 0
+Did Asked Tells is_reopening old o new =
+    (is_reopening ≡ false) × Asked old.driver new.driver × Changes old.driver new.driver
+    × ((before after : List Token) → TellsOutcome new o before after → Tells old.driver new.driver before after)
 
-    -- only while no reopening is under way
-    pub in_force : (o : Outcome) → DoesAnswer id number is_reopening old o new → has_changed o ≡ true → is_reopening ≡ false
-    in_force (outcome.Moved stream gone) h is = not_true is_reopening (and_parts (not is_reopening) (is_due old id number) h.0).0
-    in_force (outcome.Ignored why) h is = absurd (let z = is in cc)
+-- a reply that tells why nothing has come of a command declines it
+declines_by : (why : Decline) (before after : List Token) → TellsDecline why before after → Declines before after
+declines_by (decline.Ignored why) before after told = Ignored (ignored_word why, told)
+declines_by (decline.OtherServer at) before after told = Refused told
+declines_by _ before after told = told
 
-    module _ (before after : List Token) where
-      -- it is told
-      pub tells : (o : Outcome) → DoesAnswer id number is_reopening old o new → after ≡ before ++ outcome_reply new o → has_changed o ≡ true →
-          TellsMoved id number old new before after
-      tells (outcome.Moved stream gone) h told is = (
-        takes (outcome.Moved stream gone) h is,
-        told ∙ ap (λ s. before ++ moved_members new s gone.items) h.2 ∙ ap (λ ids. before ++ moved_members new id ids) h.3,
-      )
-      tells (outcome.Ignored why) h told is = absurd (let z = is in cc)
+-- one is told what it was told before
+given_again : (d : DriverModel) (server : List ℕ) (found : Option GivenPermit) (before after : List Token) →
+    IfSome found (λ given. bytes_eq (string_bytes given.server) server ≡ true) →
+    IfSome found (λ given. after ≡ before ++ given_member d (string_bytes given.server) given.permit) → IfSome found (λ given. TellsGiven d server given before after)
+given_again d server None before after is told = tt
+given_again d server (Some given) before after is told = record {
+  same = λ (yes : bytes_eq (string_bytes given.server) server ≡ true).
+      told ∙ ap (λ name. before ++ given_member d name given.permit) ((bytes_eq-Decides (string_bytes given.server) server).0 is);
+  other = λ (no : bytes_eq (string_bytes given.server) server ≡ false). absurd (let z : true ≡ false = sym is ∙ no in cc);
+}
 
-      -- an answer that changes nothing is declined
-      pub declines : (o : Outcome) → after ≡ before ++ outcome_reply new o → has_changed o ≡ false → Declines before after
-      declines (outcome.Moved stream gone) told is = absurd (let z = is in cc)
-      declines (outcome.Ignored why) told is = Ignored (ignored_word why, told)
+-- another server has the permit
+given_to_other : (d : DriverModel) (server : List ℕ) (found : Option GivenPermit) (before after : List Token) →
+    IfSome found (λ given. bytes_eq (string_bytes given.server) server ≡ false) → TellsRefused before after →
+    IfSome found (λ given. TellsGiven d server given before after)
+given_to_other d server None before after is told = tt
+given_to_other d server (Some given) before after is told = record {
+  same = λ (yes : bytes_eq (string_bytes given.server) server ≡ true). absurd (let z : true ≡ false = sym yes ∙ is in cc);
+  other = λ (no : bytes_eq (string_bytes given.server) server ≡ false). told;
+}
 
-      -- and why it is ignored is told
-      pub ignores : (o : Outcome) → DoesAnswer id number is_reopening old o new → after ≡ before ++ outcome_reply new o →
-          TellsIgnored old is_reopening id number before after
-      ignores (outcome.Moved stream gone) h told = λ none. absurd (let a = h.0 in let b = none in cc)
-      ignores (outcome.Ignored why) h told = λ none. told ∙ ap (λ w. before ++ text_member (codes "ignored") (ignored_word w)) h.1
+-- a server that was told nothing is told nothing again
+untold : (d : DriverModel) (nonce : ℕ) (found : Option ℕ) (before after : List Token) → IfSome found (λ v. was_told d.restores v nonce ≡ false) →
+    IfSome found (λ v. was_told d.restores v nonce ≡ true → TellsKept d v before after)
+untold d nonce None before after is = tt
+untold d nonce (Some v) before after is = λ was. absurd (let z : true ≡ false = sym was ∙ is in cc)
+
+-- a command that changed something
+pub did : (command : DriverCommand) (r : Bool) (old new : Opened) (o : DriverOutcome) → HasOutcome command r old o new → has_changed o ≡ true →
+    Did (DoesToDriver command) (TellsChange command) r old o new
+did command r old new (outcome.BegunBefore begun goes_on) h is = absurd (let z = is in cc)
+did command r old new (outcome.ApprovedBefore at) h is = absurd (let z = is in cc)
+did command r old new (outcome.RestoredBefore server nonce) h is = absurd (let z = is in cc)
+did command r old new (outcome.Declined why) h is = absurd (let z = is in cc)
+did (driver.Begin plan name) r old new (outcome.Begun begun) h is = let it = h.2 in (
+  h.0,
+  (it.0, begun.number, it.1, it.3),
+  Begins (it.0, begun.number, it.2, it.3),
+  λ before after told. (it.0, it.1, (begun.number, it.3, told ∙ ap (λ k. before ++ begun_members new.driver k) it.4)),
+)
+did (driver.Answered plan stream number) r old new (outcome.Moved id gone) h is =
+    let asked : StreamId = record { plan = plan; stream = stream } in
+    let due = and_parts (not r) (is_due old.driver asked number) h.0 in (
+      not_true r due.0,
+      (due.1, h.1),
+      Takes (asked, number, due.1, h.1),
+      λ before after told. ((due.1, h.1), told ∙ ap (λ s. before ++ moved_members new.driver s gone.items) h.2 ∙ ap (λ ids. before ++ moved_members new.driver asked ids) h.3),
+    )
+did (driver.Approve name by) r old new (outcome.Approved server permit) h is = (
+  h.0,
+  (server, permit, h.2, h.4),
+  Approves (server, permit, h.3, h.4),
+  λ before after told. (server, h.2, (permit, h.4, told)),
+)
+did (driver.Restarted permit base) r old new (outcome.Up server) h is =
+    (h.0, (server, h.1), Ends permit base (server, h.1), λ before after told. (server, h.1, told))
+did (driver.Restore name nonce) r old new (outcome.Restored server under) h is = (
+  h.0,
+  (server, h.1, h.3),
+  Restores (server, nonce, h.3),
+  λ before after told. (server, h.1, h.3, told),
+)
+did driver.NewEpoch r old new outcome.NextEpoch h is = (h.0, h.1, OpensEpoch h.1, λ before after told. (h.1, told))
+did _ r old new _ h is = absurd h
+
+-- one that changed nothing
+pub kept : (command : DriverCommand) (r : Bool) (old new : Opened) (o : DriverOutcome) → HasOutcome command r old o new → has_changed o ≡ false → new ≡ old
+kept command r old new (outcome.Begun begun) h is = absurd (let z = is in cc)
+kept command r old new (outcome.Moved id gone) h is = absurd (let z = is in cc)
+kept command r old new (outcome.Approved server permit) h is = absurd (let z = is in cc)
+kept command r old new (outcome.Up server) h is = absurd (let z = is in cc)
+kept command r old new (outcome.Restored server nonce) h is = absurd (let z = is in cc)
+kept command r old new outcome.NextEpoch h is = absurd (let z = is in cc)
+kept (driver.Begin plan name) r old new (outcome.BegunBefore begun goes_on) h is = h.2
+kept (driver.Begin plan name) r old new (outcome.Declined why) h is = h.1
+kept (driver.Answered plan stream number) r old new (outcome.Declined why) h is = h.2
+kept (driver.Approve name by) r old new (outcome.ApprovedBefore at) h is = h.2
+kept (driver.Approve name by) r old new (outcome.Declined (decline.OtherServer at)) h is = h.2
+kept (driver.Approve name by) r old new (outcome.Declined why) h is = h.1
+kept (driver.Restarted permit base) r old new (outcome.Declined why) h is = h
+kept (driver.Restore name nonce) r old new (outcome.RestoredBefore server under) h is = h.3
+kept (driver.Restore name nonce) r old new (outcome.Declined why) h is = h.1
+kept driver.NewEpoch r old new (outcome.Declined why) h is = h
+kept _ r old new _ h is = absurd h
+
+-- a server that is told its cells is known
+pub names_known : (command : DriverCommand) (r : Bool) (old new : Opened) (o : DriverOutcome) → HasOutcome command r old o new → NamesKnown new.driver o
+names_known (driver.Restore name nonce) r old new (outcome.Restored server under) h = h.5
+names_known (driver.Restore name nonce) r old new (outcome.RestoredBefore server under) h = h.2
+names_known _ r old new (outcome.Restored server under) h = absurd h
+names_known _ r old new (outcome.RestoredBefore server under) h = absurd h
+names_known _ r old new _ h = tt
+
+module _ (before after : List Token) where
+  -- a command that comes again is told what it was told, and an answer that nobody waits for is ignored
+  pub again : (command : DriverCommand) (r : Bool) (old new : Opened) (o : DriverOutcome) → HasOutcome command r old o new →
+      TellsOutcome new o before after → AnswersAgain command old r before after
+  again (driver.Begin plan name) r old new (outcome.Begun begun) h told = rw h.1 tt
+  again (driver.Begin plan name) r old new (outcome.BegunBefore begun goes_on) h told =
+      rw h.0 (told ∙ ap (λ g. before ++ begun_again_members new.driver begun g) h.1
+      ∙ ap (λ (o : Opened). before ++ begun_again_members o.driver begun (not r)) h.2)
+  again (driver.Begin plan name) r old new (outcome.Declined why) h told = rw h.0 tt
+  again (driver.Answered plan stream number) r old new (outcome.Moved id gone) h told = λ none. absurd (let a = h.0 in let b = none in cc)
+  again (driver.Answered plan stream number) r old new (outcome.Declined why) h told =
+      λ none. subst (λ (w : Decline). TellsDecline w before after) h.1 told
+  again (driver.Approve name by) r old new (outcome.Approved server permit) h told = rw h.1 tt
+  again (driver.Approve name by) r old new (outcome.ApprovedBefore at) h told =
+      rw h.0 (given_again old.driver name.now (given_at old.permits at) before after h.1.1
+      (subst (λ (o : Opened). TellsOutcome o (outcome.ApprovedBefore at) before after) h.2 told))
+  again (driver.Approve name by) r old new (outcome.Declined (decline.OtherServer at)) h told =
+      rw h.0 (given_to_other old.driver name.now (given_at old.permits at) before after h.1.1 told)
+  again (driver.Approve name by) r old new (outcome.Declined why) h told = rw h.0 tt
+  again (driver.Restarted permit base) r old new o h told = tt
+  again (driver.Restore name nonce) r old new (outcome.Restored server under) h told =
+      rw h.1 (λ was. absurd (let z : true ≡ false = sym was ∙ h.2 in cc))
+  again (driver.Restore name nonce) r old new (outcome.RestoredBefore server under) h told =
+      rw h.0 (λ was. subst (λ (o : Opened). TellsKept o.driver server before after) h.3 told)
+  again (driver.Restore name nonce) r old new (outcome.Declined why) h told =
+      untold old.driver nonce (server_named old.driver.machine.placement.setup name.now) before after h.0
+  again driver.NewEpoch r old new o h told = tt
+  again _ r old new _ h told = absurd h
+
+  -- a command is declined that changes nothing, but for one under a name that was used before
+  pub declines : (command : DriverCommand) (r : Bool) (old new : Opened) (o : DriverOutcome) → HasOutcome command r old o new →
+      TellsOutcome new o before after → has_changed o ≡ false → DriverDeclines command (Some old) before after
+  declines command r old new (outcome.Begun begun) h told is = absurd (let z = is in cc)
+  declines command r old new (outcome.Moved id gone) h told is = absurd (let z = is in cc)
+  declines command r old new (outcome.Approved server permit) h told is = absurd (let z = is in cc)
+  declines command r old new (outcome.Up server) h told is = absurd (let z = is in cc)
+  declines command r old new (outcome.Restored server nonce) h told is = absurd (let z = is in cc)
+  declines command r old new outcome.NextEpoch h told is = absurd (let z = is in cc)
+  declines (driver.Begin plan name) r old new (outcome.BegunBefore begun goes_on) h told is = λ none. absurd (let z : Some begun ≡ None = sym h.0 ∙ none in cc)
+  declines (driver.Begin plan name) r old new (outcome.Declined why) h told is = λ none. declines_by why before after told
+  declines (driver.Answered plan stream number) r old new (outcome.Declined why) h told is = declines_by why before after told
+  declines (driver.Approve name by) r old new (outcome.ApprovedBefore at) h told is = λ none. absurd (let z : Some at ≡ None = sym h.0 ∙ none in cc)
+  declines (driver.Approve name by) r old new (outcome.Declined why) h told is = λ none. declines_by why before after told
+  declines (driver.Restarted permit base) r old new (outcome.Declined why) h told is = declines_by why before after told
+  declines (driver.Restore name nonce) r old new (outcome.RestoredBefore server under) h told is = λ none. absurd (let z : Some server ≡ None = sym h.0 ∙ none in cc)
+  declines (driver.Restore name nonce) r old new (outcome.Declined why) h told is = λ none. declines_by why before after told
+  declines driver.NewEpoch r old new (outcome.Declined why) h told is = declines_by why before after told
+  declines _ r old new _ h told is = absurd h
+
+-- what a server is told is told by some members
+kept_told : (d : DriverModel) (v : ℕ) (found : Option RestoreModel) →
+    (members : List Token) × IfSome found (λ restore. members ≡ key (codes "restore") ∷ restore_object d v restore)
+kept_told d v None = ([], tt)
+kept_told d v (Some restore) = (key (codes "restore") ∷ restore_object d v restore, refl)
+
+-- so is a change
+pub told_by : (new : Opened) (o : DriverOutcome) → has_changed o ≡ true → (members : List Token) × TellsOutcome new o [] members
+told_by new (outcome.Begun begun) is = (begun_members new.driver begun, refl)
+told_by new (outcome.BegunBefore begun goes_on) is = absurd (let z = is in cc)
+told_by new (outcome.Moved id gone) is = (moved_members new.driver id gone.items, refl)
+told_by new (outcome.Approved server permit) is = (permit_member (codes "approved") (server_text new.driver.machine.placement.setup server) permit, refl)
+told_by new (outcome.ApprovedBefore at) is = absurd (let z = is in cc)
+told_by new (outcome.Up server) is = (text_member (codes "up") (server_text new.driver.machine.placement.setup server), refl)
+told_by new (outcome.Restored server nonce) is = kept_told new.driver server (restore_at new.driver.restores server)
+told_by new (outcome.RestoredBefore server nonce) is = absurd (let z = is in cc)
+told_by new outcome.NextEpoch is = (opened_member new.driver, refl)
+told_by new (outcome.Declined why) is = absurd (let z = is in cc)
+
+-- ---- begins
+
+-- the sizes of a machine's state are those of its configuration
+sizes_are : (m : MachineModel) → (whole_of m).state.sizes ≡ sizes_of m.placement.setup
+unfolding whole_of
+sizes_are m = refl
+
+-- a plan was checked for the driver's configuration
+pub checked_for : (d : DriverModel) (setup : Setup) (plan : PlanModel) → setup ≡ d.machine.placement.setup → IsCheckedPlan (sizes_of setup) plan →
+    IsCheckedPlan (record_of d).sizes plan
+checked_for d setup plan same checked =
+    subst (λ sizes. IsCheckedPlan sizes plan) (sym (sizes_are d.machine)) (subst (λ rows. IsCheckedPlan (sizes_of rows) plan) same checked)
+
+-- a plan has begun under the number that it is told with
+pub starts_as : (plan : PlanModel) (number : ℕ) (begun : BegunPlan) (old new : Opened) (mid : DriverModel) → HasBegunPlan plan number old.driver mid →
+    new.driver ≡ mid → begun ≡ begun_plan new.driver number → StartOutcome plan old (outcome.Begun begun) new
+starts_as plan number begun old new mid has same is =
+    let under : number ≡ begun.number = sym (ap (λ (b : BegunPlan). b.number) is) in (
+      subst (λ k. HasBegunPlan plan k old.driver new.driver) under (subst (HasBegunPlan plan number old.driver) (sym same) has),
+      is ∙ ap (λ k. begun_plan new.driver k) under,
+    )
+
+-- the plan that a value says was ready
+pub begins_as_said : {E : Type 0} (r : Result DriverOutcome E) (plan : PlanModel) (value : Data) (name : List ℕ) (is_reopening : Bool) (old new : Opened) →
+    is_reopening ≡ false → value_of old.plans name ≡ None → SaysPlan old.driver.machine.placement.setup value plan → IsCheckedPlan (record_of old.driver).sizes plan →
+    IfOk r (λ o. StartOutcome plan old o new) → IfOk r (λ o. BeginOutcome value name is_reopening old o new)
+begins_as_said (Ok (outcome.Begun begun)) plan value name is_reopening old new free none says checked h = (free, none, (plan, says, checked, h.0, h.1))
+begins_as_said (Ok (outcome.Declined why)) plan value name is_reopening old new free none says checked h = (none, h)
+begins_as_said (Ok _) plan value name is_reopening old new free none says checked h = absurd h
+begins_as_said (Err _) plan value name is_reopening old new free none says checked h = tt

@@ -1,31 +1,21 @@
 -- Entries that are applied again have replies, which are not made.
-use Rattle.std.proofs.Common.{◌≡◌, ◌∙◌, ◌++◌, [], Bool, true, false, ℕ, List, Option, Some, None, Result, Ok, Err, IfOk, OnOk, inl, refl, subst, sym}
-use Rattle.std.specs.Prelude.{IfSome, is_some}
+use Rattle.std.proofs.Common.{◌≡◌, ◌++◌, [], Bool, true, ℕ, List, Option, Some, None, Result, Ok, Err, IfOk, OnOk, inl, refl, subst}
 use Rattle.json.specs.Token.{Token}
 use Rattle.json.specs.Print.{print}
 use Rattle.serde_json.specs.Data.{Data}
-use Rattle.sm_reservation.specs.declared.stream_id.StreamId.{StreamId}
 use Rattle.sm_plan_text.specs.Reading.{data_of}
 use Rattle.sm_commands.specs.declared.bad_line.BadLine.TheVariants as bad
 use Rattle.sm_commands.specs.declared.command.LineCommand.{LineCommand}
-use Rattle.sm_commands.specs.declared.command.LineCommand.TheVariants as line
-use Rattle.sm_commands.specs.declared.command.DriverCommand.TheVariants as driver
 use Rattle.sm_commands.specs.BadLines.{told_bad}
 use Rattle.sm_commands.specs.Ids.{line_id}
 use Rattle.sm_commands.specs.Lines.{Says}
 use Rattle.sm_commands.specs.Members.{object}
-use Rattle.sm_open_journal.specs.declared.opened.Opened.{Opened}
-use Rattle.sm_session.specs.declared.reopening.UnderWay.{UnderWay}
 use Rattle.sm_session.specs.declared.session.LineEffect.{LineEffect}
 use Rattle.sm_session.specs.declared.session.LineEffect.TheVariants.{Changed, Unchanged}
 use Rattle.sm_session.specs.declared.session.Session.{Session}
-use Rattle.sm_session.specs.Answers.{Answers, AnswersLine, IsBad, IsCommand, NotJson, Object, TellsIgnored}
-use Rattle.sm_session.specs.Asked.{DoesToSession, IsKnownOver, StaysOpen, TakesAnswerOf, setup_in_force}
-use Rattle.sm_session.specs.Changes.{Drives, HasChanged, Takes}
-use Rattle.sm_session.specs.Outcomes.{DoesAnswer, has_changed, outcome_reply}
-use Rattle.sm_session.specs.declared.outcome.Outcome.{Outcome}
-use Rattle.sm_session.specs.Replies.{RepliesTo, SessionTells, TellsChanges, TellsLine}
-use Rattle.sm_session.proofs.Outcomes.{ignores, in_force, takes, tells}
+use Rattle.sm_session.specs.Answers.{Answers, AnswersLine, IsBad, IsCommand, NotJson, Object}
+use Rattle.sm_session.specs.Asked.{DoesToSession, IsKnownOver, setup_in_force}
+use Rattle.sm_session.specs.Replies.{RepliesTo, SessionTells, TellsLine}
 use Rattle.sm_session.proofs.Shifted.{answered_behind_any, told_behind_any}
 
 -- the members that a writer got which had written nothing tell what was done, and answer the command
@@ -39,34 +29,7 @@ told_anew (Ok x) command old new before after none told answers = λ is. (
 )
 told_anew (Err x) command old new before after none told answers = tt
 
--- an answer that was taken again
-module _ (opened new : Option Opened) (under after_it : Option UnderWay) (o p : Opened) (is_reopening : Bool) (id : StreamId) (number : ℕ) (outcome : Outcome)
-    (was : opened ≡ Some o) (is_now : new ≡ Some p) (stays : after_it ≡ under) (none : is_reopening ≡ false → under ≡ None) (same : is_reopening ≡ is_some under)
-    (does : DoesAnswer id number is_reopening o.driver outcome p.driver) (is : has_changed outcome ≡ true) where
-  free : under ≡ None
-  free = none (in_force id number is_reopening o.driver p.driver outcome does is)
-
-  -- it is one that a line asks for
-  pub answer_asked : StaysOpen (TakesAnswerOf id number) opened new
-  answer_asked = rw (was, is_now) (takes id number is_reopening o.driver p.driver outcome does is)
-
-  -- and a change
-  pub answer_changes : HasChanged opened under new after_it
-  answer_changes =
-      let did = takes id number is_reopening o.driver p.driver outcome does is in
-      rw (was, is_now, stays) (Drives free free (Takes (id, number, did.0, did.1)))
-
-  -- the members that it would have had
-  pub told_answer : (members : List Token) × TellsChanges (line.Driver (driver.Answered id.plan id.stream number)) opened under new after_it [] members
-      × IfSome opened (λ o. TellsIgnored o.driver (is_some under) id number [] members)
-  told_answer =
-      let members = outcome_reply p.driver outcome in (
-        members,
-        rw (was, is_now, stays) (free, free, tells id number is_reopening o.driver p.driver [] members outcome does refl is),
-        rw was (subst (λ (b : Bool). TellsIgnored o.driver b id number [] members) same (ignores id number is_reopening o.driver p.driver [] members outcome does refl)),
-      )
-
--- they tell an entry by its value, behind its id
+-- members that tell what was done tell an entry by its value, behind its id
 pub told_entry : {E : Type 0} (r : Result Bool E) (entry : List ℕ) (value : Data) (command : LineCommand) (old new : Session) →
     data_of entry ≡ Some value → Says value command → IsKnownOver (setup_in_force old) command →
     IfOk r (λ changed. changed ≡ true → DoesToSession command old new) →

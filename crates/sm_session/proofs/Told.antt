@@ -9,7 +9,6 @@ use Rattle.sm_commands.specs.declared.command.Id.{Id}
 use Rattle.sm_commands.specs.declared.bad_line.BadLine.{BadLine}
 use Rattle.sm_commands.specs.declared.command.LineCommand.{LineCommand}
 use Rattle.sm_commands.specs.declared.command.LineCommand.TheVariants as line
-use Rattle.sm_commands.specs.declared.command.DriverCommand.{DriverCommand}
 use Rattle.sm_commands.specs.declared.command.Question.{Question}
 use Rattle.sm_commands.specs.declared.command.Question.TheVariants as question
 use Rattle.sm_commands.specs.BadLines.{told_bad}
@@ -19,14 +18,13 @@ use Rattle.sm_commands.specs.Members.{id_members, object}
 use Rattle.sm_commands.specs.Writer.{HasNoLineFeed}
 use Rattle.sm_commands.proofs.Printed.{in_braces}
 use Rattle.sm_open_journal.specs.declared.opened.Opened.{Opened}
-use Rattle.sm_session.specs.declared.reopening.UnderWay.{UnderWay}
 use Rattle.sm_session.specs.declared.session.LineEffect.{LineEffect}
 use Rattle.sm_session.specs.declared.session.LineEffect.TheVariants.{Changed}
 use Rattle.sm_session.specs.declared.session.Session.{Session}
 use Rattle.sm_session.specs.Questions.{orders_reply}
 use Rattle.sm_session.specs.Answers.{Answers, AnswersLine, AnswersObject, IsBad, IsCommand, Object}
 use Rattle.sm_session.specs.Asked.{DoesToSession, IsKnownOver, setup_in_force}
-use Rattle.sm_session.specs.Replies.{IsLineReply, SessionTells, TellsChange, TellsChanges, TellsLine, TellsValue}
+use Rattle.sm_session.specs.Replies.{IsLineReply, SessionTells, TellsLine, TellsValue}
 
 -- the members of a line's reply, in braces; nothing was written before them
 pub replied : (asked : List ℕ) (old new : Session) (effect : LineEffect) (before after text : List ℕ) (first members : List Token) →
@@ -90,15 +88,6 @@ answered_line (Err x) text value s before after is answers = tt
 -- what holds of what was read holds of it by its name
 pub read_is : {A E : Type 0} (P : A → Type 0) (r : Result A E) (x : A) → r ≡ Ok x → IfOk r P → P x
 read_is P r x is holds = subst (λ (it : Result _ _). IfOk it P) is holds
-
--- what a command tells of the driver, as long as no reopening is under way
-pub told_driven : {E : Type 0} (r : Result Bool E) (command : DriverCommand) (opened new : Option Opened) (under after_it : Option UnderWay) (o p : Opened) (is_reopening : Bool) (before after : List Token) →
-    opened ≡ Some o → new ≡ Some p → after_it ≡ under → (is_reopening ≡ false → under ≡ None) →
-    IfOk r (λ changed. changed ≡ true → TellsChange command o.driver p.driver before after) → IfOk r (λ changed. changed ≡ true → is_reopening ≡ false) →
-    IfOk r (λ changed. changed ≡ true → TellsChanges (line.Driver command) opened under new after_it before after)
-told_driven (Ok x) command opened new under after_it o p is_reopening before after was is_now stays none told in_force =
-    λ is. rw (was, is_now, stays) (none (in_force is), none (in_force is), told is)
-told_driven (Err e) command opened new under after_it o p is_reopening before after was is_now stays none told in_force = tt
 
 -- a question is answered: `orders` as long as no reopening is under way
 pub answers_question : (asked : Question) (s : Session) (before after : List Token) →

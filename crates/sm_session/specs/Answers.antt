@@ -1,6 +1,6 @@
 -- Answers to lines, whether they change something or not: a command that comes again is told what it was told, an answer that no stream waits for is
 -- ignored, `orders` tells all orders, and a line that is no command is told as bad.
-use Rattle.std.specs.Prelude.{◌≡◌, ◌<◌, ◌⊎◌, ℕ, Bool, true, false, List, ◌++◌, Option, Some, None, IfSome, bytes_eq, codes, is_some, length, not, string_bytes}
+use Rattle.std.specs.Prelude.{◌≡◌, ◌<◌, ◌⊎◌, ℕ, Bool, true, false, List, ◌++◌, Some, None, IfSome, bytes_eq, codes, is_some, length, not, string_bytes}
 use Rattle.json.specs.Token.{Token}
 use Rattle.serde_json.specs.Data.{Data}
 use Rattle.serde_json.specs.Find.{as_object}

@@ -1,15 +1,38 @@
--- What comes of commands, and the replies that tell it.
--- `outcome_reply`, `has_changed`, `HasMovedWith` and `DoesAnswer` are internal: you need not read them for the public contracts.
-use Rattle.std.specs.Prelude.{◌≡◌, ℕ, ◌&&◌, ◌||◌, Bool, true, false, List, ◌++◌, codes, if◌then◌else◌, not}
+-- The outcomes of commands on an open journal, and the replies that tell them.
+-- All but `ignored_word`, `is_expected` and `why_ignored` is internal: you need not read it for the public contracts.
+use Rattle.std.specs.Prelude.{◌≡◌, ◌<◌, ℕ, ◌&&◌, ◌||◌, Bool, true, false, List, ◌++◌, Option, Some, None, IfSome, bytes_eq, codes, if◌then◌else◌, not, string_bytes}
 use Rattle.json.specs.Token.{Token}
+use Rattle.serde_json.specs.Data.{Data}
+use Rattle.json_tree.specs.View.{view}
+use Rattle.sm_placement.specs.Setup.{server_named}
 use Rattle.sm_reservation.specs.declared.stream_id.StreamId.{StreamId}
-use Rattle.sm_driver.specs.Driver.{DriverModel, HasTakenStep, is_due, is_past, record_of}
-use Rattle.sm_commands.specs.Members.{text_member}
+use Rattle.sm_plan_code.specs.Plan.{PlanModel}
+use Rattle.sm_verifier.specs.Plan.{IsCheckedPlan}
+use Rattle.sm_names.specs.Names.{value_of}
+use Rattle.sm_driver.specs.Driver.{DriverModel, HasApproved, HasBegunPlan, HasEndedRestart, HasRestored, HasTakenStep, is_due, is_past, record_of}
+use Rattle.sm_driver.specs.Restores.{was_told}
+use Rattle.sm_commands.specs.Members.{server_text, text_member}
+use Rattle.sm_commands.specs.Refusals.{TellsRefused}
+use Rattle.sm_commands.specs.declared.command.DriverCommand.{DriverCommand}
+use Rattle.sm_commands.specs.declared.command.DriverCommand.TheVariants as driver
+use Rattle.sm_open_journal.specs.declared.begun_plan.BegunPlan.{BegunPlan}
+use Rattle.sm_open_journal.specs.declared.given_permits.GivenAt.{GivenAt}
+use Rattle.sm_open_journal.specs.declared.given_permits.GivenPermit.{GivenPermit}
+use Rattle.sm_open_journal.specs.declared.opened.Opened.{Opened}
+use Rattle.sm_open_journal.specs.Begun.{begun_again_members, begun_members, begun_plan}
+use Rattle.sm_open_journal.specs.Given.{given_at}
+use Rattle.sm_open_journal.specs.Permits.{given_member, opened_member, permit_member}
 use Rattle.sm_open_journal.specs.Replies.{gone_on, moved_members, sinces_of}
-use Rattle.sm_session.specs.declared.outcome.Ignored.{Ignored}
-use Rattle.sm_session.specs.declared.outcome.Ignored.TheVariants as ignored
-use Rattle.sm_session.specs.declared.outcome.Outcome.{Outcome}
-use Rattle.sm_session.specs.declared.outcome.Outcome.TheVariants as outcome
+use Rattle.sm_open_journal.specs.Restores.{TellsKept}
+use Rattle.sm_session.specs.Asked.{SaysPlan}
+use Rattle.sm_session.specs.Changes.{OpensNext}
+use Rattle.sm_session.specs.Declines.{Declines}
+use Rattle.sm_session.specs.declared.decline.Decline.{Decline}
+use Rattle.sm_session.specs.declared.decline.Decline.TheVariants as decline
+use Rattle.sm_session.specs.declared.decline.Ignored.{Ignored}
+use Rattle.sm_session.specs.declared.decline.Ignored.TheVariants as ignored
+use Rattle.sm_session.specs.declared.outcome.DriverOutcome.{DriverOutcome}
+use Rattle.sm_session.specs.declared.outcome.DriverOutcome.TheVariants as outcome
 
 -- ---- replies
 
@@ -18,15 +41,69 @@ abbrev pub ignored_word : Ignored → List ℕ
 ignored_word ignored.Old = codes "old"
 ignored_word ignored.Unknown = codes "unknown"
 
--- the reply that tells an outcome, by the driver after the change
-abbrev pub outcome_reply : DriverModel → Outcome → List Token
-outcome_reply d (outcome.Moved id gone) = moved_members d id gone.items
-outcome_reply d (outcome.Ignored why) = text_member (codes "ignored") (ignored_word why)
+-- behind what was written is told why nothing has come of a command
+abbrev pub TellsDecline : Decline → List Token → List Token → Type 0
+TellsDecline (decline.Ignored why) before after = after ≡ before ++ text_member (codes "ignored") (ignored_word why)
+TellsDecline (decline.OtherServer at) before after = TellsRefused before after
+TellsDecline _ before after = Declines before after
+
+-- behind it is told, by the journal after the change, the outcome of a command
+abbrev pub TellsOutcome : Opened → DriverOutcome → List Token → List Token → Type 0
+TellsOutcome o (outcome.Begun plan) before after = after ≡ before ++ begun_members o.driver plan
+TellsOutcome o (outcome.BegunBefore plan goes_on) before after = after ≡ before ++ begun_again_members o.driver plan goes_on
+TellsOutcome o (outcome.Moved id gone) before after = after ≡ before ++ moved_members o.driver id gone.items
+TellsOutcome o (outcome.Approved server permit) before after =
+    after ≡ before ++ permit_member (codes "approved") (server_text o.driver.machine.placement.setup server) permit
+TellsOutcome o (outcome.ApprovedBefore at) before after =
+    IfSome (given_at o.permits at) (λ given. after ≡ before ++ given_member o.driver (string_bytes given.server) given.permit)
+TellsOutcome o (outcome.Up server) before after = after ≡ before ++ text_member (codes "up") (server_text o.driver.machine.placement.setup server)
+TellsOutcome o (outcome.Restored server nonce) before after = TellsKept o.driver server before after
+TellsOutcome o (outcome.RestoredBefore server nonce) before after = TellsKept o.driver server before after
+TellsOutcome o outcome.NextEpoch before after = after ≡ before ++ opened_member o.driver
+TellsOutcome o (outcome.Declined why) before after = TellsDecline why before after
+
+-- the server that is told its cells is known
+abbrev pub NamesKnown : DriverModel → DriverOutcome → Type 0
+NamesKnown d (outcome.Restored server nonce) = server < (record_of d).sizes.servers
+NamesKnown d (outcome.RestoredBefore server nonce) = server < (record_of d).sizes.servers
+NamesKnown d _ = Unit {0}
 
 -- something has changed
-abbrev pub has_changed : Outcome → Bool
+abbrev pub has_changed : DriverOutcome → Bool
+has_changed (outcome.Begun _) = true
+has_changed (outcome.BegunBefore _ _) = false
 has_changed (outcome.Moved _ _) = true
-has_changed (outcome.Ignored _) = false
+has_changed (outcome.Approved _ _) = true
+has_changed (outcome.ApprovedBefore _) = false
+has_changed (outcome.Up _) = true
+has_changed (outcome.Restored _ _) = true
+has_changed (outcome.RestoredBefore _ _) = false
+has_changed outcome.NextEpoch = true
+has_changed (outcome.Declined _) = false
+
+-- ---- begins
+
+-- the plan has begun, or all is as it was
+abbrev pub StartOutcome : PlanModel → Opened → DriverOutcome → Opened → Type 0
+StartOutcome plan old (outcome.Begun begun) new =
+    HasBegunPlan plan begun.number old.driver new.driver × (begun ≡ begun_plan new.driver begun.number)
+StartOutcome plan old (outcome.Declined why) new = new ≡ old
+StartOutcome plan old _ new = ⊥
+
+-- the plan that a value says has begun, and is this one
+abbrev pub BeginsAs : Data → BegunPlan → Opened → Opened → Type 0
+BeginsAs value begun old new =
+    (plan : PlanModel) × SaysPlan old.driver.machine.placement.setup value plan × IsCheckedPlan (record_of old.driver).sizes plan
+    × HasBegunPlan plan begun.number old.driver new.driver × (begun ≡ begun_plan new.driver begun.number)
+
+-- the plan that a value says has begun; one had begun under this name before; or none had, and none does
+abbrev pub BeginOutcome : Data → List ℕ → Bool → Opened → DriverOutcome → Opened → Type 0
+BeginOutcome value name is_reopening old (outcome.Begun begun) new =
+    (is_reopening ≡ false) × (value_of old.plans name ≡ None) × BeginsAs value begun old new
+BeginOutcome value name is_reopening old (outcome.BegunBefore plan goes_on) new =
+    (value_of old.plans name ≡ Some plan) × (goes_on ≡ not is_reopening) × (new ≡ old)
+BeginOutcome value name is_reopening old (outcome.Declined why) new = (value_of old.plans name ≡ None) × (new ≡ old)
+BeginOutcome value name is_reopening old _ new = ⊥
 
 -- ---- answers to orders and publications
 
@@ -39,15 +116,83 @@ abbrev pub why_ignored : Bool → DriverModel → StreamId → ℕ → Ignored
 why_ignored is_reopening d id number = if is_reopening || is_past d id number then ignored.Old else ignored.Unknown
 
 -- a stream has made its step, and these streams have gone on
-abbrev pub HasMovedWith : StreamId → List StreamId → Outcome → Type 0
+abbrev pub HasMovedWith : StreamId → List StreamId → DriverOutcome → Type 0
 HasMovedWith id ids (outcome.Moved stream gone) = (stream ≡ id) × (gone.items ≡ ids)
-HasMovedWith id ids (outcome.Ignored why) = ⊥
+HasMovedWith id ids _ = ⊥
 
--- An answer to this stream under this number: the stream makes its step, and is told with the streams of its plan that have gone on since; or
--- no stream waits for the answer.
-abbrev pub DoesAnswer : StreamId → ℕ → Bool → DriverModel → Outcome → DriverModel → Type 0
-DoesAnswer id number is_reopening old (outcome.Moved stream gone) new =
-    (is_expected is_reopening old id number ≡ true) × HasTakenStep id old new × (stream ≡ id)
-    × (gone.items ≡ gone_on (record_of new) id.plan (sinces_of (record_of old) id.plan))
-DoesAnswer id number is_reopening old (outcome.Ignored why) new =
-    (is_expected is_reopening old id number ≡ false) × (why ≡ why_ignored is_reopening old id number)
+-- the stream has made its step, and is told with the streams of its plan that have gone on since; or no stream waits for the answer
+abbrev pub AnsweredOutcome : StreamId → ℕ → Bool → Opened → DriverOutcome → Opened → Type 0
+AnsweredOutcome id number is_reopening old (outcome.Moved stream gone) new =
+    (is_expected is_reopening old.driver id number ≡ true) × HasTakenStep id old.driver new.driver × (stream ≡ id)
+    × (gone.items ≡ gone_on (record_of new.driver) id.plan (sinces_of (record_of old.driver) id.plan))
+AnsweredOutcome id number is_reopening old (outcome.Declined why) new =
+    (is_expected is_reopening old.driver id number ≡ false) × (why ≡ decline.Ignored (why_ignored is_reopening old.driver id number)) × (new ≡ old)
+AnsweredOutcome id number is_reopening old _ new = ⊥
+
+-- ---- restarts
+
+-- what comes of an approval under a name that stands for a permit: it is told, or another server has it
+abbrev pub AgainOutcome : List ℕ → Opened → GivenAt → DriverOutcome → Type 0
+AgainOutcome server o at (outcome.ApprovedBefore given) =
+    (given ≡ at) × IfSome (given_at o.permits at) (λ (permit : GivenPermit). bytes_eq (string_bytes permit.server) server ≡ true)
+AgainOutcome server o at (outcome.Declined (decline.OtherServer given)) =
+    (given ≡ at) × IfSome (given_at o.permits at) (λ (permit : GivenPermit). bytes_eq (string_bytes permit.server) server ≡ false)
+AgainOutcome server o at _ = ⊥
+
+-- the restart of the server with this name is approved; one was approved under this name before; or none was, and none is
+abbrev pub ApproveOutcome : List ℕ → List ℕ → Bool → Opened → DriverOutcome → Opened → Type 0
+ApproveOutcome name by is_reopening old (outcome.Approved server permit) new =
+    (is_reopening ≡ false) × (value_of old.approvals by ≡ None) × (server_named old.driver.machine.placement.setup name ≡ Some server)
+    × (server < (record_of old.driver).sizes.servers) × HasApproved server permit old.driver new.driver
+ApproveOutcome name by is_reopening old (outcome.ApprovedBefore at) new =
+    (value_of old.approvals by ≡ Some at) × AgainOutcome name old at (outcome.ApprovedBefore at) × (new ≡ old)
+ApproveOutcome name by is_reopening old (outcome.Declined (decline.OtherServer at)) new =
+    (value_of old.approvals by ≡ Some at) × AgainOutcome name old at (outcome.Declined (decline.OtherServer at)) × (new ≡ old)
+ApproveOutcome name by is_reopening old (outcome.Declined why) new = (value_of old.approvals by ≡ None) × (new ≡ old)
+ApproveOutcome name by is_reopening old _ new = ⊥
+
+-- the restart that has this permit has ended, of a server with this base; or none has
+abbrev pub RestartedOutcome : ℕ → Option ℕ → Bool → Opened → DriverOutcome → Opened → Type 0
+RestartedOutcome permit base is_reopening old (outcome.Up server) new =
+    (is_reopening ≡ false) × HasEndedRestart server permit base old.driver new.driver
+RestartedOutcome permit base is_reopening old (outcome.Declined why) new = new ≡ old
+RestartedOutcome permit base is_reopening old _ new = ⊥
+
+-- ---- restores
+
+-- the server with this name is restored; it was told under this nonce before; or it was not, and is not
+abbrev pub RestoreOutcome : List ℕ → ℕ → Bool → Opened → DriverOutcome → Opened → Type 0
+RestoreOutcome name nonce is_reopening old (outcome.Restored server under) new =
+    (is_reopening ≡ false) × (server_named old.driver.machine.placement.setup name ≡ Some server) × (was_told old.driver.restores server nonce ≡ false)
+    × HasRestored server nonce old.driver new.driver × (under ≡ nonce) × (server < (record_of new.driver).sizes.servers)
+RestoreOutcome name nonce is_reopening old (outcome.RestoredBefore server under) new =
+    (server_named old.driver.machine.placement.setup name ≡ Some server) × (under ≡ nonce) × (server < (record_of new.driver).sizes.servers) × (new ≡ old)
+RestoreOutcome name nonce is_reopening old (outcome.Declined why) new =
+    IfSome (server_named old.driver.machine.placement.setup name) (λ server. was_told old.driver.restores server nonce ≡ false) × (new ≡ old)
+RestoreOutcome name nonce is_reopening old _ new = ⊥
+
+-- ---- epochs
+
+-- the next epoch has opened, or it has not
+abbrev pub EpochOutcome : Bool → Opened → DriverOutcome → Opened → Type 0
+EpochOutcome is_reopening old outcome.NextEpoch new = (is_reopening ≡ false) × OpensNext old.driver new.driver
+EpochOutcome is_reopening old (outcome.Declined why) new = new ≡ old
+EpochOutcome is_reopening old _ new = ⊥
+
+-- ---- commands
+
+-- A command on an open journal has an outcome. Only as long as no reopening is under way does it change the journal.
+abbrev pub HasOutcome : DriverCommand → Bool → Opened → DriverOutcome → Opened → Type 0
+HasOutcome (driver.Begin plan name) is_reopening old o new = BeginOutcome (view plan.now) name.now is_reopening old o new
+HasOutcome (driver.Answered plan stream number) is_reopening old o new = AnsweredOutcome (record { plan = plan; stream = stream }) number is_reopening old o new
+HasOutcome (driver.Approve server by) is_reopening old o new = ApproveOutcome server.now by.now is_reopening old o new
+HasOutcome (driver.Restarted permit base) is_reopening old o new = RestartedOutcome permit base is_reopening old o new
+HasOutcome (driver.Restore name nonce) is_reopening old o new = RestoreOutcome name.now nonce is_reopening old o new
+HasOutcome driver.NewEpoch is_reopening old o new = EpochOutcome is_reopening old o new
+
+-- A command has an outcome, and its reply tells it.
+pub record Exchange (command : DriverCommand) (is_reopening : Bool) (old : Opened) (changed : Bool) (new : Opened) (before after : List Token) : Type 0 where
+  pub outcome : DriverOutcome
+  pub has : HasOutcome command is_reopening old outcome new
+  pub tells : TellsOutcome new outcome before after
+  pub effect : changed ≡ has_changed outcome

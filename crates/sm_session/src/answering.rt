@@ -1,16 +1,12 @@
 //! Answers to orders and publications.
-ghost use Rattle.std.specs.Prelude.{◌≡◌, ◌++◌, IfOk, OnOk, codes, false, true};
+ghost use Rattle.std.specs.Prelude.{◌≡◌, ◌++◌, IfOk, OnOk, codes};
 ghost use Rattle.sm_commands.specs.Members.{text_member};
 ghost use Rattle.sm_driver.specs.Driver.{record_of};
 ghost use Rattle.sm_open_journal.specs.Replies.{gone_on};
-ghost use Rattle.sm_session.specs.Answers.{TellsIgnored};
-ghost use Rattle.sm_session.specs.Asked.{TakesAnswerOf};
-ghost use Rattle.sm_session.specs.Changes.{TakesAnswer};
-ghost use Rattle.sm_session.specs.Declines.{Declines};
-ghost use Rattle.sm_session.specs.Outcomes.{DoesAnswer, HasMovedWith, has_changed};
-ghost use Rattle.sm_session.specs.Replies.{TellsMoved};
+ghost use Rattle.sm_session.specs.Outcomes.{AnsweredOutcome, HasMovedWith};
 
-use crate::outcome::{Ignored, Outcome};
+use crate::decline::{Decline, Ignored};
+use crate::outcome::DriverOutcome;
 use crate::standing::Standing;
 use sm_commands::{Writer, write_text};
 use sm_driver::{AnswerEffect, StreamMessage};
@@ -50,13 +46,13 @@ fn moved(
     message: Option<StreamMessage>,
     id: StreamId,
     sinces: &[u32],
-) -> Result<Outcome, AllocError>
+) -> Result<DriverOutcome, AllocError>
     ensures driver { opened.new.driver ≡ opened.old.driver }
     ensures outcome { IfOk result (HasMovedWith id (gone_on (record_of opened.old.driver) id.plan sinces.now)) }
 {
     let gone_on = opened.messages(alloc).gone_on(id.plan, sinces)?;
     note(opened, place, message, gone_on.as_slice())?;
-    Ok(Outcome::Moved {
+    Ok(DriverOutcome::Moved {
         stream: id,
         gone_on,
     })
@@ -69,41 +65,17 @@ pub fn answered(
     alloc: Global,
     id: StreamId,
     number: u64,
-) -> Result<Outcome, AllocError>
-    ensures does { IfOk result (λ outcome. DoesAnswer id number at.is_reopening opened.old.driver outcome opened.new.driver) }
-    ensures unchanged { IfOk result (λ outcome. has_changed outcome ≡ false → opened.new ≡ opened.old) }
+) -> Result<DriverOutcome, AllocError>
+    ensures { IfOk result (λ outcome. AnsweredOutcome id number at.is_reopening opened.old outcome opened.new) }
 {
     if at.is_reopening {
-        return Ok(Outcome::Ignored(Ignored::Old));
+        return Ok(DriverOutcome::Declined(Decline::Ignored(Ignored::Old)));
     }
     let sinces = opened.messages(alloc).sinces(id.plan)?;
     let message = opened.driver.message(id);
     match opened.driver.answered(id, number) {
         AnswerEffect::Moved => moved(opened, at.place, alloc, message, id, sinces.as_slice()),
-        AnswerEffect::Old => Ok(Outcome::Ignored(Ignored::Old)),
-        AnswerEffect::Unknown => Ok(Outcome::Ignored(Ignored::Unknown)),
+        AnswerEffect::Old => Ok(DriverOutcome::Declined(Decline::Ignored(Ignored::Old))),
+        AnswerEffect::Unknown => Ok(DriverOutcome::Declined(Decline::Ignored(Ignored::Unknown))),
     }
-}
-
-/// Takes the answer to an order or a publication, writes the reply, and returns whether the stream has made its step.
-pub fn take_answer(
-    opened: &mut Opened,
-    at: Standing,
-    alloc: Global,
-    writer: &mut Writer,
-    id: StreamId,
-    number: u64,
-) -> Result<bool, AllocError>
-    ensures moved { IfOk result (λ moved. moved ≡ true → TakesAnswer opened.old.driver opened.new.driver) }
-    ensures unchanged { IfOk result (λ moved. moved ≡ false → opened.new ≡ opened.old) }
-    ensures asked { IfOk result (λ moved. moved ≡ true → TakesAnswerOf id number opened.old.driver opened.new.driver) }
-    ensures in_force { IfOk result (λ moved. moved ≡ true → at.is_reopening ≡ false) }
-    ensures told { IfOk result (λ moved. moved ≡ true
-        → TellsMoved id number opened.old.driver opened.new.driver writer.old.tokens writer.new.tokens) }
-    ensures declined { IfOk result (λ moved. moved ≡ false → Declines writer.old.tokens writer.new.tokens) }
-    ensures ignored { OnOk result (TellsIgnored opened.old.driver at.is_reopening id number writer.old.tokens writer.new.tokens) }
-{
-    let outcome = answered(opened, at, alloc, id, number)?;
-    outcome.write(opened, alloc, writer)?;
-    Ok(outcome.has_changed())
 }

@@ -1,15 +1,13 @@
 //! Commands that change a journal that is open.
-ghost use Rattle.std.specs.Prelude.{◌≡◌, IfOk, None, OnOk, Some, false, true};
-ghost use Rattle.sm_session.specs.Answers.{AnswersAgain};
-ghost use Rattle.sm_session.specs.Asked.{DoesToDriver};
-ghost use Rattle.sm_session.specs.Changes.{Changes};
+ghost use Rattle.std.specs.Prelude.{◌≡◌, IfOk, None, false};
 ghost use Rattle.sm_session.specs.Declines.{DriverDeclines};
-ghost use Rattle.sm_session.specs.Replies.{TellsChange};
+ghost use Rattle.sm_session.specs.Outcomes.{Exchange, HasOutcome};
 
-use crate::answering::{take_answer, write_ignored};
+use crate::answering::{answered, write_ignored};
 use crate::approving::approve;
 use crate::beginning::begin;
 use crate::next_epoch::open_next;
+use crate::outcome::DriverOutcome;
 use crate::restarting::restarted;
 use crate::restoring::restore;
 use crate::standing::Standing;
@@ -18,7 +16,30 @@ use sm_open_journal::Opened;
 use sm_reservation::StreamId;
 use std::alloc::{AllocError, Global};
 
-/// Carries out a command on a journal that is open, writes the reply, and tells whether something has changed.
+/// Applies a command to a journal that is open.
+pub fn apply(
+    opened: &mut Opened,
+    at: Standing,
+    alloc: Global,
+    command: DriverCommand<'_, '_>,
+) -> Result<DriverOutcome, AllocError>
+    ensures { IfOk result (λ outcome. HasOutcome command.entry at.is_reopening opened.old outcome opened.new) }
+{
+    match command {
+        DriverCommand::Begin { plan, name } => begin(opened, at, alloc, plan, name),
+        DriverCommand::Answered {
+            plan,
+            stream,
+            number,
+        } => answered(opened, at, alloc, StreamId { plan, stream }, number),
+        DriverCommand::Approve { server, by } => approve(opened, at, server, by),
+        DriverCommand::Restarted { permit, base } => Ok(restarted(opened, at, permit, base)),
+        DriverCommand::Restore { server, nonce } => restore(opened, at, alloc, server, nonce),
+        DriverCommand::NewEpoch => open_next(opened, at, alloc),
+    }
+}
+
+/// Applies a command to a journal that is open, writes the reply, and tells whether something has changed.
 pub fn change(
     opened: &mut Opened,
     at: Standing,
@@ -26,32 +47,12 @@ pub fn change(
     writer: &mut Writer,
     command: DriverCommand<'_, '_>,
 ) -> Result<bool, AllocError>
-    ensures changed { IfOk result (λ changed. changed ≡ true → Changes opened.old.driver opened.new.driver) }
-    ensures asked { IfOk result (λ changed. changed ≡ true → DoesToDriver command.entry opened.old.driver opened.new.driver) }
-    ensures unchanged { IfOk result (λ changed. changed ≡ false → opened.new ≡ opened.old) }
-    ensures in_force { IfOk result (λ changed. changed ≡ true → at.is_reopening ≡ false) }
-    ensures told { IfOk result (λ changed. changed ≡ true
-        → TellsChange command.entry opened.old.driver opened.new.driver writer.old.tokens writer.new.tokens) }
-    ensures again { OnOk result (AnswersAgain command.entry opened.old at.is_reopening writer.old.tokens writer.new.tokens) }
-    ensures declined { IfOk result (λ changed. changed ≡ false
-        → DriverDeclines command.entry (Some opened.old) writer.old.tokens writer.new.tokens) }
+    ensures { IfOk result (λ changed.
+        Exchange command.entry at.is_reopening opened.old changed opened.new writer.old.tokens writer.new.tokens) }
 {
-    match command {
-        DriverCommand::Begin { plan, name } => begin(opened, at, alloc, writer, plan, name),
-        DriverCommand::Answered {
-            plan,
-            stream,
-            number,
-        } => take_answer(opened, at, alloc, writer, StreamId { plan, stream }, number),
-        DriverCommand::Approve { server, by } => approve(opened, at, alloc, writer, server, by),
-        DriverCommand::Restarted { permit, base } => {
-            restarted(opened, at, alloc, writer, permit, base)
-        }
-        DriverCommand::Restore { server, nonce } => restore(
-            opened, at, alloc, writer, server, nonce,
-        ),
-        DriverCommand::NewEpoch => open_next(opened, at, alloc, writer),
-    }
+    let outcome = apply(opened, at, alloc, command)?;
+    outcome.write(opened, alloc, writer)?;
+    Ok(outcome.has_changed())
 }
 
 /// Replies to a command that changes a journal, as long as none is open. Nothing changes.

@@ -5,6 +5,7 @@ mod answering;
 mod approving;
 mod beginning;
 mod changing;
+mod decline;
 mod next_epoch;
 mod opening;
 mod outcome;

@@ -1,17 +1,17 @@
 //! Plans that are not begun: whether one would begin now, and plans that are made.
-ghost use Rattle.std.specs.Prelude.{◌≡◌, ◌++◌, IfOk, IfSome, None, OnOk, count_by, length, sum_by};
+ghost use Rattle.std.specs.Prelude.{◌≡◌, ◌++◌, IfOk, OnOk, count_by, length, sum_by};
 ghost use Rattle.sm_plan_code.specs.Instr.{is_call};
 ghost use Rattle.json_tree.specs.View.{view};
 ghost use Rattle.sm_machine.specs.State.{state_of};
 ghost use Rattle.sm_plan_code.specs.Plan.{IsKnownPlan};
 ghost use Rattle.sm_session.specs.Asked.{SaysPlan};
 ghost use Rattle.sm_session.specs.Checks.{TellsVerdict, accepted_member, accepted_members};
-ghost use Rattle.sm_session.specs.Declines.{Declines};
 
+use crate::decline::Decline;
 use json_tree::Tree;
 use sm_commands::{
-    BadLine, CommandMember, Field, LinePart, Writer, read_moves_in, refuse_begin, refuse_check,
-    server_name, shard_name, write_bad, write_number, write_refusal,
+    BadLine, CommandMember, Field, LinePart, Writer, read_moves_in, refuse_begin, server_name,
+    shard_name, write_bad, write_number, write_refusal,
 };
 use sm_machine::Machine;
 use sm_open_journal::{Opened, calls_of, copy_text};
@@ -22,26 +22,27 @@ use sm_planner::{NoPlan, drain, moves};
 use sm_verifier::{Checked, Fault, check};
 use std::alloc::{AllocError, Global};
 
-/// Returns the plan that a value says over the names of a journal's servers and shards; if it says none, writes what is
-/// wrong with it.
-pub fn read_plan(
+/// The plan that a value says over the names of a journal's servers and shards, if it passes the check.
+pub fn check_plan(
     opened: &Opened,
     alloc: Global,
-    writer: &mut Writer,
     value: &Tree<'_>,
-) -> Result<Option<Plan>, AllocError>
-    ensures known { IfOk result (λ found. IfSome found (IsKnownPlan (length opened.now.driver.machine.placement.setup.shards) (length opened.now.driver.machine.placement.setup.servers))) }
-    ensures declined { IfOk result (λ found. found ≡ None → Declines writer.old.tokens writer.new.tokens) }
-    ensures said { IfOk result (λ found. IfSome found (λ plan. SaysPlan opened.now.driver.machine.placement.setup (view value.now) plan)) }
-    ensures quiet { IfOk result (λ found. IfSome found (λ plan. writer.new.tokens ≡ writer.old.tokens)) }
+) -> Result<Result<Checked, Decline>, AllocError>
+    ensures setup { IfOk result (λ found. IfOk found (λ checked.
+        checked.setup ≡ opened.now.driver.machine.placement.setup)) }
+    ensures said { IfOk result (λ found. IfOk found (λ checked.
+        SaysPlan opened.now.driver.machine.placement.setup (view value.now) checked.plan)) }
 {
-    match read_plan_value(alloc, opened.driver.machine().config(), value) {
-        Ok(plan) => Ok(Some(plan)),
-        Err(TextFault::NoMemory) => Err(AllocError),
-        Err(fault) => {
-            write_bad(writer, alloc, BadLine::Within(CommandMember::Plan, fault))?;
-            Ok(None)
-        }
+    let config = opened.driver.machine().config();
+    let plan = match read_plan_value(alloc, config, value) {
+        Ok(plan) => plan,
+        Err(TextFault::NoMemory) => return Err(AllocError),
+        Err(fault) => return Ok(Err(Decline::NoPlan(fault))),
+    };
+    match check(alloc, config, plan) {
+        Ok(checked) => Ok(Ok(checked)),
+        Err((_, Fault::NoMemory)) => Err(AllocError),
+        Err((_, fault)) => Ok(Err(Decline::Unchecked(fault))),
     }
 }
 
@@ -209,13 +210,8 @@ pub fn write_check(
     writer: &mut Writer,
     value: &Tree<'_>,
 ) -> Result<(), AllocError> {
-    let Some(plan) = read_plan(opened, alloc, writer, value)? else {
-        return Ok(());
-    };
-    let machine = opened.driver.machine();
-    match check(alloc, machine.config(), plan) {
-        Ok(checked) => write_verdict(machine, alloc, writer, &checked),
-        Err((_, Fault::NoMemory)) => Err(AllocError),
-        Err((_, fault)) => refuse_check(writer, alloc, &fault),
+    match check_plan(opened, alloc, value)? {
+        Ok(checked) => write_verdict(opened.driver.machine(), alloc, writer, &checked),
+        Err(why) => why.write(opened, alloc, writer),
     }
 }

@@ -1,20 +1,17 @@
 //! The entries of a journal, applied again.
-ghost use Rattle.std.specs.Prelude.{◌≡◌, ℕ, List, [], IfOk, IfSome, false, is_some, true};
+ghost use Rattle.std.specs.Prelude.{◌≡◌, ℕ, List, [], IfOk, false, true};
 ghost use Rattle.json.specs.Token.{Token};
 ghost use Rattle.journal_lines.specs.Objects.{IsObject};
 ghost use Rattle.sm_session.specs.declared.session.LineEffect.TheVariants as did;
-ghost use Rattle.sm_session.specs.Answers.{Answers, AnswersLine, TellsIgnored};
-ghost use Rattle.sm_session.specs.Asked.{DoesAsSaid, DoesToSession, StaysOpen, TakesAnswerOf};
-ghost use Rattle.sm_commands.specs.declared.command.DriverCommand.TheVariants as driver;
-ghost use Rattle.sm_commands.specs.declared.command.LineCommand.TheVariants as line;
+ghost use Rattle.sm_session.specs.Answers.{Answers, AnswersLine};
+ghost use Rattle.sm_session.specs.Asked.{DoesAsSaid, DoesToSession};
 ghost use Rattle.sm_session.specs.Changes.{SessionChanges};
 ghost use Rattle.sm_session.specs.Replies.{RepliesTo, SessionTells, TellsLine};
 
-use crate::answering::answered;
+use crate::changing::apply;
 use crate::session::{LineEffect, Session};
 use json::Scratch;
-use sm_commands::{DriverCommand, LineCommand, Writer, parse_line, read_command};
-use sm_reservation::StreamId;
+use sm_commands::{LineCommand, Writer, parse_line, read_command};
 use std::alloc::{AllocError, Global};
 
 impl Session {
@@ -52,7 +49,7 @@ impl Session {
         }
     }
 
-    /// Carries out a command. Only the reply to an answer is not even made: there are as many as all others together.
+    /// Carries out a command. A command on an open journal makes no reply.
     fn carry_out_again(
         &mut self,
         alloc: Global,
@@ -64,37 +61,17 @@ impl Session {
         ensures told { IfOk result (λ changed. changed ≡ true → (members : List Token) × SessionTells command.entry self.old self.new [] members
             × Answers command.entry self.old [] members) }
     {
-        if let LineCommand::Driver(
-            DriverCommand::Answered {
-                plan,
-                stream,
-                number,
-            },
-        ) = command
-        {
-            return self.take_answer(alloc, StreamId { plan, stream }, number);
+        if let LineCommand::Driver(command) = command {
+            let at = self.standing();
+            return match &mut self.opened {
+                Some(opened) => {
+                    let outcome = apply(opened, at, alloc, command)?;
+                    Ok(outcome.has_changed())
+                }
+                None => Ok(false),
+            };
         }
         let mut unread = Writer::new(alloc);
         self.carry_out(alloc, command, &mut unread)
-    }
-
-    /// Takes an answer, if a journal is open.
-    fn take_answer(&mut self, alloc: Global, id: StreamId, number: u64) -> Result<bool, AllocError>
-        ensures changed { IfOk result (λ changed. changed ≡ true → SessionChanges self.old self.new) }
-        ensures asked { IfOk result (λ changed. changed ≡ true
-            → StaysOpen (TakesAnswerOf id number) self.old.opened self.new.opened) }
-        ensures unchanged { IfOk result (λ changed. changed ≡ false → self.new ≡ self.old) }
-        ensures told { IfOk result (λ changed. changed ≡ true → (members : List Token)
-            × SessionTells (line.Driver (driver.Answered id.plan id.stream number)) self.old self.new [] members
-            × IfSome self.old.opened (λ o. TellsIgnored o.driver (is_some self.old.under_way) id number [] members)) }
-    {
-        let at = self.standing();
-        match &mut self.opened {
-            Some(opened) => {
-                let outcome = answered(opened, at, alloc, id, number)?;
-                Ok(outcome.has_changed())
-            }
-            None => Ok(false),
-        }
     }
 }

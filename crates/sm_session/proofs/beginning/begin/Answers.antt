@@ -1,22 +1,19 @@
-use Rattle.std.proofs.Common.{◌∙◌}
+use Rattle.std.proofs.Common.{◌≡◌, ◌∙◌, sym}
 use Rattle.json_tree.specs.View.{view}
-use Rattle.sm_session.proofs.Asked.{begun_and_told, begun_as_said}
-use Rattle.sm_session.proofs.Declined.{may_decline_after}
+use Rattle.sm_placement.specs.Setup.{sizes_of}
+use Rattle.sm_verifier.specs.Plan.{IsCheckedPlan}
+use Rattle.sm_session.specs.Asked.{SaysPlan}
+use Rattle.sm_session.proofs.Outcomes.{begins_as_said, checked_for}
+use Rattle.sm_session.proofs.Told.{read_is}
 use Rattle.sm_session.proofs.beginning.begin.Goals as goal
 
--- Nothing was written before the plan began.
-pub returns-in-Some-3-clause-told : goal.returns-in-Some-3-clause-told
-returns-in-Some-3-clause-told c =
-    let quiet = (rw c.in-Some-3.is at c.in_ok-ready.ensures.quiet) ∙ (rw c.in-Some-2.is at c.in_ok-plan.ensures.quiet) in
-    begun_and_told c.start.result (λ ready. ready.plan) _ _ c.in-Some-2.plan c.in-Some-3.ready (view c.args.value.now) c.args.opened.now.driver c.start.new.opened.driver
-    c.args.writer.now.tokens _ c.start.new.writer.tokens c.in-Some-2.is c.in-Some-3.is quiet c.in_ok-plan.ensures.said c.in_ok-ready.ensures.same c.start.ensures.told
-
-pub returns-in-Some-3-clause-asked : goal.returns-in-Some-3-clause-asked
-returns-in-Some-3-clause-asked c =
-    begun_as_said c.start.result (λ ready. ready.plan) _ _ c.in-Some-2.plan c.in-Some-3.ready (view c.args.value.now) c.args.opened.now.driver c.start.new.opened.driver
-    c.in-Some-2.is c.in-Some-3.is c.in_ok-plan.ensures.said c.in_ok-ready.ensures.same c.start.ensures.asked
-
-pub returns-in-Some-3-clause-declined : goal.returns-in-Some-3-clause-declined
-returns-in-Some-3-clause-declined c =
-    let quiet = (rw c.in-Some-3.is at c.in_ok-ready.ensures.quiet) ∙ (rw c.in-Some-2.is at c.in_ok-plan.ensures.quiet) in
-    may_decline_after _ c.start.result c.args.writer.now.tokens _ _ quiet c.start.ensures.declined
+-- The plan was checked for the driver's configuration.
+pub returns-in-Ok : goal.returns-in-Ok
+returns-in-Ok c =
+    let d = c.args.opened.now.driver in
+    let ready = c.in-Ok.ready in
+    let said = read_is (λ ready. SaysPlan d.machine.placement.setup (view c.args.value.now) ready.plan) _ ready c.in-Ok.is c.in_ok-ready.ensures.said in
+    let same = read_is (λ ready. ready.setup ≡ d.machine.placement.setup) _ ready c.in-Ok.is c.in_ok-ready.ensures.setup in
+    let checked = read_is (λ ready. IsCheckedPlan (sizes_of ready.setup) ready.plan) _ ready c.in-Ok.is c.in_ok-ready.ensures.checked in
+    begins_as_said c.start.result ready.plan (view c.args.value.now) c.args.name.now c.args.at.is_reopening c.args.opened.now c.start.new.opened
+    c.if-at.false (sym c.get.ensures ∙ c.in_default.is) said (checked_for d ready.setup ready.plan same checked) c.start.ensures
