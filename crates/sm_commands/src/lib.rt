@@ -15,7 +15,6 @@ mod line_part;
 mod moves;
 mod reader;
 mod refusals;
-mod refused_plans;
 mod reopening_lines;
 mod row;
 mod slots;
@@ -29,12 +28,12 @@ pub use command::{
     StateOf, ToldText,
 };
 pub use command_member::CommandMember;
-pub use field::{Field, refuse, write_refusal};
+pub use field::{refuse, write_refusal};
 pub use line::{id_of, parse_line, read_command};
 pub use line_part::LinePart;
 pub use moves::read_moves_in;
-pub use refusals::{refuse_log, refuse_open, server_name, shard_name};
-pub use refused_plans::{refuse_begin, refuse_check};
+pub use refusals::{refuse_begin, refuse_check, refuse_log, refuse_open, refuse_restart};
 pub use slots::{CellKind, PartyText, SlotNeeds, SlotText, read_slots};
+pub use sm_refusals::{Field, server_name, shard_name};
 pub use writer::Writer;
 pub use writing::{write_id, write_name, write_number, write_text};

@@ -1,33 +1,20 @@
-//! Refusals of openings, in the words of `smplan`.
-ghost use Rattle.std.specs.Prelude.{◌≡◌, OnOk};
-ghost use Rattle.sm_commands.specs.Members.{server_text, shard_text};
-ghost use Rattle.sm_commands.specs.Refusals.{TellsRefused};
+//! Refusals of openings, plans and restarts, in the words of `smplan`.
+ghost use Rattle.std.specs.Prelude.{◌≡◌, ◌++◌, OnOk};
+ghost use Rattle.sm_refusals.specs.Openings.{open_refusal};
+ghost use Rattle.sm_refusals.specs.Plans.{begin_refusal, check_refusal};
+ghost use Rattle.sm_refusals.specs.Restarts.{denied_refusal};
+ghost use Rattle.sm_commands.specs.Refusals.{TellsRefused, plan_denying, refused_member, shared_refusal};
 
-use crate::field::{Field, write_refusal};
+use crate::field::write_refusal;
 use crate::writer::Writer;
 use sm_placement::{Config, OpenFault};
-use sm_server::{ServerId, ShardId};
+use sm_protocol::BeginFault;
+use sm_refusals::{
+    Fields, RefusalText, begin_refusal, check_refusal, denied_refusal, open_refusal,
+};
+use sm_task_controller::Denied;
+use sm_verifier::Fault;
 use std::alloc::{AllocError, Global};
-
-/// Returns the name of a server. It is empty if there is no such server.
-pub fn server_name<'a>(config: &'a Config, server: ServerId) -> &'a str
-    ensures { result.now ≡ server_text config.now server }
-{
-    match config.servers().get(server.number() as usize) {
-        Some(server) => server.name.as_str(),
-        None => "",
-    }
-}
-
-/// Returns the name of a shard. It is empty if there is no such shard.
-pub fn shard_name<'a>(config: &'a Config, shard: ShardId) -> &'a str
-    ensures { result.now ≡ shard_text config.now shard }
-{
-    match config.shards().get(shard.number() as usize) {
-        Some(shard) => shard.name.as_str(),
-        None => "",
-    }
-}
 
 /// Writes why a placement is not opened.
 pub fn refuse_open(
@@ -36,41 +23,67 @@ pub fn refuse_open(
     config: &Config,
     fault: OpenFault,
 ) -> Result<(), AllocError>
-    ensures { OnOk result (TellsRefused writer.old.tokens writer.new.tokens) }
+    ensures told { OnOk result (writer.new.tokens ≡ writer.old.tokens ++ refused_member (shared_refusal (open_refusal config.now fault))) }
+    ensures refused { OnOk result (TellsRefused writer.old.tokens writer.new.tokens) }
 {
-    let front = "placement refused: ";
-    match fault {
-        OpenFault::NoMemory => write_refusal(writer, alloc, front, 1, "NoMemory", &[]),
-        OpenFault::TooMany => write_refusal(writer, alloc, front, 2, "TooMany", &[]),
-        OpenFault::UnknownName => write_refusal(writer, alloc, front, 3, "UnknownName", &[]),
-        OpenFault::DoubleCell { shard, server } => {
-            let shard = Field::Name("shard", shard_name(config, shard));
-            let server = Field::Name("server", server_name(config, server));
-            write_refusal(writer, alloc, front, 4, "DoubleCell", &[shard, server])
-        }
-        OpenFault::BadLead { shard } => {
-            let shard = Field::Name("shard", shard_name(config, shard));
-            write_refusal(writer, alloc, front, 5, "BadLead", &[shard])
-        }
-        OpenFault::BadListing { shard } => {
-            let shard = Field::Name("shard", shard_name(config, shard));
-            write_refusal(writer, alloc, front, 6, "BadListing", &[shard])
-        }
-        OpenFault::OverRoom { server } => {
-            let server = Field::Name("server", server_name(config, server));
-            write_refusal(writer, alloc, front, 7, "OverRoom", &[server])
-        }
-        OpenFault::Short { shard } => {
-            let shard = Field::Name("shard", shard_name(config, shard));
-            write_refusal(writer, alloc, front, 8, "Short", &[shard])
-        }
-        OpenFault::TooManyDown => write_refusal(writer, alloc, front, 9, "TooManyDown", &[]),
-    }
+    write_refusal(writer, alloc, &open_refusal(config, fault))
 }
 
 /// Writes that a log has no room for the restarts under way.
 pub fn refuse_log(writer: &mut Writer, alloc: Global) -> Result<(), AllocError>
     ensures { OnOk result (TellsRefused writer.old.tokens writer.new.tokens) }
 {
-    write_refusal(writer, alloc, "log refused: ", 2, "LogFull", &[])
+    let refusal = RefusalText {
+        front: "log refused: ",
+        number: 2,
+        kind: "LogFull",
+        fields: Fields::None,
+    };
+    write_refusal(writer, alloc, &refusal)
+}
+
+/// Writes why a plan does not pass the check.
+pub fn refuse_check(writer: &mut Writer, alloc: Global, fault: &Fault) -> Result<(), AllocError>
+    ensures told { OnOk result (writer.new.tokens ≡ writer.old.tokens ++ refused_member (shared_refusal (check_refusal fault.now))) }
+    ensures refused { OnOk result (TellsRefused writer.old.tokens writer.new.tokens) }
+{
+    write_refusal(writer, alloc, &check_refusal(fault))
+}
+
+/// Writes why a plan that passed the check does not begin.
+pub fn refuse_begin(
+    writer: &mut Writer,
+    alloc: Global,
+    config: &Config,
+    fault: BeginFault,
+) -> Result<(), AllocError>
+    ensures told { OnOk result (writer.new.tokens ≡ writer.old.tokens ++ refused_member (shared_refusal (begin_refusal config.now fault))) }
+    ensures refused { OnOk result (TellsRefused writer.old.tokens writer.new.tokens) }
+{
+    write_refusal(writer, alloc, &begin_refusal(config, fault))
+}
+
+/// The plan whose stream denies a restart.
+fn plan_denying(why: &Denied) -> Option<u64>
+    ensures { result ≡ plan_denying why.now }
+{
+    match why {
+        Denied::Engaged { stream } => Some(u64::from(stream.plan)),
+        Denied::AlreadyDown | Denied::GlobalCap | Denied::ShardCap { .. } | Denied::LogFull => None,
+    }
+}
+
+/// Writes why a server may not be restarted.
+pub fn refuse_restart(
+    writer: &mut Writer,
+    alloc: Global,
+    config: &Config,
+    why: Denied,
+) -> Result<(), AllocError>
+    ensures told { OnOk result (writer.new.tokens ≡ writer.old.tokens
+        ++ refused_member (shared_refusal (denied_refusal config.now (plan_denying why) why))) }
+    ensures refused { OnOk result (TellsRefused writer.old.tokens writer.new.tokens) }
+{
+    let plan = plan_denying(&why);
+    write_refusal(writer, alloc, &denied_refusal(config, plan, why))
 }

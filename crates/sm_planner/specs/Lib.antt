@@ -11,3 +11,4 @@ pub mod Refusal
 pub mod Draft
 pub mod Drain
 pub mod Laws
+pub mod NoPlans

@@ -1,4 +1,10 @@
 //! Why moves get no plan.
+ghost use Rattle.std.specs.Prelude.{◌≡◌, ◌∷◌, []};
+ghost use Rattle.sm_refusals.specs.Refusals.{fields_of, refusal_model, server_field, shard_field};
+ghost use Rattle.sm_planner.specs.NoPlans.{no_plan_as, no_plan_refusal};
+
+use sm_placement::Config;
+use sm_refusals::{Field, Fields, RefusalText};
 use sm_server::{ServerId, ShardId};
 use std::alloc::AllocError;
 use thiserror::Error;
@@ -54,6 +60,62 @@ pub enum NoPlan {
     /// There are more than 4,096 moves or more than 256 signals.
     #[error("too many moves or signals")]
     TooMany,
+}
+
+fn refused<'a>(number: u32, kind: &'a str, fields: Fields<'a>) -> RefusalText<'a>
+    ensures { refusal_model result ≡ no_plan_as number kind.now (fields_of fields.entry) }
+{
+    RefusalText {
+        front: "no plan: ",
+        number,
+        kind,
+        fields,
+    }
+}
+
+/// The cell of a shard at a server, by their names.
+fn cell<'a>(config: &'a Config, shard: ShardId, server: ServerId) -> Fields<'a>
+    ensures { fields_of result ≡ shard_field config.now shard ∷ server_field config.now server ∷ [] }
+{
+    Fields::Two(Field::shard(config, shard), Field::server(config, server))
+}
+
+impl NoPlan {
+    /// The refusal that says so.
+    pub fn refusal<'a>(self, config: &'a Config) -> RefusalText<'a>
+        ensures { refusal_model result ≡ no_plan_refusal config.now self }
+    {
+        match self {
+            NoPlan::NoMemory => refused(1, "NoMemory", Fields::None),
+            NoPlan::NotThere { shard, server } => refused(
+                2,
+                "NotThere",
+                cell(config, shard, server),
+            ),
+            NoPlan::Held { shard, server } => refused(3, "Held", cell(config, shard, server)),
+            NoPlan::ServerDown { server } => refused(
+                4,
+                "ServerDown",
+                Fields::One(Field::server(config, server)),
+            ),
+            NoPlan::NoRoom { server } => refused(
+                5,
+                "NoRoom",
+                Fields::One(Field::server(config, server)),
+            ),
+            NoPlan::NoPlace { shard } => refused(
+                6,
+                "NoPlace",
+                Fields::One(Field::shard(config, shard)),
+            ),
+            NoPlan::Spread { shard } => refused(
+                7,
+                "Spread",
+                Fields::One(Field::shard(config, shard)),
+            ),
+            NoPlan::TooMany => refused(8, "TooMany", Fields::None),
+        }
+    }
 }
 
 impl From<AllocError> for NoPlan {

@@ -18,7 +18,9 @@ use Rattle.sm_plan_text.specs.Documents.{DocumentModel}
 use Rattle.sm_report.specs.declared.command.Command.{Command}
 use Rattle.sm_report.specs.declared.command.Command.TheVariants.{Calls, Check, Play, Plan}
 use Rattle.sm_report.specs.Report.{Output, refused}
-use Rattle.sm_report_text.specs.Checking.{stuck_line, fault_line, holding_line, accepted_line}
+use Rattle.sm_refusals.specs.Plans.{stuck_refusal}
+use Rattle.sm_report_text.specs.Checking.{fault_line, holding_line, accepted_line}
+use Rattle.sm_report_text.specs.Lines.{refusal_line}
 use Rattle.sm_report.specs.Playing.{Scene}
 use Rattle.sm_report_text.specs.EventLines.{plan_front}
 use Rattle.sm_protocol.specs.declared.event.Event.{Event}
@@ -61,7 +63,7 @@ same_line (Stuck ps) NoMemory e = ap fault_line e
 same_line (Stuck ps) (Budget total most) e = ap fault_line e
 same_line (Stuck ps) (SignalNotOnce k posted awaited) e = ap fault_line e
 same_line (Stuck ps) (Stream i at why) e = ap fault_line e
-same_line (Stuck ps) (Stuck qs) e = ap stuck_line e
+same_line (Stuck ps) (Stuck qs) e = ap (λ positions. refusal_line (stuck_refusal positions)) e
 
 -- the report of a plan's fault is one
 pub fault_one : IsOneCheck → (c : Sizes) (front : List ℕ) (plan : PlanModel) → IsOne (IsFaultReport c front plan)

@@ -1,20 +1,13 @@
 -- The lines of a placement at the end of a report: its servers, and then its shards with their cells.
-use Rattle.std.specs.Prelude.{ℕ, Bool, true, false, List, [], ◌∷◌, ◌++◌, codes, length, Option, Some, None, slice_index_or}
+use Rattle.std.specs.Prelude.{ℕ, Bool, true, false, List, [], ◌∷◌, ◌++◌, codes, length, Option, Some, None}
 use Rattle.std.specs.List.{flat_map, range_with_len}
 use Rattle.std.specs.Fmt.{decimal}
 use Rattle.sm_server.specs.declared.call.Cell.{Cell}
 use Rattle.sm_server.specs.declared.call.Cell.TheVariants.{Absent, Prepared, Secondary, Primary, Forwarding}
-use Rattle.sm_placement.specs.Setup.{Setup, sizes_of, no_server, no_shard}
+use Rattle.sm_placement.specs.Setup.{Setup, sizes_of}
 use Rattle.sm_placement.specs.Place.{Place, load_at, live_at}
+pub use Rattle.sm_refusals.specs.Names.{server_name, shard_name}
 use Rattle.sm_report_text.specs.Lines.{line}
-
--- the name of a server
-abbrev pub server_name : Setup → ℕ → List ℕ
-server_name setup v = (slice_index_or setup.servers v no_server).name
-
--- the name of a shard
-abbrev pub shard_name : Setup → ℕ → List ℕ
-shard_name setup s = (slice_index_or setup.shards s no_shard).name
 
 -- whether a server is down
 abbrev pub state_word : Bool → List ℕ

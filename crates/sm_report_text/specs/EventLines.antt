@@ -5,12 +5,11 @@ use Rattle.sm_placement.specs.Setup.{Setup}
 use Rattle.sm_task_controller.specs.declared.decision.Denied.{Denied}
 use Rattle.sm_task_controller.specs.declared.decision.Denied.TheVariants as denied
 use Rattle.sm_protocol.specs.declared.event.BeginFault.{BeginFault}
-use Rattle.sm_protocol.specs.declared.event.BeginFault.TheVariants as begin_fault
 use Rattle.sm_protocol.specs.declared.event.RefillFault.{RefillFault}
 use Rattle.sm_protocol.specs.declared.event.RefillFault.TheVariants as refill_fault
-use Rattle.sm_report_text.specs.Lines.{line}
-use Rattle.sm_report_text.specs.Ending.{shard_name}
-use Rattle.sm_report_text.specs.Checking.{holding_line}
+use Rattle.sm_refusals.specs.Plans.{begin_refusal}
+use Rattle.sm_refusals.specs.Restarts.{denied_refusal}
+use Rattle.sm_report_text.specs.Lines.{line, refusal_line}
 
 -- ---- plans and streams by their names
 
@@ -43,21 +42,15 @@ executed_line server = line (codes "executed at " ∷ server ∷ [])
 abbrev pub passed_line : List ℕ → ℕ → ℕ → List ℕ
 passed_line server number place = line (codes "passed to " ∷ server ∷ codes " number " ∷ decimal number ∷ codes " ticket " ∷ decimal place ∷ [])
 
--- no restart: a stream that has not finished has the server in its code
-abbrev pub engaged_line : List ℕ → List ℕ
-engaged_line stream = line (codes "denied 2 Engaged " ∷ stream ∷ [])
+-- The place in the document of the plan whose stream denies a restart, if the document has a list of plans. The plans have
+-- begun from these places, by their numbers.
+abbrev pub place_told : Bool → List ℕ → Denied → Option ℕ
+place_told true places (denied.Engaged stream) = Some (slice_index_or places stream.plan 0)
+place_told many places why = None
 
--- no restart: a shard is live at the server, and no spare replica of it is free
-abbrev pub shard_cap_line : List ℕ → List ℕ
-shard_cap_line shard = line (codes "denied 4 ShardCap shard " ∷ shard ∷ [])
-
--- why a server may not be restarted; the streams' plans were begun from these places of the document, by their numbers
+-- why a server may not be restarted
 abbrev pub denied_line : Setup → Bool → List ℕ → Denied → List ℕ
-denied_line setup many places denied.AlreadyDown = word_line (codes "denied 1 AlreadyDown")
-denied_line setup many places (denied.Engaged stream) = engaged_line (stream_text many (slice_index_or places stream.plan 0) stream.stream)
-denied_line setup many places denied.GlobalCap = word_line (codes "denied 3 GlobalCap")
-denied_line setup many places (denied.ShardCap s) = shard_cap_line (shard_name setup s)
-denied_line setup many places denied.LogFull = word_line (codes "denied 5 LogFull")
+denied_line setup many places why = refusal_line (denied_refusal setup (place_told many places why) why)
 
 -- why a stream may not make this many more tries
 abbrev pub refill_line : RefillFault → List ℕ
@@ -72,10 +65,7 @@ begun_counts_line calls streams = line (codes "begun: calls " ∷ decimal calls 
 -- Why a plan does not start. The line of NoMemory is in no report: if memory is short, nothing is written. Nor is that of
 -- TooManyPlans, since a document has no more plans than may run at once.
 abbrev pub not_begun_line : Setup → BeginFault → List ℕ
-not_begun_line setup begin_fault.NoMemory = word_line (codes "not begun: 1 NoMemory")
-not_begun_line setup (begin_fault.Holding h) = holding_line setup h
-not_begun_line setup begin_fault.LogFull = word_line (codes "not begun: 4 LogFull")
-not_begun_line setup begin_fault.TooManyPlans = word_line (codes "not begun: 5 TooManyPlans")
+not_begun_line setup fault = refusal_line (begin_refusal setup fault)
 
 -- the event in front of its answer
 abbrev pub event_front : ℕ → List ℕ

@@ -3,8 +3,8 @@ ghost use Rattle.std.specs.Prelude.{◌≡◌, ◌++◌, ◌<◌, OnOk, string_b
 ghost use Rattle.sm_placement.specs.Layout.{place_of};
 ghost use Rattle.sm_report_text.specs.Ending.{server_line, shard_line, cell_lines, server_lines, all_shard_lines, ending, replica_line, handover_line, cell_line, state_word, listed_name};
 
-use crate::names::{server_name, shard_name};
 use sm_placement::{Config, Placement};
+use sm_refusals::{server_name, shard_name};
 use sm_server::{Cell, ServerId, ShardId};
 use std::alloc::AllocError;
 

@@ -1,11 +1,11 @@
 //! The lines of events that are played, and of the streams after them.
-ghost use Rattle.std.specs.Prelude.{◌≡◌, ◌++◌, [], OnOk, string_bytes, slice_index_or};
-ghost use Rattle.sm_report_text.specs.EventLines.{plan_front, stream_text, word_line, blocked_line, executed_line, passed_line, engaged_line, shard_cap_line, denied_line, refill_line, begun_counts_line, not_begun_line, event_front, stream_at_line, stream_done_line, waiting_line};
+ghost use Rattle.std.specs.Prelude.{◌≡◌, ◌++◌, [], OnOk, string_bytes};
+ghost use Rattle.sm_report_text.specs.EventLines.{plan_front, stream_text, word_line, blocked_line, executed_line, passed_line, place_told, denied_line, refill_line, begun_counts_line, not_begun_line, event_front, stream_at_line, stream_done_line, waiting_line};
 
-use crate::names::shard_name;
-use crate::verdict::push_holding;
+use crate::refusal_line::push_refusal;
 use sm_placement::Config;
 use sm_protocol::{BeginFault, RefillFault};
+use sm_refusals::{begin_refusal, denied_refusal};
 use sm_task_controller::Denied;
 use std::alloc::AllocError;
 
@@ -74,27 +74,16 @@ pub fn push_passed(
     writeln!(out, "passed to {server} number {number} ticket {place}")
 }
 
-fn push_shard_cap(out: &mut String, shard: &str) -> Result<(), AllocError>
-    ensures { OnOk result (string_bytes out.new ≡ string_bytes out.old ++ shard_cap_line shard.now) }
+/// The place in the document of the plan whose stream denies a restart, if the document has a list of plans.
+fn place_told(many: bool, places: &[u32], denied: &Denied) -> Option<u64>
+    ensures { result ≡ place_told many places.now denied.now }
 {
-    writeln!(out, "denied 4 ShardCap shard {shard}")
-}
-
-fn push_engaged(out: &mut String, many: bool, place: usize, stream: u32) -> Result<(), AllocError>
-    ensures { OnOk result (string_bytes out.new ≡ string_bytes out.old ++ engaged_line (stream_text many place stream)) }
-{
-    write!(out, "denied 2 Engaged ")?;
-    push_stream_text(out, many, place, stream)?;
-    writeln!(out)
-}
-
-/// Returns the document's place of the plan with a number.
-fn place_of_number(places: &[u32], number: u32) -> u32
-    ensures { result ≡ slice_index_or places.now number 0 }
-{
-    match places.get(number as usize) {
-        Some(place) => *place,
-        None => 0,
+    match denied {
+        Denied::Engaged { stream } if many => match places.get(stream.plan as usize) {
+            Some(place) => Some(u64::from(*place)),
+            None => Some(0),
+        },
+        _ => None,
     }
 }
 
@@ -108,16 +97,8 @@ pub fn push_denied(
 ) -> Result<(), AllocError>
     ensures { OnOk result (string_bytes out.new ≡ string_bytes out.old ++ denied_line config.now many places.now denied) }
 {
-    match denied {
-        Denied::AlreadyDown => push_word(out, "denied 1 AlreadyDown"),
-        Denied::Engaged { stream } => {
-            let place = place_of_number(places, stream.plan);
-            push_engaged(out, many, place as usize, stream.stream)
-        }
-        Denied::GlobalCap => push_word(out, "denied 3 GlobalCap"),
-        Denied::ShardCap { shard } => push_shard_cap(out, shard_name(config, shard)),
-        Denied::LogFull => push_word(out, "denied 5 LogFull"),
-    }
+    let place = place_told(many, places, &denied);
+    push_refusal(out, &denied_refusal(config, place, denied))
 }
 
 /// Returns the words that say why an allowance is not raised.
@@ -153,12 +134,7 @@ pub fn push_not_begun(
 ) -> Result<(), AllocError>
     ensures { OnOk result (string_bytes out.new ≡ string_bytes out.old ++ not_begun_line config.now fault) }
 {
-    match fault {
-        BeginFault::NoMemory => push_word(out, "not begun: 1 NoMemory"),
-        BeginFault::Holding(holding) => push_holding(out, config, holding),
-        BeginFault::LogFull => push_word(out, "not begun: 4 LogFull"),
-        BeginFault::TooManyPlans => push_word(out, "not begun: 5 TooManyPlans"),
-    }
+    push_refusal(out, &begin_refusal(config, fault))
 }
 
 /// Adds, behind a stream, that it has not finished.

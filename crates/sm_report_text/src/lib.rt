@@ -5,9 +5,9 @@ mod answer_lines;
 mod bad_input;
 mod ending;
 mod event_lines;
-mod names;
 mod opening;
 mod plan_lines;
+mod refusal_line;
 mod verdict;
 
 pub use answer_lines::{push_made, push_refused};
@@ -18,7 +18,7 @@ pub use event_lines::{
     push_not_begun, push_passed, push_plan_front, push_refill_fault, push_stream_text,
     push_waiting, push_word,
 };
-pub use names::{server_name, shard_name};
 pub use opening::push_open_fault;
 pub use plan_lines::push_no_plan;
+pub use sm_refusals::{server_name, shard_name};
 pub use verdict::{call_count, push_accepted, push_fault, push_holding};

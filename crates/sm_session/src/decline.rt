@@ -6,11 +6,10 @@ ghost use Rattle.sm_session.specs.Outcomes.{TellsDecline, ignored_word};
 
 use sm_commands::{
     BadLine, CommandMember, Field, LinePart, Writer, refuse, refuse_begin, refuse_check,
-    shard_name, write_bad, write_refusal, write_text,
+    refuse_restart, shard_name, write_bad, write_text,
 };
 use sm_driver::EpochFault;
 use sm_open_journal::{GivenAt, Opened};
-use sm_placement::Config;
 use sm_plan_text::TextFault;
 use sm_protocol::BeginFault;
 use sm_reservation::StreamId;
@@ -72,32 +71,6 @@ fn tell_bad(writer: &mut Writer, alloc: Global, bad: BadLine<'_>) -> Result<(), 
     ensures { OnOk result (Declines writer.old.tokens writer.new.tokens) }
 {
     write_bad(writer, alloc, bad)
-}
-
-/// Writes why a restart is not approved.
-fn refuse_restart(
-    writer: &mut Writer,
-    alloc: Global,
-    config: &Config,
-    why: Denied,
-) -> Result<(), AllocError>
-    ensures { OnOk result (Declines writer.old.tokens writer.new.tokens) }
-{
-    let front = "denied ";
-    match why {
-        Denied::AlreadyDown => write_refusal(writer, alloc, front, 1, "AlreadyDown", &[]),
-        Denied::Engaged { stream } => {
-            let plan = Field::Number("plan", u64::from(stream.plan));
-            let number = Field::Number("stream", u64::from(stream.stream));
-            write_refusal(writer, alloc, front, 2, "Engaged", &[plan, number])
-        }
-        Denied::GlobalCap => write_refusal(writer, alloc, front, 3, "GlobalCap", &[]),
-        Denied::ShardCap { shard } => {
-            let shard = Field::Name("shard", shard_name(config, shard));
-            write_refusal(writer, alloc, front, 4, "ShardCap", &[shard])
-        }
-        Denied::LogFull => write_refusal(writer, alloc, front, 5, "LogFull", &[]),
-    }
 }
 
 /// Writes that a stream engages a server.

@@ -10,8 +10,8 @@ ghost use Rattle.sm_session.specs.Checks.{TellsVerdict, accepted_member, accepte
 use crate::decline::Decline;
 use json_tree::Tree;
 use sm_commands::{
-    BadLine, CommandMember, Field, LinePart, Writer, read_moves_in, refuse_begin, server_name,
-    shard_name, write_bad, write_number, write_refusal,
+    BadLine, CommandMember, LinePart, Writer, read_moves_in, refuse_begin, write_bad, write_number,
+    write_refusal,
 };
 use sm_machine::Machine;
 use sm_open_journal::{Opened, calls_of, copy_text};
@@ -60,46 +60,6 @@ fn write_made(
     copy_text(alloc, writer, text.as_slice())
 }
 
-/// Writes why there is no plan.
-fn refuse_plan(
-    alloc: Global,
-    writer: &mut Writer,
-    config: &Config,
-    why: NoPlan,
-) -> Result<(), AllocError> {
-    let front = "no plan: ";
-    match why {
-        NoPlan::NoMemory => Err(AllocError),
-        NoPlan::NotThere { shard, server } => {
-            let shard = Field::Name("shard", shard_name(config, shard));
-            let server = Field::Name("server", server_name(config, server));
-            write_refusal(writer, alloc, front, 2, "NotThere", &[shard, server])
-        }
-        NoPlan::Held { shard, server } => {
-            let shard = Field::Name("shard", shard_name(config, shard));
-            let server = Field::Name("server", server_name(config, server));
-            write_refusal(writer, alloc, front, 3, "Held", &[shard, server])
-        }
-        NoPlan::ServerDown { server } => {
-            let server = Field::Name("server", server_name(config, server));
-            write_refusal(writer, alloc, front, 4, "ServerDown", &[server])
-        }
-        NoPlan::NoRoom { server } => {
-            let server = Field::Name("server", server_name(config, server));
-            write_refusal(writer, alloc, front, 5, "NoRoom", &[server])
-        }
-        NoPlan::NoPlace { shard } => {
-            let shard = Field::Name("shard", shard_name(config, shard));
-            write_refusal(writer, alloc, front, 6, "NoPlace", &[shard])
-        }
-        NoPlan::Spread { shard } => {
-            let shard = Field::Name("shard", shard_name(config, shard));
-            write_refusal(writer, alloc, front, 7, "Spread", &[shard])
-        }
-        NoPlan::TooMany => write_refusal(writer, alloc, front, 8, "TooMany", &[]),
-    }
-}
-
 /// Writes what a planner has answered.
 fn write_answer(
     alloc: Global,
@@ -111,7 +71,8 @@ fn write_answer(
 {
     match answer {
         Ok(checked) => write_made(alloc, writer, config, checked.plan()),
-        Err(why) => refuse_plan(alloc, writer, config, why),
+        Err(NoPlan::NoMemory) => Err(AllocError),
+        Err(why) => write_refusal(writer, alloc, &why.refusal(config)),
     }
 }
 

@@ -1,8 +1,5 @@
-use Rattle.std.proofs.Common.{None}
+use Rattle.sm_commands.specs.Refusals.{own_refusal}
 use Rattle.sm_commands.proofs.field.refuse.Goals as goal
 
 pub returns-clause-refused : goal.returns-clause-refused
-returns-clause-refused c = (
-  record { kind = c.args.kind.now; number = None; fields = c.args.fields.now; text = c.as_str.result.now },
-  c.in_ok-write_refused.ensures,
-)
+returns-clause-refused c = (own_refusal c.args.kind.now c.args.fields.now, c.in_ok-write_own.ensures)

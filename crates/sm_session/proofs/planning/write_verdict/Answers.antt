@@ -9,7 +9,7 @@ pub returns-in-Some : goal.returns-in-Some
 returns-in-Some c =
     let w = state_of c.args.machine.now in
     would_not c.refuse_begin.result w c.args.checked.now.plan c.in-Some.fault _ _
-    (c.begin_fault.ensures ∙ ap (λ f. Answered (begin_answer w f)) c.in-Some.is) c.refuse_begin.ensures
+    (c.begin_fault.ensures ∙ ap (λ f. Answered (begin_answer w f)) c.in-Some.is) c.refuse_begin.ensures.refused
 
 pub returns-in-None : goal.returns-in-None
 returns-in-None c =

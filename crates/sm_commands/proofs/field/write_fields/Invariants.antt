@@ -1,8 +1,0 @@
-use Rattle.std.proofs.Common.{◌≡◌, ◌++◌, drop}
-use Rattle.std.specs.List.{flat_map}
-use Rattle.sm_commands.specs.Refusals.{field_member}
-use Rattle.sm_commands.proofs.field.write_fields.Given as goal
-
--- what is written, and what is left
-abbrev pub invariant-loop-field : goal.invariant-loop-field
-invariant-loop-field l = l.writer.tokens ++ flat_map field_member (drop l.field-index l.fields) ≡ l.fn.writer.tokens ++ flat_map field_member l.fields
