@@ -74,11 +74,11 @@ DoesSettled server base old came new = DoesOf (DoesSettledOf base) (party_named 
 
 -- The reply that tells what has come of a line, by the reopening after it, in this journal. An answer to a fence tells who has to answer, a
 -- confirmation the settles, and an answer to a settle who has not taken its own. The last one tells nothing here: the next epoch is open.
-abbrev pub TellsOutcome : List ℕ → ReopeningModel → ReopeningOutcome → List Token → List Token → Type 0
-TellsOutcome journal r outcome.Fenced before after = TellsAwaited r before after
-TellsOutcome journal r outcome.Confirmed before after = after ≡ before ++ settles_member journal r
-TellsOutcome journal r outcome.Settled before after = after ≡ before ++ waiting_member r.numbering (unsettled_parties (net_reopening r.ongoing))
-TellsOutcome journal r outcome.Complete before after = after ≡ before
-TellsOutcome journal r outcome.Old before after = after ≡ before ++ text_member (codes "ignored") (codes "old")
-TellsOutcome journal r (outcome.Bad fault) before after = after ≡ before ++ told_bad fault
-TellsOutcome journal r (outcome.Refused _) before after = TellsRefused before after
+abbrev pub TellsTaken : List ℕ → ReopeningModel → ReopeningOutcome → List Token → List Token → Type 0
+TellsTaken journal r outcome.Fenced before after = TellsAwaited r before after
+TellsTaken journal r outcome.Confirmed before after = after ≡ before ++ settles_member journal r
+TellsTaken journal r outcome.Settled before after = after ≡ before ++ waiting_member r.numbering (unsettled_parties (net_reopening r.ongoing))
+TellsTaken journal r outcome.Complete before after = after ≡ before
+TellsTaken journal r outcome.Old before after = after ≡ before ++ text_member (codes "ignored") (codes "old")
+TellsTaken journal r (outcome.Bad fault) before after = after ≡ before ++ told_bad fault
+TellsTaken journal r (outcome.Refused _) before after = TellsRefused before after

@@ -2,7 +2,7 @@
 ghost use Rattle.std.specs.Prelude.{◌≡◌, ◌++◌, OnOk};
 ghost use Rattle.sm_reopening.specs.Ongoing.{net_reopening};
 ghost use Rattle.sm_document_reopening.specs.Waiting.{unsettled_parties};
-ghost use Rattle.sm_reopening_lines.specs.Outcomes.{TellsOutcome, has_counted};
+ghost use Rattle.sm_reopening_lines.specs.Outcomes.{TellsTaken, has_counted};
 ghost use Rattle.sm_reopening_lines.specs.Parties.{TellsAwaited, waiting_member};
 
 use crate::proposed::{write_proposal, write_waiting};
@@ -85,7 +85,7 @@ impl ReopeningOutcome<'_> {
         alloc: Global,
         writer: &mut Writer,
     ) -> Result<(), AllocError>
-        ensures { OnOk result (TellsOutcome journal.now reopening.now self.now writer.old.tokens writer.new.tokens) }
+        ensures { OnOk result (TellsTaken journal.now reopening.now self.now writer.old.tokens writer.new.tokens) }
     {
         match self {
             ReopeningOutcome::Fenced => write_next(alloc, writer, reopening),

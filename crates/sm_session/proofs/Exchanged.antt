@@ -12,7 +12,7 @@ use Rattle.sm_session.specs.Answers.{AnswersAgain}
 use Rattle.sm_session.specs.Asked.{DoesToDriver, StaysOpen}
 use Rattle.sm_session.specs.Changes.{Drives, HasChanged}
 use Rattle.sm_session.specs.Declines.{DriverDeclines}
-use Rattle.sm_session.specs.Outcomes.{Exchange, HasOutcome, TellsOutcome, has_changed}
+use Rattle.sm_session.specs.Outcomes.{DoesAndTells, HasOutcome, TellsOutcome, has_changed}
 use Rattle.sm_session.specs.Replies.{TellsChanges}
 use Rattle.sm_session.proofs.Outcomes.{again, declines, did, kept, told_by}
 
@@ -64,32 +64,38 @@ module _ (command : DriverCommand) (opened new : Option Opened) (under after_it 
   -- ---- the same of an exchange that may have failed
 
   module _ {E : Type 0} (before after : List Token) where
-    pub exchange_changes : (x : Result Bool E) → IfOk x (λ changed. Exchange command r o changed p before after) →
+    -- if something has changed, the driver has
+    pub exchange_changes : (x : Result Bool E) → IfOk x (λ changed. DoesAndTells command r o changed p before after) →
         IfOk x (λ changed. changed ≡ true → HasChanged opened under new after_it)
     exchange_changes (Ok changed) e = λ is. changes e.outcome e.has (sym e.effect ∙ is)
     exchange_changes (Err _) e = tt
 
-    pub exchange_asks : (x : Result Bool E) → IfOk x (λ changed. Exchange command r o changed p before after) →
+    -- then it has done what the command asks for
+    pub exchange_asks : (x : Result Bool E) → IfOk x (λ changed. DoesAndTells command r o changed p before after) →
         IfOk x (λ changed. changed ≡ true → StaysOpen (DoesToDriver command) opened new)
     exchange_asks (Ok changed) e = λ is. asks e.outcome e.has (sym e.effect ∙ is)
     exchange_asks (Err _) e = tt
 
-    pub exchange_keeps : (x : Result Bool E) → IfOk x (λ changed. Exchange command r o changed p before after) →
+    -- if nothing has, all is as it was
+    pub exchange_keeps : (x : Result Bool E) → IfOk x (λ changed. DoesAndTells command r o changed p before after) →
         IfOk x (λ changed. changed ≡ false → new ≡ opened)
     exchange_keeps (Ok changed) e = λ is. keeps e.outcome e.has (sym e.effect ∙ is)
     exchange_keeps (Err _) e = tt
 
-    pub exchange_tells : (x : Result Bool E) → IfOk x (λ changed. Exchange command r o changed p before after) →
+    -- the reply tells what has changed
+    pub exchange_tells : (x : Result Bool E) → IfOk x (λ changed. DoesAndTells command r o changed p before after) →
         IfOk x (λ changed. changed ≡ true → TellsChanges (line.Driver command) opened under new after_it before after)
     exchange_tells (Ok changed) e = λ is. tells e.outcome e.has before after e.tells (sym e.effect ∙ is)
     exchange_tells (Err _) e = tt
 
-    pub exchange_answers : (x : Result Bool E) → IfOk x (λ changed. Exchange command r o changed p before after) →
+    -- it answers a command that came before
+    pub exchange_answers : (x : Result Bool E) → IfOk x (λ changed. DoesAndTells command r o changed p before after) →
         OnOk x (IfSome opened (λ o. AnswersAgain command o (is_some under) before after))
     exchange_answers (Ok changed) e = answers e.outcome e.has before after e.tells
     exchange_answers (Err _) e = tt
 
-    pub exchange_declines : (x : Result Bool E) → IfOk x (λ changed. Exchange command r o changed p before after) →
+    -- it declines one that changes nothing
+    pub exchange_declines : (x : Result Bool E) → IfOk x (λ changed. DoesAndTells command r o changed p before after) →
         IfOk x (λ changed. changed ≡ false → DriverDeclines command opened before after)
     exchange_declines (Ok changed) e = λ is. declined e.outcome e.has before after e.tells (sym e.effect ∙ is)
     exchange_declines (Err _) e = tt

@@ -38,7 +38,7 @@ use Rattle.sm_session.specs.Answers.{AnswersAgain, TellsGiven}
 use Rattle.sm_session.specs.Asked.{DoesToDriver, SaysPlan}
 use Rattle.sm_session.specs.Changes.{Approves, Begins, Changes, Ends, OpensEpoch, Restores, Takes}
 use Rattle.sm_session.specs.Declines.{Declines, DriverDeclines, Ignored, Refused}
-use Rattle.sm_session.specs.Outcomes.{AnsweredOutcome, BeginOutcome, HasMovedWith, HasOutcome, NamesKnown, StartOutcome, TellsDecline, TellsOutcome, has_changed, ignored_word}
+use Rattle.sm_session.specs.Outcomes.{AnsweredOutcome, BeginOutcome, HasMovedWith, HasOutcome, KnowsServers, StartOutcome, TellsDecline, TellsOutcome, has_changed, ignored_word}
 use Rattle.sm_session.specs.Replies.{TellsChange}
 
 -- ---- the outcomes of answers
@@ -198,7 +198,7 @@ kept driver.NewEpoch r old new (outcome.Declined why) h is = h
 kept _ r old new _ h is = absurd h
 
 -- a server that is told its cells is known
-pub names_known : (command : DriverCommand) (r : Bool) (old new : Opened) (o : DriverOutcome) → HasOutcome command r old o new → NamesKnown new.driver o
+pub names_known : (command : DriverCommand) (r : Bool) (old new : Opened) (o : DriverOutcome) → HasOutcome command r old o new → KnowsServers new.driver o
 names_known (driver.Restore name nonce) r old new (outcome.Restored server under) h = h.5
 names_known (driver.Restore name nonce) r old new (outcome.RestoredBefore server under) h = h.2
 names_known _ r old new (outcome.Restored server under) h = absurd h

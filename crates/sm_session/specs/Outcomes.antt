@@ -1,5 +1,6 @@
 -- The outcomes of commands on an open journal, and the replies that tell them.
--- All but `ignored_word`, `is_expected` and `why_ignored` is internal: you need not read it for the public contracts.
+-- `TellsDecline`, `TellsOutcome`, `KnowsServers`, `has_changed`, `StartOutcome`, `BeginsPlanAs`, `BeginOutcome`, `HasMovedWith`, `AnsweredOutcome`,
+-- `AgainOutcome`, `ApproveOutcome`, `RestartedOutcome`, `RestoreOutcome`, `EpochOutcome`, `HasOutcome` and `DoesAndTells` are internal: you need not read them for the public contracts.
 use Rattle.std.specs.Prelude.{◌≡◌, ◌<◌, ℕ, ◌&&◌, ◌||◌, Bool, true, false, List, ◌++◌, Option, Some, None, IfSome, bytes_eq, codes, if◌then◌else◌, not, string_bytes}
 use Rattle.json.specs.Token.{Token}
 use Rattle.serde_json.specs.Data.{Data}
@@ -63,10 +64,10 @@ TellsOutcome o outcome.NextEpoch before after = after ≡ before ++ opened_membe
 TellsOutcome o (outcome.Declined why) before after = TellsDecline why before after
 
 -- the server that is told its cells is known
-abbrev pub NamesKnown : DriverModel → DriverOutcome → Type 0
-NamesKnown d (outcome.Restored server nonce) = server < (record_of d).sizes.servers
-NamesKnown d (outcome.RestoredBefore server nonce) = server < (record_of d).sizes.servers
-NamesKnown d _ = Unit {0}
+abbrev pub KnowsServers : DriverModel → DriverOutcome → Type 0
+KnowsServers d (outcome.Restored server nonce) = server < (record_of d).sizes.servers
+KnowsServers d (outcome.RestoredBefore server nonce) = server < (record_of d).sizes.servers
+KnowsServers d _ = Unit {0}
 
 -- something has changed
 abbrev pub has_changed : DriverOutcome → Bool
@@ -91,15 +92,15 @@ StartOutcome plan old (outcome.Declined why) new = new ≡ old
 StartOutcome plan old _ new = ⊥
 
 -- the plan that a value says has begun, and is this one
-abbrev pub BeginsAs : Data → BegunPlan → Opened → Opened → Type 0
-BeginsAs value begun old new =
+abbrev pub BeginsPlanAs : Data → BegunPlan → Opened → Opened → Type 0
+BeginsPlanAs value begun old new =
     (plan : PlanModel) × SaysPlan old.driver.machine.placement.setup value plan × IsCheckedPlan (record_of old.driver).sizes plan
     × HasBegunPlan plan begun.number old.driver new.driver × (begun ≡ begun_plan new.driver begun.number)
 
 -- the plan that a value says has begun; one had begun under this name before; or none had, and none does
 abbrev pub BeginOutcome : Data → List ℕ → Bool → Opened → DriverOutcome → Opened → Type 0
 BeginOutcome value name is_reopening old (outcome.Begun begun) new =
-    (is_reopening ≡ false) × (value_of old.plans name ≡ None) × BeginsAs value begun old new
+    (is_reopening ≡ false) × (value_of old.plans name ≡ None) × BeginsPlanAs value begun old new
 BeginOutcome value name is_reopening old (outcome.BegunBefore plan goes_on) new =
     (value_of old.plans name ≡ Some plan) × (goes_on ≡ not is_reopening) × (new ≡ old)
 BeginOutcome value name is_reopening old (outcome.Declined why) new = (value_of old.plans name ≡ None) × (new ≡ old)
@@ -191,7 +192,7 @@ HasOutcome (driver.Restore name nonce) is_reopening old o new = RestoreOutcome n
 HasOutcome driver.NewEpoch is_reopening old o new = EpochOutcome is_reopening old o new
 
 -- A command has an outcome, and its reply tells it.
-pub record Exchange (command : DriverCommand) (is_reopening : Bool) (old : Opened) (changed : Bool) (new : Opened) (before after : List Token) : Type 0 where
+pub record DoesAndTells (command : DriverCommand) (is_reopening : Bool) (old : Opened) (changed : Bool) (new : Opened) (before after : List Token) : Type 0 where
   pub outcome : DriverOutcome
   pub has : HasOutcome command is_reopening old outcome new
   pub tells : TellsOutcome new outcome before after

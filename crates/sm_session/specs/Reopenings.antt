@@ -16,7 +16,7 @@ use Rattle.sm_open_journal.specs.Permits.{opened_member}
 use Rattle.sm_reopening.specs.declared.settling.SettledEffect.{SettledEffect}
 use Rattle.sm_reopening.specs.declared.settling.SettledEffect.TheVariants as effect
 use Rattle.sm_document_reopening.specs.Reopening.{ReopeningModel}
-use Rattle.sm_reopening_lines.specs.Outcomes.{DoesSettled, TellsOutcome}
+use Rattle.sm_reopening_lines.specs.Outcomes.{DoesSettled, TellsTaken}
 use Rattle.sm_reopening_lines.specs.Parties.{fences_member}
 use Rattle.sm_reopening_lines.specs.Taken.{TakesSettledBy}
 use Rattle.sm_reopening_lines.specs.declared.outcome.ReopeningOutcome.{ReopeningOutcome}
@@ -81,5 +81,5 @@ TellsReopen after_it (reopen.NotBegun why) before after = TellsNotBegun why befo
 -- The reply to a line on the reopening under way: with the last settle that the next epoch is open, and otherwise what has come of the line.
 abbrev pub TellsUnderWay : Option Opened → Option UnderWay → ReopeningOutcome → List Token → List Token → Type 0
 TellsUnderWay opened under outcome.Complete before after = IfSome opened (λ (o : Opened). after ≡ before ++ opened_member o.driver)
-TellsUnderWay opened (Some u) came before after = TellsOutcome (hexadecimal u.reopening.journal) u.reopening came before after
+TellsUnderWay opened (Some u) came before after = TellsTaken (hexadecimal u.reopening.journal) u.reopening came before after
 TellsUnderWay opened None came before after = after ≡ before ++ text_member (codes "ignored") (codes "old")

@@ -1,7 +1,7 @@
 //! Commands that change a journal that is open.
 ghost use Rattle.std.specs.Prelude.{◌≡◌, IfOk, None, false};
 ghost use Rattle.sm_session.specs.Declines.{DriverDeclines};
-ghost use Rattle.sm_session.specs.Outcomes.{Exchange, HasOutcome};
+ghost use Rattle.sm_session.specs.Outcomes.{DoesAndTells, HasOutcome};
 
 use crate::answering::{answered, write_ignored};
 use crate::approving::approve;
@@ -48,7 +48,7 @@ pub fn change(
     command: DriverCommand<'_, '_>,
 ) -> Result<bool, AllocError>
     ensures { IfOk result (λ changed.
-        Exchange command.entry at.is_reopening opened.old changed opened.new writer.old.tokens writer.new.tokens) }
+        DoesAndTells command.entry at.is_reopening opened.old changed opened.new writer.old.tokens writer.new.tokens) }
 {
     let outcome = apply(opened, at, alloc, command)?;
     outcome.write(opened, alloc, writer)?;

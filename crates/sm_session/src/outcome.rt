@@ -2,7 +2,7 @@
 ghost use Rattle.std.specs.Prelude.{◌≡◌, ◌++◌, IfSome, OnOk, string_bytes};
 ghost use Rattle.sm_open_journal.specs.Given.{given_at};
 ghost use Rattle.sm_open_journal.specs.Permits.{given_member};
-ghost use Rattle.sm_session.specs.Outcomes.{NamesKnown, TellsOutcome, has_changed};
+ghost use Rattle.sm_session.specs.Outcomes.{KnowsServers, TellsOutcome, has_changed};
 
 use crate::decline::Decline;
 use sm_commands::{Writer, write_text};
@@ -92,7 +92,7 @@ impl DriverOutcome {
         alloc: Global,
         writer: &mut Writer,
     ) -> Result<(), AllocError>
-        requires { NamesKnown opened.now.driver self.now }
+        requires { KnowsServers opened.now.driver self.now }
         ensures { OnOk result (TellsOutcome opened.now self.now writer.old.tokens writer.new.tokens) }
     {
         match self {

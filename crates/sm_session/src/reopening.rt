@@ -5,7 +5,7 @@ ghost use Rattle.json_tree.specs.View.{view};
 ghost use Rattle.sm_plan_text.specs.Reading.{read_data, rows_of};
 ghost use Rattle.sm_reopening.specs.Ongoing.{net_reopening};
 ghost use Rattle.sm_open_journal.specs.Bits.{hexadecimal};
-ghost use Rattle.sm_reopening_lines.specs.Outcomes.{DoesConfirm, DoesFenced, TellsOutcome};
+ghost use Rattle.sm_reopening_lines.specs.Outcomes.{DoesConfirm, DoesFenced, TellsTaken};
 ghost use Rattle.sm_reopening_lines.specs.Taken.{ConfirmsAt, TakesFenced, TakesSettledBy};
 ghost use Rattle.sm_session.specs.Asked.{IsUnderDocument, OpensAsNamed, StaysUnderWay, texts_among};
 ghost use Rattle.sm_session.specs.Changes.{BeginsReopening, ComesInForce, ComesInForceBy, HasGoneOn, HasReopened, OpensOf, ReopensWithout, driver_of, reopening_under_way};
@@ -96,7 +96,7 @@ impl UnderWay {
         alloc: Global,
         writer: &mut Writer,
     ) -> Result<(), AllocError>
-        ensures { OnOk result (TellsOutcome (hexadecimal self.now.reopening.journal) self.now.reopening came.now
+        ensures { OnOk result (TellsTaken (hexadecimal self.now.reopening.journal) self.now.reopening came.now
             writer.old.tokens writer.new.tokens) }
     {
         let journal = self.journal(alloc)?;
