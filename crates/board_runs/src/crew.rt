@@ -67,7 +67,7 @@ fn add_seats<A: Ledger, B: Ledger, C: Ledger, N: Naming, R: Wait>(
     ensures { vec_len seats.new ≤ count }
 {
     for _ in 0..count {
-        if let Some(caller) = board.caller(rt) {
+        if let Ok(caller) = board.caller(rt) {
             seats.push_reserved(Seat::new(caller));
         }
     }

@@ -87,7 +87,7 @@ impl<A: Ledger, B: Ledger, C: Ledger, N: Naming> Stage<A, B, C, N> {
             permits,
             tokens,
         } = begun;
-        match Board::<A, B, C, N>::open(alloc, machine, base, tokens) {
+        match Board::<A, B, C, N>::open_running(alloc, machine, base, tokens) {
             Ok((board, runners)) => {
                 let streams = Streams::new(alloc, runners, room);
                 Stage::with_seats(rt, alloc, board, streams, permits, seats)

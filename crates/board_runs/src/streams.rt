@@ -1,12 +1,13 @@
 //! The streams of a run.
-ghost use Rattle.std.specs.Prelude.{◌≡◌, ◌≤◌, ◌+◌, ◌++◌, [], Err, IfOk, IsTrue, vec_len, vec_capacity};
+ghost use Rattle.std.specs.Prelude.{◌≡◌, ◌≤◌, ◌+◌, ◌++◌, [], Err, IfOk, IsTrue, length, vec_len, vec_capacity};
+ghost use Rattle.sm_executor.specs.Stopped.{runners_back, ends_back};
 ghost use Rattle.sm_executor.specs.Views.{streams_run};
 ghost use Rattle.board_runs.specs.declared.fault.Fault.{Fault};
 ghost use Rattle.board_runs.specs.declared.fault.Fault.TheVariants.{NoThread};
 
 use crate::fault::Fault;
 use crate::mishaps::{Mishaps, links_of};
-use sm_executor::{Board, Ended, Gate, Naming, NotRun, RunFault, Runner, run_over, take_tokens};
+use sm_executor::{Board, Ended, Gate, Naming, RunFault, Runner, run_over, take_tokens};
 use sm_machine::StreamToken;
 use std::alloc::{AllocError, Global};
 use std::mem;
@@ -25,15 +26,6 @@ pub(crate) struct Streams<A: Ledger> {
     tokens: Vec<StreamToken>,
     ran: Result<(), Fault>,
     ghost roomy: { vec_len tokens + vec_len runners ≤ vec_capacity tokens },
-}
-
-/// Returns the answer to a run whose streams have not finished.
-fn fault_of(why: RunFault) -> Fault {
-    match why {
-        RunFault::NoMemory => Fault::NoMemory,
-        RunFault::NoThread => Fault::NoThread,
-        RunFault::Halted | RunFault::Spent => Fault::NotEnded,
-    }
 }
 
 /// Puts values behind those of a list with room for all.
@@ -88,6 +80,16 @@ impl<A: Ledger> Streams<A> {
         add_all(&mut self.runners, runners);
     }
 
+    /// Takes runners back, if it has none, and there is room for their tokens.
+    fn take_back(&mut self, runners: Vec<Runner<A>>)
+        requires none { vec_len self.old.runners ≡ 0 }
+        requires room { vec_len self.old.tokens + vec_len runners ≤ vec_capacity self.old.tokens }
+        ensures runners { self.new.runners ≡ runners }
+        ensures others { (self.new.ended ≡ self.old.ended) × (self.new.tokens ≡ self.old.tokens) × (self.new.ran ≡ self.old.ran) }
+    {
+        mem::replace(&mut self.runners, runners).destroy_empty();
+    }
+
     /// Keeps more ends of streams, for which there is room, and how the run came out.
     fn keep(&mut self, ended: Vec<Ended<A>>, ran: Result<(), Fault>)
         requires { vec_len self.old.ended + vec_len ended ≤ vec_capacity self.old.ended }
@@ -100,23 +102,37 @@ impl<A: Ledger> Streams<A> {
 
     /// Keeps what comes back of a run that has not come to the ends of all streams. Returns whether a halt has stopped
     /// them.
-    fn keep_back(&mut self, back: NotRun<A>) -> bool
+    fn keep_back(&mut self, back: RunFault<A>) -> bool
         requires none { vec_len self.old.runners ≡ 0 }
-        requires ended { vec_len self.old.ended + vec_len back.ended ≤ vec_capacity self.old.ended }
-        requires tokens { vec_len self.old.tokens + vec_len back.runners ≤ vec_capacity self.old.tokens }
-        ensures ended { self.new.ended.items ≡ self.old.ended.items ++ back.ended.items }
-        ensures runners { self.new.runners ≡ back.runners }
+        requires ended { vec_len self.old.ended + length (ends_back back) ≤ vec_capacity self.old.ended }
+        requires tokens { vec_len self.old.tokens + length (runners_back back) ≤ vec_capacity self.old.tokens }
+        ensures ended { self.new.ended.items ≡ self.old.ended.items ++ ends_back back }
+        ensures runners { self.new.runners.items ≡ runners_back back }
         ensures tokens { self.new.tokens ≡ self.old.tokens }
         ensures ran { (why : Fault) × (self.new.ran ≡ Err why) }
     {
-        let NotRun {
-            fault,
-            runners,
-            ended,
-        } = back;
-        mem::replace(&mut self.runners, runners).destroy_empty();
-        self.keep(ended, Err(fault_of(fault)));
-        fault == RunFault::Halted
+        match back {
+            RunFault::NoMemory { runners } => {
+                self.take_back(runners);
+                self.ran = Err(Fault::NoMemory);
+                false
+            }
+            RunFault::NoThread { runners } => {
+                self.take_back(runners);
+                self.ran = Err(Fault::NoThread);
+                false
+            }
+            RunFault::Halted { runners, ended } => {
+                self.take_back(runners);
+                self.keep(ended, Err(Fault::NotEnded));
+                true
+            }
+            RunFault::Spent { runners, ended } => {
+                self.take_back(runners);
+                self.keep(ended, Err(Fault::NotEnded));
+                false
+            }
+        }
     }
 
     /// Takes its runners out.

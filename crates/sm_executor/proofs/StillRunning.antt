@@ -7,6 +7,7 @@ use Rattle.sm_placement.specs.Sums.{bit, sum_below, any_below}
 use Rattle.sm_placement.specs.Setup.{Setup}
 use Rattle.sm_reservation.specs.declared.stream_id.StreamId.{StreamId}
 use Rattle.sm_plan_code.specs.Plan.{PlanModel}
+use Rattle.sm_verifier.specs.Stream.{no_stream}
 use Rattle.sm_plan_code.specs.declared.limits.TheConstants.{MOST_PLANS}
 use Rattle.sm_protocol.specs.declared.event.Passage.{Passage}
 use Rattle.sm_protocol.specs.declared.event.Passage.TheVariants.{Through, LostBefore, LostAfter}
@@ -90,6 +91,14 @@ few_run setup w reached = by_events setup FewRun (λ p room o. omega arith) (λ 
 -- each plan that was begun has 64 streams at most
 pub few_streams : (setup : Setup) (w : State) → IsReached setup w → (k : ℕ) → k < length w.plans → stream_count w k ≤ 64
 few_streams setup w reached k l = ((kept setup w reached).plans k l).checked.parts.small.stream_count
+
+-- and each of them has made 4,096 instructions at most
+pub few_made : (setup : Setup) (w : State) → IsReached setup w → (k i : ℕ) → k < length w.plans → i < stream_count w k → (w.progress k i).at ≤ 4096
+few_made setup w reached k i l m =
+    let plan = (kept setup w reached).plans k l in
+    let small = (plan.checked.parts.small.streams i no_stream m).code in
+    let within = (plan.streams i m).within in
+    omega arith
 
 module _ (w : State) (k : ℕ) where
   -- with one more stream there is one more that is unfinished, if that one has not made its end

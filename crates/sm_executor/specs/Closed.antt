@@ -1,14 +1,17 @@
 -- The facts that hold when a board is closed, and why one is not.
--- `AreAllBack` and `StaysOpenFor` are internal: you need not read them for the public contracts.
-use Rattle.std.specs.Prelude.{◌≡◌, ◌↔◌, ◌++◌, ◌∷◌, [], ℕ, zero, suc, Bool, true, List, length, map, sum, if◌then◌else◌}
+-- `room_kept` is internal: you need not read it for the public contracts.
+use Rattle.std.specs.Prelude.{◌≡◌, ◌≤◌, ◌*◌, ◌++◌, ◌∷◌, [], ℕ, zero, suc, Bool, true, List, Option, Some, None, Vec, length, map, sum, if◌then◌else◌, vec_capacity}
+use Rattle.std.specs.Global.{Global}
 use Rattle.sm_placement.specs.Setup.{Setup}
 use Rattle.sm_reservation.specs.declared.stream_id.StreamId.{StreamId}
+use Rattle.sm_plan_code.specs.declared.limits.TheConstants.{MOST_STREAMS}
 use Rattle.sm_protocol.specs.State.{State, stream_id, stream_count, is_begun}
 use Rattle.sm_protocol.specs.Happens.{Happening, happens}
 use Rattle.sm_protocol.specs.Laws.{AreDone, FitsConfig, IsReached}
 use Rattle.sm_protocol.specs.Log.{IsInLog, IsAtEnds}
 use Rattle.sm_executor.specs.declared.closing.CloseFault.{CloseFault}
 use Rattle.sm_executor.specs.declared.closing.CloseFault.TheVariants.{NotDone, BookDiffers}
+use Rattle.sm_executor.specs.declared.limits.TheConstants.{MOST_CALLERS}
 use Rattle.sm_executor.specs.Counting.{IsBooked}
 use Rattle.sm_executor.specs.Views.{HeldModel, state_in, EndedModel, CallerModel}
 
@@ -63,32 +66,44 @@ pub record IsDoneState (setup : Setup) (opened now : State) : Type 0 where
 abbrev pub IsAccount : State → State → List EndedModel → List CallerModel → Type 0
 IsAccount opened now ended callers = IsBooked opened now (sum (map (λ e. e.counted) ended)) (sum (map (λ c. c.executed) callers)) (sum (map (λ c. c.refused) callers))
 
--- At this state of the board every stream has finished, and the log since the opening has as many steps, executed and refused
--- requests as these ends and callers have counted.
-pub record IsClosed (setup : Setup) (opened now : State) (ended : List EndedModel) (callers : List CallerModel) : Type 0 where
-  pub state : IsDoneState setup opened now
-  pub account : IsAccount opened now ended callers
+-- What lies behind the lock has given out 64 runners at most for each plan, and 4,096 callers.
+pub record HasGiven (h : HeldModel) : Type 0 where
+  pub runners : h.runners ≤ MOST_STREAMS * length (state_in h).plans
+  pub callers : h.callers ≤ MOST_CALLERS
 
 -- as many ends and callers are handed in as runners and callers were given out
 abbrev pub AreAllBack : HeldModel → ℕ → ℕ → Type 0
 AreAllBack h ended callers = (ended ≡ h.runners) × (callers ≡ h.callers)
 
--- why a board is not closed with these numbers of ends and callers: a stream has not finished; or each has, and not all
--- runners and callers are back
+-- At this state of the board every stream has finished, as many ends and callers came back as runners and callers can have been given out,
+-- and the log since the opening has as many steps, executed and refused requests as these have counted.
+pub record IsClosed (setup : Setup) (opened now : State) (ended : List EndedModel) (callers : List CallerModel) : Type 0 where
+  pub state : IsDoneState setup opened now
+  pub ends : length ended ≤ MOST_STREAMS * length now.plans
+  pub most_callers : length callers ≤ MOST_CALLERS
+  pub account : IsAccount opened now ended callers
+
+-- Why a board is not closed with these numbers of ends and callers: streams have not finished, and all of these are named; or each has
+-- finished, and not all runners and callers are back.
 abbrev pub StaysOpenFor : HeldModel → ℕ → ℕ → CloseFault → Type 0
-StaysOpenFor h ended callers NotDone = ¬ AreDone (state_in h)
+StaysOpenFor h ended callers (NotDone positions) = (positions.items ≡ unfinished_streams (state_in h)) × ¬ AreDone (state_in h)
 StaysOpenFor h ended callers BookDiffers = AreDone (state_in h) × ¬ AreAllBack h ended callers
 
--- what a contract sees of a board that is not closed: why, what came back, and which streams have not finished
+-- the room for the streams that have not finished, which the fault has, or which is left over
+abbrev pub room_kept : CloseFault → Option (Vec (StreamId × ℕ) Global) → ℕ
+room_kept (NotDone positions) room = vec_capacity positions
+room_kept BookDiffers (Some room) = vec_capacity room
+room_kept BookDiffers None = 0
+
+-- what a contract sees of a board that is not closed: why, and what came back
 pub record NotClosedModel : Type 0 where
   pub fault : CloseFault
   pub ended : List EndedModel
   pub callers : List CallerModel
-  pub positions : List (StreamId × ℕ)
 
--- The streams named are those that have not finished at a state of the board, and NotDone is told exactly if there are some.
-pub record IsNotClosed (setup : Setup) (opened : State) (fault : CloseFault) (positions : List (StreamId × ℕ)) : Type 0 where
-  pub now : State
-  pub state : IsBoardState setup opened now
-  pub named : positions ≡ unfinished_streams now
-  pub not_done : (fault ≡ NotDone) ↔ ¬ (positions ≡ [])
+-- At a state of the board, with some numbers of runners and callers given out, it is not closed for this reason.
+pub record IsNotClosed (setup : Setup) (opened : State) (ended callers : ℕ) (fault : CloseFault) : Type 0 where
+  pub held : HeldModel
+  pub state : IsBoardState setup opened (state_in held)
+  pub given : HasGiven held
+  pub why : StaysOpenFor held ended callers fault

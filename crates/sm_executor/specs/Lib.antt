@@ -7,6 +7,6 @@ pub mod Closed
 pub mod Starting
 pub mod Stepping
 pub mod Ending
-pub mod NotRun
+pub mod Stopped
 pub mod Answering
 pub mod Clients

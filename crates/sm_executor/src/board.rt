@@ -2,7 +2,7 @@
 //!
 //! Each method takes the lock, makes one call of what lies behind it, and lets go. A contract can't name what lies behind a lock, so it
 //! tells what the call does to the runner or the caller; what it does to the machine stands on the call that it makes.
-ghost use Rattle.std.specs.Prelude.{◌≡◌, ◌≢◌, ◌<◌, ◌≤◌, ◌+◌, ◌∷◌, [], length, IfOk, IfErr, IfSome, if◌then◌else◌, vec_capacity};
+ghost use Rattle.std.specs.Prelude.{◌≡◌, ◌≢◌, ◌<◌, ◌≤◌, ◌+◌, ◌∷◌, [], length, IfOk, IfErr, if◌then◌else◌, vec_capacity};
 ghost use Rattle.sm_placement.specs.Place.{entry_at};
 ghost use Rattle.sm_map.specs.Entry.{IsInRange};
 ghost use Rattle.sm_map.specs.History.{AllSameOrOlder};
@@ -28,7 +28,7 @@ ghost use Rattle.sm_executor.specs.Views.{held_model, state_in, calling, IsNewCa
 ghost use Rattle.sm_plan_code.specs.declared.limits.TheConstants.{MOST_CALLS};
 ghost use Rattle.sm_executor.specs.declared.limits.TheConstants.{MOST_UNFINISHED};
 
-use crate::caller::Caller;
+use crate::caller::{Caller, TooManyCallers};
 use crate::held::Held;
 use crate::names::Naming;
 use crate::runner::{Ended, Runner};
@@ -52,7 +52,7 @@ pub struct Board<A: Ledger, B: Ledger, C: Ledger, N: Naming> {
     pub(crate) moved: Condvar,
     pub(crate) words: Words,
     pub(crate) config: Config,
-    pub(crate) positions: Vec<(StreamId, usize)>,
+    pub(crate) positions: Vec<(StreamId, u32)>,
     ghost named: { words ≡ N.words },
     ghost configured: { config ≡ N.setup },
     ghost shards: { length N.words.opening ≡ length N.setup.shards },
@@ -93,34 +93,17 @@ impl<A: Ledger, B: Ledger, C: Ledger, N: Naming> Board<A, B, C, N> {
         held: Held<A, B, C, N>,
         words: Words,
         config: Config,
-        positions: Vec<(StreamId, usize)>,
+        positions: Vec<(StreamId, u32)>,
     ) -> Board<A, B, C, N>
         requires words { words ≡ N.words }
         requires config { config ≡ N.setup }
         requires map { IsMapOf N.words N.opened }
         requires room { MOST_UNFINISHED ≤ vec_capacity positions }
-    {
-        Board::again(held, Condvar::new(), words, config, positions)
-    }
-
-    /// Makes a board of its parts again.
-    pub(crate) fn again(
-        held: Held<A, B, C, N>,
-        moved: Condvar,
-        words: Words,
-        config: Config,
-        positions: Vec<(StreamId, usize)>,
-    ) -> Board<A, B, C, N>
-        requires words { words ≡ N.words }
-        requires config { config ≡ N.setup }
-        requires map { IsMapOf N.words N.opened }
-        requires room { MOST_UNFINISHED ≤ vec_capacity positions }
-        ensures { result.positions.items ≡ positions.items }
     {
         held.is_of_board();
         Board {
             held: Mutex::new(held),
-            moved,
+            moved: Condvar::new(),
             words,
             config,
             positions,
@@ -202,11 +185,11 @@ impl<A: Ledger, B: Ledger, C: Ledger, N: Naming> Board<A, B, C, N> {
         step
     }
 
-    /// Gives out a new caller, which has seen nothing and knows the entries of some state of the board. None if the
-    /// board has given out 4,096.
-    pub fn caller<R: Wait>(&self, rt: &R) -> Option<Caller<B, C, N>>
-        ensures new { IfSome result (λ caller. IsNewCaller caller) }
-        ensures known { IfSome result (λ caller. HasKnownMap N.setup N.opened caller) }
+    /// Gives out a new caller, which has seen nothing and knows the entries of some state of the board. It is refused if
+    /// the board has given out 4,096.
+    pub fn caller<R: Wait>(&self, rt: &R) -> Result<Caller<B, C, N>, TooManyCallers>
+        ensures new { IfOk result (λ caller. IsNewCaller caller) }
+        ensures known { IfOk result (λ caller. HasKnownMap N.setup N.opened caller) }
     {
         let mut held = self.held.lock(rt);
         held.is_of_board();

@@ -10,6 +10,12 @@ use sm_map::{Entry, Pass, Words};
 use sm_server::ShardId;
 use std::marker::{Model, PhantomData};
 use std::sync::ledger::{Ledger, Share};
+use thiserror::Error;
+
+/// A board has given out 4,096 callers, and gives out no more.
+#[derive(Clone, Copy, Debug, PartialEq, Eq, Error)]
+#[error("a board gives out 4096 callers at most")]
+pub struct TooManyCallers;
 
 /// A pass of the map, and shares of the requests that were executed and of those that were refused. It can be neither copied
 /// nor dropped.

@@ -2,9 +2,8 @@
 ghost use Rattle.std.specs.Prelude.{◌≡◌, ◌≢◌, ◌<◌, None, IfOk, IfErr, OnOk, All, length, true, vec_len};
 ghost use Rattle.sm_executor.specs.Clients.{asking, AsksOnce, IsClient};
 ghost use Rattle.sm_executor.specs.Ending.{HasEnded, HasNotEnded};
-ghost use Rattle.sm_executor.specs.NotRun.{ComesBack, may_have_stepped};
+ghost use Rattle.sm_executor.specs.Stopped.{ComesBack, runners_back, ends_back, lacks_memory, may_have_stepped};
 ghost use Rattle.sm_executor.specs.Views.{IsNewCaller, streams_ended, streams_run};
-ghost use Rattle.sm_executor.specs.declared.threads.RunFault.TheVariants.{NoMemory};
 
 use crate::board::Board;
 use crate::caller::Caller;
@@ -12,7 +11,7 @@ use crate::gate::Gate;
 use crate::names::Naming;
 use crate::runner::{Ended, Runner};
 use crate::sure::Sure;
-use crate::threads::{Lists, NotRun, Ran, run_all};
+use crate::threads::{Lists, Ran, RunFault, run_all};
 use sm_router::{Asked, ask};
 use sm_server::ShardId;
 use std::alloc::Global;
@@ -204,13 +203,13 @@ pub fn run_beside<
     runners: Vec<Runner<A>>,
     clients: &mut [Client<B, C, N>],
     gate: &G,
-) -> Result<Vec<Ended<A>>, NotRun<A>>
+) -> Result<Vec<Ended<A>>, RunFault<A>>
     ensures ended { IfOk result (λ ended. streams_ended ended.items ≡ streams_run runners.items) }
     ensures at { IfOk result (λ ended. All (HasEnded N.setup N.opened) ended.items) }
-    ensures back_at { IfErr result (λ back. All (HasEnded N.setup N.opened) back.ended.items) }
-    ensures unfinished { IfErr result (λ back. may_have_stepped back.fault ≡ true → All (HasNotEnded N.setup N.opened) back.runners.items) }
+    ensures back_at { IfErr result (λ back. All (HasEnded N.setup N.opened) (ends_back back)) }
+    ensures unfinished { IfErr result (λ back. may_have_stepped back ≡ true → All (HasNotEnded N.setup N.opened) (runners_back back)) }
     ensures back { IfErr result (ComesBack (vec_len runners)) }
-    ensures memory { IfErr result (λ back. back.fault ≡ NoMemory → back.runners.items ≡ runners.items) }
+    ensures memory { IfErr result (λ back. lacks_memory back ≡ true → runners_back back ≡ runners.items) }
     ensures clients { length clients.new ≡ length clients.old }
     ensures asked { OnOk result (All (λ client. client.asked ≢ None) clients.new) }
 {

@@ -141,7 +141,7 @@ impl Ground {
     }
 }
 
-/// A board for which there is no memory, with all that it was to be opened with.
+/// A board over running streams for which there is no memory, with all that it was to be opened with.
 pub struct NotOpened {
     pub machine: Machine,
     pub ground: Ground,
@@ -153,7 +153,7 @@ pub struct NotOpened {
 fn rooms<A: Ledger>(
     alloc: Global,
     count: usize,
-) -> Result<(Vec<(StreamId, usize)>, Vec<Runner<A>>), AllocError>
+) -> Result<(Vec<(StreamId, u32)>, Vec<Runner<A>>), AllocError>
     ensures positions { IfOk result (λ rooms. MOST_UNFINISHED ≤ vec_capacity rooms.0) }
     ensures runners { IfOk result (λ rooms. (rooms.1.items ≡ []) × (count ≤ vec_capacity rooms.1)) }
 {
@@ -163,9 +163,33 @@ fn rooms<A: Ledger>(
 }
 
 impl<A: Ledger, B: Ledger, C: Ledger, N: Naming> Board<A, B, C, N> {
-    /// Opens a board over a machine, on the ground of this machine as it stands, under the names of that ground. There is a runner for each
-    /// of these tokens, in their order: those of streams that have begun on the machine.
+    /// Opens a board over a machine, on the ground of this machine as it stands, under the names of that ground. It has
+    /// given out no runner: `begin` gives those of a plan. If there is no memory, both come back.
     pub fn open(
+        alloc: Global,
+        machine: Machine,
+        ground: Ground,
+    ) -> Result<Board<A, B, C, N>, (Machine, Ground, AllocError)>
+        requires map { IsMapOf ground.words (state_of machine) }
+        requires setup { ground.setup ≡ machine.placement.setup }
+        requires names { (ground.words ≡ N.words) × (ground.setup ≡ N.setup) × (state_of machine ≡ N.opened) }
+        requires steps { IsLedgerOf ground.steps A.name A.parts }
+        requires executed { IsLedgerOf ground.executed B.name B.parts }
+        requires refused { IsLedgerOf ground.refused C.name C.parts }
+        ensures back { IfErr result (λ e. (e.0 ≡ machine) × (e.1 ≡ ground)) }
+    {
+        match Vec::with_capacity(alloc, MOST_UNFINISHED) {
+            Ok(positions) => {
+                let (held, words, config) = ground.laid(machine);
+                Ok(Board::of(held, words, config, positions))
+            }
+            Err(error) => Err((machine, ground, error)),
+        }
+    }
+
+    /// Opens a board as `open` does, over a machine on which the streams of these tokens have begun: there is a runner
+    /// for each, in their order.
+    pub fn open_running(
         alloc: Global,
         machine: Machine,
         ground: Ground,

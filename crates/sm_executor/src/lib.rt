@@ -21,7 +21,7 @@ mod threads;
 mod unfinished;
 
 pub use board::{Board, Guard};
-pub use caller::Caller;
+pub use caller::{Caller, TooManyCallers};
 pub use clients::{Client, run_beside};
 pub use closing::{CloseFault, NotClosed};
 pub use gate::{Gate, Open};
@@ -30,4 +30,4 @@ pub use limits::PARTS;
 pub use names::Naming;
 pub use runner::{Ended, Runner, take_tokens};
 pub use sure::Sure;
-pub use threads::{NotRun, RunFault, run, run_over};
+pub use threads::{RunFault, run, run_over};

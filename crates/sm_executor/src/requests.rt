@@ -1,5 +1,5 @@
 //! Callers behind the board's lock: their requests, and their looks at the map.
-ghost use Rattle.std.specs.Prelude.{◌≡◌, ◌<◌, ◌+◌, ◌∷◌, [], length, IfSome, IfNone, if◌then◌else◌};
+ghost use Rattle.std.specs.Prelude.{◌≡◌, ◌<◌, ◌+◌, ◌∷◌, [], length, IfOk, OnErr, if◌then◌else◌};
 ghost use Rattle.sm_placement.specs.Place.{entry_at};
 ghost use Rattle.sm_map.specs.History.{AllSameOrOlder};
 ghost use Rattle.sm_protocol.specs.Steps.{Answered};
@@ -13,7 +13,7 @@ ghost use Rattle.sm_executor.specs.Tied.{HasStood};
 ghost use Rattle.sm_executor.specs.Views.{held_model, state_in, calling, IsNewCaller};
 ghost use Rattle.sm_executor.specs.declared.limits.TheConstants.{MOST_CALLERS};
 
-use crate::caller::Caller;
+use crate::caller::{Caller, TooManyCallers};
 use crate::held::Held;
 use crate::limits::MOST_CALLERS;
 use crate::names::Naming;
@@ -45,24 +45,24 @@ fn count_answer<B: Ledger, C: Ledger, N: Naming>(
 }
 
 impl<A: Ledger, B: Ledger, C: Ledger, N: Naming> Held<A, B, C, N> {
-    /// Gives out a new caller, which has seen nothing and knows the machine's entries. None if the board has given out
-    /// 4,096.
+    /// Gives out a new caller, which has seen nothing and knows the machine's entries. It is refused exactly if the board
+    /// has given out 4,096.
     ///
     /// Takes no memory.
-    pub fn caller(&mut self, words: &Words) -> Option<Caller<B, C, N>>
+    pub fn caller(&mut self, words: &Words) -> Result<Caller<B, C, N>, TooManyCallers>
         requires { words.now ≡ N.words }
-        ensures some { IfSome result (λ caller. IsNewCaller caller × (self.new ≡ held_model self.old.machine self.old.runners (self.old.callers + 1))) }
-        ensures known { IfSome result (λ caller. KnowsMap (state_in self.old) caller) }
-        ensures none { IfNone result ((self.new ≡ self.old) × (self.old.callers ≡ MOST_CALLERS)) }
+        ensures new { IfOk result (λ caller. IsNewCaller caller × (self.new ≡ held_model self.old.machine self.old.runners (self.old.callers + 1))) }
+        ensures known { IfOk result (λ caller. KnowsMap (state_in self.old) caller) }
+        ensures refused { OnErr result ((self.new ≡ self.old) × (self.old.callers ≡ MOST_CALLERS)) }
     {
         if self.callers >= MOST_CALLERS {
-            return None;
+            return Err(TooManyCallers);
         }
         let pass = words.pass(&mut self.publisher);
         let executed = self.free_executed.split_off(1, 0);
         let refused = self.free_refused.split_off(1, 0);
         self.callers += 1;
-        Some(Caller {
+        Ok(Caller {
             pass,
             executed,
             refused,

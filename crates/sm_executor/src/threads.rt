@@ -3,11 +3,10 @@
 //! The threads wait for each other before their first steps, so that no stream has stepped if one cannot be started. A
 //! thread does not tell what it did to its runner. The locked machine says of each runner whether its stream has
 //! finished, and the ends are compared with the streams that were noted before.
-ghost use Rattle.std.specs.Prelude.{◌≡◌, ◌≢◌, ◌≤◌, ◌+◌, All, IfOk, IfErr, length, [], true, false, vec_len, vec_capacity};
+ghost use Rattle.std.specs.Prelude.{◌≡◌, ◌≤◌, ◌+◌, All, IfOk, IfErr, length, [], true, false, vec_len, vec_capacity};
 ghost use Rattle.sm_executor.specs.Ending.{HasEnded, HasNotEnded};
 ghost use Rattle.sm_executor.specs.Views.{streams_ended, streams_run};
-ghost use Rattle.sm_executor.specs.NotRun.{ComesBack, may_have_stepped};
-ghost use Rattle.sm_executor.specs.declared.threads.RunFault.TheVariants.{NoMemory};
+ghost use Rattle.sm_executor.specs.Stopped.{ComesBack, runners_back, ends_back, lacks_memory, may_have_stepped};
 
 use crate::board::Board;
 use crate::gate::{Gate, Starter, drive_own};
@@ -21,33 +20,33 @@ use std::sync::ledger::Ledger;
 use std::sync::{Mutex, Wait};
 use std::thread;
 use std::thread::{Scope, Threads};
-use thiserror::Error;
 
-/// Why a run has not come to the ends of all streams.
-#[derive(Clone, Copy, Debug, PartialEq, Eq, Error)]
-pub enum RunFault {
+/// Why a run has not come to the ends of all streams, with what comes back of it. It can be neither copied nor dropped.
+pub enum RunFault<A: Ledger> {
     /// Memory ran out before a stream has stepped.
-    #[error("out of memory")]
-    NoMemory,
+    NoMemory {
+        /// All runners.
+        runners: Vec<Runner<A>>,
+    },
     /// A thread cannot be started, and no stream has stepped.
-    #[error("a thread cannot be started")]
-    NoThread,
+    NoThread {
+        /// All runners.
+        runners: Vec<Runner<A>>,
+    },
     /// The board was halted.
-    #[error("the board is halted")]
-    Halted,
+    Halted {
+        /// The runners whose streams have not finished.
+        runners: Vec<Runner<A>>,
+        /// The ends of the other streams.
+        ended: Vec<Ended<A>>,
+    },
     /// A stream has spent its allowance, so its thread has halted the board.
-    #[error("a stream has spent its allowance")]
-    Spent,
-}
-
-/// A run that has not come to the ends of all streams, with what comes back of it.
-pub struct NotRun<A: Ledger> {
-    /// Why.
-    pub fault: RunFault,
-    /// The runners whose streams have not finished.
-    pub runners: Vec<Runner<A>>,
-    /// The ends of the other streams.
-    pub ended: Vec<Ended<A>>,
+    Spent {
+        /// The runners whose streams have not finished.
+        runners: Vec<Runner<A>>,
+        /// The ends of the other streams.
+        ended: Vec<Ended<A>>,
+    },
 }
 
 /// The outcome of a run's threads. All have ended.
@@ -226,18 +225,15 @@ impl<A: Ledger> Lists<A> {
     pub fn beside(
         alloc: Global,
         runners: Vec<Runner<A>>,
-    ) -> Result<(Lists<A>, Vec<Runner<A>>), NotRun<A>>
+    ) -> Result<(Lists<A>, Vec<Runner<A>>), RunFault<A>>
         ensures streams { IfOk result (λ r. r.0.streams.items ≡ streams_run runners.items) }
         ensures room { IfOk result (λ r. (vec_len runners ≤ vec_capacity r.0.ended) × (vec_len runners ≤ vec_capacity r.0.left)) }
         ensures runners { IfOk result (λ r. r.1 ≡ runners) }
-        ensures back { IfErr result (λ back. (back.fault ≡ NoMemory) × (back.runners ≡ runners) × (back.ended.items ≡ [])) }
+        ensures memory { IfErr result (λ back. lacks_memory back ≡ true) }
+        ensures back { IfErr result (λ back. (runners_back back ≡ runners.items) × (ends_back back ≡ [])) }
     {
         let Ok(lists) = Lists::new(alloc, runners.as_slice()) else {
-            return Err(NotRun {
-                fault: RunFault::NoMemory,
-                runners,
-                ended: Vec::new(alloc),
-            });
+            return Err(RunFault::NoMemory { runners });
         };
         Ok((lists, runners))
     }
@@ -249,14 +245,14 @@ impl<A: Ledger> Lists<A> {
         board: &Board<A, B, C, N>,
         runners: Vec<Runner<A>>,
         ran: Ran,
-    ) -> Result<Vec<Ended<A>>, NotRun<A>>
+    ) -> Result<Vec<Ended<A>>, RunFault<A>>
         requires room { (vec_len runners ≤ vec_capacity self.ended) × (vec_len runners ≤ vec_capacity self.left) }
         ensures ended { IfOk result (λ ended. streams_ended ended.items ≡ self.streams.items) }
         ensures at { IfOk result (λ ended. All (HasEnded N.setup N.opened) ended.items) }
-        ensures back_at { IfErr result (λ back. All (HasEnded N.setup N.opened) back.ended.items) }
-        ensures unfinished { IfErr result (λ back. may_have_stepped back.fault ≡ true → All (HasNotEnded N.setup N.opened) back.runners.items) }
+        ensures back_at { IfErr result (λ back. All (HasEnded N.setup N.opened) (ends_back back)) }
+        ensures unfinished { IfErr result (λ back. may_have_stepped back ≡ true → All (HasNotEnded N.setup N.opened) (runners_back back)) }
         ensures back { IfErr result (ComesBack (vec_len runners)) }
-        ensures memory { IfErr result (λ back. back.fault ≢ NoMemory) }
+        ensures memory { IfErr result (λ back. lacks_memory back ≡ false) }
     {
         let Lists {
             streams,
@@ -265,25 +261,19 @@ impl<A: Ledger> Lists<A> {
         } = self;
         if ran == Ran::NotAll {
             left.destroy_empty();
-            return Err(NotRun {
-                fault: RunFault::NoThread,
-                runners,
-                ended,
-            });
+            ended.destroy_empty();
+            return Err(RunFault::NoThread { runners });
         }
         retire_all(rt, board, runners, &mut ended, &mut left);
         if left.is_empty() && are_of(ended.as_slice(), streams.as_slice()) {
             left.destroy_empty();
             return Ok(ended);
         }
-        Err(NotRun {
-            fault: if ran == Ran::Spent {
-                RunFault::Spent
-            } else {
-                RunFault::Halted
-            },
-            runners: left,
-            ended,
+        let runners = left;
+        Err(if ran == Ran::Spent {
+            RunFault::Spent { runners, ended }
+        } else {
+            RunFault::Halted { runners, ended }
         })
     }
 }
@@ -305,13 +295,13 @@ fn run_lent<
     runners: Vec<Runner<A>>,
     links: &[Mutex<L>],
     gate: &G,
-) -> Result<Vec<Ended<A>>, NotRun<A>>
+) -> Result<Vec<Ended<A>>, RunFault<A>>
     ensures ended { IfOk result (λ ended. streams_ended ended.items ≡ streams_run runners.items) }
     ensures at { IfOk result (λ ended. All (HasEnded N.setup N.opened) ended.items) }
-    ensures back_at { IfErr result (λ back. All (HasEnded N.setup N.opened) back.ended.items) }
-    ensures unfinished { IfErr result (λ back. may_have_stepped back.fault ≡ true → All (HasNotEnded N.setup N.opened) back.runners.items) }
+    ensures back_at { IfErr result (λ back. All (HasEnded N.setup N.opened) (ends_back back)) }
+    ensures unfinished { IfErr result (λ back. may_have_stepped back ≡ true → All (HasNotEnded N.setup N.opened) (runners_back back)) }
     ensures back { IfErr result (ComesBack (vec_len runners)) }
-    ensures memory { IfErr result (λ back. back.fault ≡ NoMemory → back.runners.items ≡ runners.items) }
+    ensures memory { IfErr result (λ back. lacks_memory back ≡ true → runners_back back ≡ runners.items) }
 {
     let (lists, mut runners) = Lists::beside(alloc, runners)?;
     let ran = run_all(rt, board, runners.as_mut_slice(), links, gate);
@@ -347,21 +337,17 @@ pub fn run_over<
     runners: Vec<Runner<A>>,
     gate: &G,
     links: Vec<L>,
-) -> Result<Vec<Ended<A>>, NotRun<A>>
+) -> Result<Vec<Ended<A>>, RunFault<A>>
     requires { vec_len links ≡ vec_len runners }
     ensures ended { IfOk result (λ ended. streams_ended ended.items ≡ streams_run runners.items) }
     ensures at { IfOk result (λ ended. All (HasEnded N.setup N.opened) ended.items) }
-    ensures back_at { IfErr result (λ back. All (HasEnded N.setup N.opened) back.ended.items) }
-    ensures unfinished { IfErr result (λ back. may_have_stepped back.fault ≡ true → All (HasNotEnded N.setup N.opened) back.runners.items) }
+    ensures back_at { IfErr result (λ back. All (HasEnded N.setup N.opened) (ends_back back)) }
+    ensures unfinished { IfErr result (λ back. may_have_stepped back ≡ true → All (HasNotEnded N.setup N.opened) (runners_back back)) }
     ensures back { IfErr result (ComesBack (vec_len runners)) }
-    ensures memory { IfErr result (λ back. back.fault ≡ NoMemory → back.runners.items ≡ runners.items) }
+    ensures memory { IfErr result (λ back. lacks_memory back ≡ true → runners_back back ≡ runners.items) }
 {
     let Ok(links) = behind_locks(alloc, links) else {
-        return Err(NotRun {
-            fault: RunFault::NoMemory,
-            runners,
-            ended: Vec::new(alloc),
-        });
+        return Err(RunFault::NoMemory { runners });
     };
     run_lent(rt, alloc, board, runners, links.as_slice(), gate)
 }
@@ -383,13 +369,13 @@ pub fn run<
     board: &Board<A, B, C, N>,
     runners: Vec<Runner<A>>,
     gate: &G,
-) -> Result<Vec<Ended<A>>, NotRun<A>>
+) -> Result<Vec<Ended<A>>, RunFault<A>>
     ensures ended { IfOk result (λ ended. streams_ended ended.items ≡ streams_run runners.items) }
     ensures at { IfOk result (λ ended. All (HasEnded N.setup N.opened) ended.items) }
-    ensures back_at { IfErr result (λ back. All (HasEnded N.setup N.opened) back.ended.items) }
-    ensures unfinished { IfErr result (λ back. may_have_stepped back.fault ≡ true → All (HasNotEnded N.setup N.opened) back.runners.items) }
+    ensures back_at { IfErr result (λ back. All (HasEnded N.setup N.opened) (ends_back back)) }
+    ensures unfinished { IfErr result (λ back. may_have_stepped back ≡ true → All (HasNotEnded N.setup N.opened) (runners_back back)) }
     ensures back { IfErr result (ComesBack (vec_len runners)) }
-    ensures memory { IfErr result (λ back. back.fault ≡ NoMemory → back.runners.items ≡ runners.items) }
+    ensures memory { IfErr result (λ back. lacks_memory back ≡ true → runners_back back ≡ runners.items) }
 {
     run_lent::<A, B, C, N, Sure, R, G>(rt, alloc, board, runners, &[], gate)
 }

@@ -10,7 +10,7 @@ use sm_reservation::StreamId;
 
 /// Adds the streams of a plan that have not finished, each with the number of instructions that it has made. Takes no
 /// memory.
-fn push_unfinished(machine: &Machine, plan: u32, positions: &mut Vec<(StreamId, usize)>)
+fn push_unfinished(machine: &Machine, plan: u32, positions: &mut Vec<(StreamId, u32)>)
     requires known { plan < length (state_of machine.now).plans }
     requires room { vec_len positions.old + length (unfinished_in (state_of machine.now) plan (stream_count (state_of machine.now) plan)) ≤ vec_capacity positions.old }
     ensures items { positions.new.items ≡ positions.old.items ++ unfinished_in (state_of machine.now) plan (stream_count (state_of machine.now) plan) }
@@ -23,13 +23,13 @@ fn push_unfinished(machine: &Machine, plan: u32, positions: &mut Vec<(StreamId, 
             stream: number as u32,
         };
         if !machine.is_done(id) {
-            positions.push_reserved((id, machine.position(id)));
+            positions.push_reserved((id, machine.position(id) as u32));
         }
     }
 }
 
 /// Lists the streams that have not finished, in a list with room for them. Takes no memory.
-pub(crate) fn list_unfinished(machine: &Machine, positions: &mut Vec<(StreamId, usize)>)
+pub(crate) fn list_unfinished(machine: &Machine, positions: &mut Vec<(StreamId, u32)>)
     requires { MOST_UNFINISHED ≤ vec_capacity positions.old }
     ensures items { positions.new.items ≡ unfinished_streams (state_of machine.now) }
     ensures capacity { vec_capacity positions.new ≡ vec_capacity positions.old }

@@ -65,8 +65,8 @@ fn make_clients<A: Ledger, B: Ledger, C: Ledger, N: Naming, R: Wait>(
 {
     for shard in asks {
         match board.caller(rt) {
-            Some(caller) => clients.push_reserved(Client::new(caller, *shard)),
-            None => return false,
+            Ok(caller) => clients.push_reserved(Client::new(caller, *shard)),
+            Err(_) => return false,
         }
     }
     true
@@ -350,7 +350,7 @@ fn report_on_ground<
         tokens,
         accepted,
     } = begun;
-    match Board::<A, B, C, N>::open(alloc, machine, ground, tokens) {
+    match Board::<A, B, C, N>::open_running(alloc, machine, ground, tokens) {
         Ok((board, runners)) => {
             report_given(rt, alloc, board, given, permits, runners, accepted, asks)
         }

@@ -1,10 +1,11 @@
 //! Lists of what a board has given out, and takes back at its end.
-ghost use Rattle.std.specs.Prelude.{◌≡◌, ◌≤◌, ◌+◌, IfOk, [], map, vec_len, vec_capacity};
+ghost use Rattle.std.specs.Prelude.{◌≡◌, ◌≤◌, ◌+◌, IfOk, [], length, map, vec_len, vec_capacity};
+ghost use Rattle.sm_executor.specs.Stopped.{runners_back};
 ghost use Rattle.sm_report.specs.Unmade.{IsOfRun};
 
 use crate::early::Early;
 use crate::unmade::{Unmade, Unrun};
-use sm_executor::{Caller, Client, Ended, Naming, NotRun, RunFault, take_tokens};
+use sm_executor::{Caller, Client, Ended, Naming, RunFault, take_tokens};
 use sm_machine::StreamToken;
 use std::alloc::{AllocError, Global};
 use std::mem;
@@ -76,36 +77,36 @@ pub fn keep_ends<A: Ledger>(kept: &mut Vec<Ended<A>>, ended: Vec<Ended<A>>)
     mem::replace(kept, ended).destroy_empty();
 }
 
-/// Returns why there is no report of a run whose streams have not finished.
-fn unmade_of(why: RunFault) -> Unmade
-    ensures { IsOfRun result }
-{
-    match why {
-        RunFault::NoMemory => Unmade::Early(Early::NoMemory),
-        RunFault::NoThread => Unmade::Unrun(Unrun::NoThread),
-        RunFault::Halted => Unmade::Unrun(Unrun::Halted),
-        RunFault::Spent => Unmade::Unrun(Unrun::Spent),
-    }
-}
-
 /// Keeps what comes back of a run that has not come to the ends of all streams, and says why there is no report.
 pub fn keep_back<A: Ledger>(
     kept: &mut Vec<Ended<A>>,
     tokens: &mut Vec<StreamToken>,
-    back: NotRun<A>,
+    back: RunFault<A>,
 ) -> Unmade
     requires none { kept.old.items ≡ [] }
-    requires room { vec_len tokens.old + vec_len back.runners ≤ vec_capacity tokens.old }
+    requires room { vec_len tokens.old + length (runners_back back) ≤ vec_capacity tokens.old }
     ensures { IsOfRun result }
 {
-    let NotRun {
-        fault,
-        runners,
-        ended,
-    } = back;
-    take_tokens(runners, tokens);
-    keep_ends(kept, ended);
-    unmade_of(fault)
+    match back {
+        RunFault::NoMemory { runners } => {
+            take_tokens(runners, tokens);
+            Unmade::Early(Early::NoMemory)
+        }
+        RunFault::NoThread { runners } => {
+            take_tokens(runners, tokens);
+            Unmade::Unrun(Unrun::NoThread)
+        }
+        RunFault::Halted { runners, ended } => {
+            take_tokens(runners, tokens);
+            keep_ends(kept, ended);
+            Unmade::Unrun(Unrun::Halted)
+        }
+        RunFault::Spent { runners, ended } => {
+            take_tokens(runners, tokens);
+            keep_ends(kept, ended);
+            Unmade::Unrun(Unrun::Spent)
+        }
+    }
 }
 
 /// Takes the callers of clients, in their order, into an empty list with room for all. Takes no memory.

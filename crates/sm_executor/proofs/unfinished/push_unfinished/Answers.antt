@@ -6,7 +6,7 @@ use Rattle.sm_reservation.specs.declared.stream_id.StreamId.{StreamId}
 use Rattle.sm_protocol.specs.State.{stream_id, stream_count}
 use Rattle.sm_machine.specs.State.{state_of}
 use Rattle.sm_executor.specs.Closed.{unfinished_in}
-use Rattle.sm_executor.proofs.StillRunning.{few_streams, of_next, of_grows, next_open, next_done}
+use Rattle.sm_executor.proofs.StillRunning.{few_streams, few_made, of_next, of_grows, next_open, next_done}
 use Rattle.sm_executor.proofs.unfinished.push_unfinished.Goals as goal
 use Rattle.sm_executor.proofs.unfinished.push_unfinished.Goals.{then-not-is_done, else-not-is_done}
 
@@ -16,6 +16,13 @@ overflow_cast-id c =
     let few = few_streams c.args.machine.now.placement.setup w c.is_reached.ensures c.args.plan c.requires.known in
     let t = c.loop-number-test.true in
     let e = c.stream_count-number-end.ensures in
+    omega arith
+
+pub overflow_cast-position : goal.overflow_cast-position
+overflow_cast-position c =
+    let w = state_of c.args.machine.now in
+    let few = few_made c.args.machine.now.placement.setup w c.is_reached.ensures c.args.plan c.loop-number.number c.requires.known (let t = c.loop-number-test.true in let e = c.stream_count-number-end.ensures in omega arith) in
+    let at = c.position.ensures in
     omega arith
 
 pub push_reserved-requires : goal.push_reserved-requires

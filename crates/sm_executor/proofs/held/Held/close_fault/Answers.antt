@@ -17,7 +17,7 @@ returns-then-not-is_empty-clause-some g c =
     let ok = p.ok in
     let more = eqb-false (vec_len p) 0 (sym c.is_empty.ensures ∙ c.if-not-is_empty.true) in
     let some : ¬ (length (unfinished_streams w) ≡ 0) = λ none. let e : length p.items ≡ 0 = ap length c.list_unfinished.ensures.items ∙ none in more (omega arith) in
-    subst (λ (h : HeldModel). ¬ AreDone (state_in h)) c.self.view_is (some_left w some)
+    subst (λ (h : HeldModel). (p.items ≡ unfinished_streams (state_in h)) × ¬ AreDone (state_in h)) c.self.view_is (c.list_unfinished.ensures.items, some_left w some)
 
 pub returns-then-are_all_back-clause-none : goal.returns-then-are_all_back-clause-none
 returns-then-are_all_back-clause-none g c =
