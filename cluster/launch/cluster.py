@@ -142,7 +142,7 @@ class LocalCluster:
         """Changes what befalls messages, or asks for the counts. What is told twice does the same."""
         for left in (2, 1, 0):
             try:
-                return await self.faults.ask(10.0, **message)
+                return await self.faults.ask(30.0, **message)
             except Failed:
                 if not left:
                     raise
