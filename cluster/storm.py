@@ -87,6 +87,7 @@ class Storm:
         except (NotReady, NotOpened, OSError, TimeoutError, NoLeader, Failed) as why:
             self.sums.failed.append(f"seed {seed}: {type(why).__name__} {why}")
             print(f"seed {seed}: {why}", flush=True)
+            shutil.rmtree(directory, ignore_errors=True)
             return
         self.sums.add(seed, result)
         faults = result.verdict.faults
