@@ -187,7 +187,7 @@ class Case:
                 self.check_undo(legs[self.dice.randrange(len(legs) - 1)], counts, "undone half-way")
 
     def check_undo(self, leg, counts, what):
-        """From a plan's end there are plans back to the first placement. A shard that had no primary keeps one."""
+        """From a plan's end there are plans back to the first placement. A shard that had no primary keeps one, and stays as it is if it has none yet."""
         now = leg.before.after(leg.after)
         back = as_in(now, self.fleet).target
         limits = Limits(streams=self.limits.streams, at_server=self.limits.at_server, hops=50, drops_first=True)
@@ -195,9 +195,13 @@ class Case:
         for other in reach.legs():
             check_leg(other, limits, least_regions(now, back), self.runs)
             end = other.before.after(other.after)
-        excused = {line.split(" ")[0] for line in reach.left if " down" in line}
+        without = {name for name, cells in zip(now.shards, back.cells) if PRIMARY not in cells.values()}
+        told = {line.split(" ")[0]: line for line in reach.left}
+        waits = {name for name, line in told.items() if " down" in line}
+        excused = waits | {name for name, line in told.items() if name in without and "has no primary" in line}
         wrong = [name for name, is_now, was in zip(now.shards, kept(end), zip(back.cells, back.is_listed)) if is_now != was and name not in excused]
         counts[what if not wrong else f"not {what}"] += 1
-        counts["an undo waits for a server that is down"] += bool(excused)
+        counts["an undo waits for a server that is down"] += bool(waits)
+        counts["an undo leaves a shard that never had a primary"] += bool(excused - waits)
         if wrong:
             counts[str(reach.left)] += 1
