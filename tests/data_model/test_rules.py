@@ -24,7 +24,7 @@ class Dice:
 DICE = {
     "own_durable": Dice(3, "writes_stay", "data"),
     "enough_acknowledge": Dice(1, "fewer_losses_lose_nothing", "data"),
-    "told_whole": Dice(5, "fewer_losses_lose_nothing", "old views"),
+    "told_at_view": Dice(5, "fewer_losses_lose_nothing", "old views"),
     "loss_named": Dice(47, "writes_stay", "data"),
 }
 # Rules of `driving_model` on orders, restores and fences, which look at no data: its own random schedules show them.

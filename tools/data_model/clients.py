@@ -7,8 +7,8 @@ from driving_model.clients import PassedWrite, Seal, Write
 class Writes:
     """For each shard its one list of executed writes, those that were acknowledged, and those that some reply showed.
 
-    A write is forgotten only when its loss was named and confirmed, or when a plan has dropped the shard's last
-    replica. `promised` has of each how many copies it had at least, and `destroyed` how many were lost with their
+    A write is forgotten only when the shard was named as lost and that was confirmed, until a new primary acknowledges
+    it again, or when a plan has dropped the shard's last replica. `promised` has of each how many copies it had at least, and `destroyed` how many were lost with their
     disks.
     """
 

@@ -158,7 +158,7 @@ class Following:
             return False
         if left is not None and heard.connection <= left and self.rules.leaver_uncounted:
             return False
-        return replica.copy.begins_with(heard.told) or not self.rules.told_whole
+        return heard.told.view == replica.copy.view or not self.rules.told_at_view
 
     @staticmethod
     def is_settled_with(host: Host, heard: Heard) -> bool:

@@ -88,6 +88,29 @@ def position_without_its_view(rules: Rules) -> None:
     play.fail_over(0, (ABSENT, SECONDARY, ABSENT))
 
 
+def counted_at_an_earlier_view(rules: Rules) -> None:
+    """A list goes on in a view that is lost, and named; another server takes up the list before it, and counts a
+    secondary that has all of it, but not its own view. It is lost, and the server of the lost view is back: its view is
+    the later one."""
+    play = Play(rules, ALL, want=3, copies=2)
+    play.write(7, copies=(1, 2))
+    play.execute(0, 8)
+    play.host(0).copy(0).flush()
+    play.copy(1, 0)
+    for server in (0, 1):
+        play.lose(server)
+    play.reopening({0, 1}, (ABSENT, ABSENT, SECONDARY))
+    play.settle()
+    play.write(9, copies=(), primary=2)
+    play.come_back(0)
+    play.come_back(1)
+    play.fail_over(2, (SECONDARY, SECONDARY, ABSENT))
+    play.tell_all()
+    play.acknowledge()
+    play.come_back(2)
+    play.fail_over(0, (ABSENT, SECONDARY, SECONDARY))
+
+
 def counted_by_an_old_word(rules: Rules) -> None:
     """Three copies are asked for. A secondary has told a write that the other one lacks, and loses its disk. A
     reopening leaves it out, and two copies are enough: the primary still counts it."""
@@ -248,7 +271,8 @@ PLAYS = (
     Worked(read_of_what_is_lost, "replies_wait"),
     Worked(told_before_it_is_durable, "told_flushed"),
     Worked(part_of_a_copy, "part_untold"),
-    Worked(position_without_its_view, "told_whole"),
+    Worked(position_without_its_view, "told_at_view"),
+    Worked(counted_at_an_earlier_view, "told_at_view"),
     Worked(counted_by_an_old_word, "counted_settled"),
     Worked(counted_though_given_up, "counted_settled"),
     Worked(copied_from_a_new_owner_below_its_cut, "anew_of_acknowledger"),

@@ -27,7 +27,7 @@ class Rules(driving.Rules):
     # Whom it counts.
     told_flushed: bool = rule("A follower tells of what it has durably, and of nothing more.")
     part_untold: bool = rule("Of a copy that is not whole a follower tells nothing.")
-    told_whole: bool = rule("A replica counts only if by views its whole copy is a beginning of the counter's list.")
+    told_at_view: bool = rule("A replica counts only if it has told a whole copy of the counter's present view.")
     counted_settled: bool = rule(
         "A follower counts only on a connection that it began when it was settled at the primary's last reopening."
     )

@@ -364,5 +364,5 @@ class World(Following, Asking, Serving, base.World):
             copy.begin_empty(view or 0)
         history[shard] = list(copy.writes)
         if isinstance(message, Settle) and shard in self.perhaps.get(message.base, ()):
-            self.writes.keep(shard, copy.writes)
+            self.writes.keep(shard, [])
             self.coverage["a named loss taken"] += 1
