@@ -1,0 +1,516 @@
+-- Each event that is allowed keeps what holds.
+use Rattle.std.proofs.Common.{◌≡◌, ℕ, ◌+◌, ◌<◌, ◌≤◌, ◌==◌, inl, inr, Bool, true, false, not, ◌&&◌, leb-true, List, [], ◌∷◌, ◌++◌, Option, Some, None, is_some, length, refl, sym, ap, ◌∙◌, subst, arith, length-append, if◌then◌else◌}
+use Rattle.std.proofs.lemmas.Bool.{and_from, and_parts, cases_Bool, cases_eq, false≢true, not-true, both_ways, eq-eqb}
+use Rattle.sm_placement.specs.Sums.{count_below, put}
+use Rattle.sm_placement.proofs.Sums.{put-apart, put-here}
+use Rattle.sm_data_laws.specs.Lists.{ListEntry, Resumes, begins, beginning, view_of}
+use Rattle.sm_data_laws.specs.Shard.{Choice, Event, Acknowledges, Changes, Chooses, Copies, Executes, Follows, Goes, Hands, MayHappen, Joins, Leave, Loses, Lowers, Raises, Removes, Restarts, Shard, Stays, Tells, with_view, counted, after_event, has_told, is_copy, lacks, list_of}
+use Rattle.sm_data_laws.proofs.Lists.{begins-last, begins-length, begins-self, begins-shorter, begins-through, begins-whole, copy-is, empty-or-not, has-all, lacks-nothing, put-cases}
+use Rattle.sm_data_laws.proofs.Counts.{count-either, count-more, enough-more}
+use Rattle.sm_data_laws.proofs.Growth.{grown-copies, grown-enough, grown-lists, grown-whole}
+use Rattle.sm_data_laws.proofs.Invariant.{IsKept, IsTold, IsWhole, begun-below, greatest-has-all, primary-has-all}
+
+-- a whole copy is there
+some-copy : (o : Option (List ListEntry)) → is_some o ≡ true → (copy : List ListEntry) × (o ≡ Some copy)
+some-copy None h = absurd (false≢true h)
+some-copy (Some copy) h = (copy, refl)
+
+list-of : (o : Option (List ListEntry)) (copy : List ListEntry) → o ≡ Some copy → list_of o ≡ copy
+list-of o copy e = ap list_of e
+
+-- nobody has told anything
+untold : (list : List ListEntry) (copies : ℕ → Option (List ListEntry)) → IsTold list copies (λ _. 0)
+untold list copies s xs [] e b l = refl
+untold list copies s xs (y ∷ ys) e b l = absurd (omega arith)
+
+-- who has told the position at which a beginning of the primary's list ends has it
+told-has : (w : Shard) → IsKept w → (list : List ListEntry) → begins list (w.lists w.view) ≡ true → (s : ℕ) → has_told w list s ≡ true → not (lacks list (w.copies s)) ≡ true
+told-has w k list b s h = lacks-nothing list (w.copies s) (λ copy e. k.told s copy list e b (leb-true (length list) (w.told s) h))
+
+-- A list grows in its view: the primary executes a write.
+executes : (w : Shard) → IsKept w → (write : ℕ) → MayHappen w (Executes write) → IsKept (after_event w (Executes write))
+executes w k write a =
+    let c = some-copy (w.copies w.primary) a in
+    let g = list_of (w.copies w.primary) in
+    let e : ListEntry = record { view = w.view; write = write } in
+    let same : g ≡ w.lists w.view = list-of (w.copies w.primary) c.0 c.1 ∙ k.front c.0 c.1 in
+    let is : w.copies w.primary ≡ Some g = c.1 ∙ ap (λ (ys : List ListEntry). Some ys) (sym (list-of (w.copies w.primary) c.0 c.1)) in
+    let behind : begins (w.lists w.view) g ≡ true = subst (λ (ys : List ListEntry). begins (w.lists w.view) ys ≡ true) (sym same) (begins-self (w.lists w.view)) in
+    let from : begins g (w.lists (view_of g)) ≡ true = k.copies w.primary g is in
+    let old : view_of g ≤ w.view = k.lists.views w.view g (subst (λ (ys : List ListEntry). begins ys (w.lists w.view) ≡ true) (sym same) (begins-self (w.lists w.view))) in
+    let all : begins w.acknowledged g ≡ true = subst (λ (ys : List ListEntry). begins w.acknowledged ys ≡ true) (sym same) (primary-has-all w k) in
+    let now : put w.lists w.view (g ++ e ∷ []) w.view ≡ g ++ e ∷ [] = put-here w.lists w.view (g ++ e ∷ []) w.view refl in
+    record {
+      lists = grown-lists w.lists k.lists w.view g e refl behind from old;
+      copies = grown-copies w.lists k.lists w.view g e refl behind from old w.copies w.primary k.copies;
+      front = λ xs h. elim (put-cases w.copies w.primary (Some (g ++ e ∷ [])) w.primary (Some xs) h) [
+        | inl p ↦ (let x : g ++ e ∷ [] ≡ xs = cc in sym x ∙ sym now)
+        | inr p ↦ absurd (p.0 refl)
+      ];
+      unbegun = λ u l. put-apart w.lists w.view (g ++ e ∷ []) u (λ q. absurd (omega arith)) ∙ k.unbegun u l;
+      present = (let n : length (put w.lists w.view (g ++ e ∷ []) w.view) ≡ length (g ++ e ∷ []) = ap length now in omega (arith, length-append g (e ∷ [])));
+      below = k.below;
+      whole = grown-whole w.lists k.lists w.view g e refl behind from old w.acknowledged all k.whole;
+      enough = grown-enough w.lists k.lists w.view g e refl behind from old w.servers w.needed w.replicas w.leaving w.acknowledged w.copies w.primary all k.enough;
+      told = λ t xs ys h b l. elim (put-cases w.copies w.primary (Some (g ++ e ∷ [])) t (Some xs) h) [
+        | inl p ↦ (let x : g ++ e ∷ [] ≡ xs = cc in subst (λ (zs : List ListEntry). begins ys zs ≡ true) (now ∙ x) b)
+        | inr p ↦ elim (begins-last ys g e (subst (λ (zs : List ListEntry). begins ys zs ≡ true) now b)) [
+          | inl c ↦ k.told t xs ys p.1 (subst (λ (zs : List ListEntry). begins ys zs ≡ true) same c) l
+          | inr q ↦
+              let m : w.told t ≤ length (w.lists w.view) = k.heard t in
+              let n : length g ≡ length (w.lists w.view) = ap length same in
+              let o : length ys ≡ length (g ++ e ∷ []) = ap length q in
+              absurd (omega (arith, length-append g (e ∷ [])))
+        ]
+      ];
+      heard = λ t. (let m : w.told t ≤ length (w.lists w.view) = k.heard t in
+          let n : length g ≡ length (w.lists w.view) = ap length same in
+          let o : length (put w.lists w.view (g ++ e ∷ []) w.view) ≡ length (g ++ e ∷ []) = ap length now in
+          omega (arith, length-append g (e ∷ [])));
+    }
+
+-- A server begins a view as primary, with a copy that has all that is to stay acknowledged.
+begins-view : (w : Shard) → IsKept w → (s v : ℕ) (copy : List ListEntry) → w.copies s ≡ Some copy → w.view < v →
+    (replicas leaving : ℕ → Bool) (needed : ℕ) (acknowledged : List ListEntry) → begins acknowledged copy ≡ true → view_of acknowledged ≤ w.view → IsWhole w.lists acknowledged →
+    needed ≤ count_below w.servers (λ t. replicas t && (not (leaving t) && not (lacks acknowledged (w.copies t)))) →
+    IsKept (record (with_view w s v) { replicas = replicas; leaving = leaving; needed = needed; acknowledged = acknowledged })
+begins-view w k s v copy is later replicas leaving needed acknowledged all low whole enough =
+    let g = list_of (w.copies s) in
+    let e : ListEntry = beginning v in
+    let same : g ≡ copy = list-of (w.copies s) copy is in
+    let there : w.copies s ≡ Some g = is ∙ ap (λ (ys : List ListEntry). Some ys) (sym same) in
+    let from : begins g (w.lists (view_of g)) ≡ true = k.copies s g there in
+    let old : view_of g ≤ w.view = below-view w k g from in
+    let none : w.lists v ≡ [] = k.unbegun v later in
+    let behind : begins (w.lists v) g ≡ true = rw none refl in
+    let has : begins acknowledged g ≡ true = subst (λ (ys : List ListEntry). begins acknowledged ys ≡ true) (sym same) all in
+    let now : put w.lists v (g ++ e ∷ []) v ≡ g ++ e ∷ [] = put-here w.lists v (g ++ e ∷ []) v refl in
+    let early : view_of g ≤ v = omega arith in
+    record {
+      lists = grown-lists w.lists k.lists v g e refl behind from early;
+      copies = grown-copies w.lists k.lists v g e refl behind from early w.copies s k.copies;
+      front = λ xs h. elim (put-cases w.copies s (Some (g ++ e ∷ [])) s (Some xs) h) [
+        | inl p ↦ (let x : g ++ e ∷ [] ≡ xs = cc in sym x ∙ sym now)
+        | inr p ↦ absurd (p.0 refl)
+      ];
+      unbegun = λ u l. put-apart w.lists v (g ++ e ∷ []) u (λ q. absurd (omega arith)) ∙ k.unbegun u (omega arith);
+      present = (let n : length (put w.lists v (g ++ e ∷ []) v) ≡ length (g ++ e ∷ []) = ap length now in omega (arith, length-append g (e ∷ [])));
+      below = omega arith;
+      whole = grown-whole w.lists k.lists v g e refl behind from early acknowledged has whole;
+      enough = grown-enough w.lists k.lists v g e refl behind from early w.servers needed replicas leaving acknowledged w.copies s has enough;
+      told = untold (put w.lists v (g ++ e ∷ []) v) (put w.copies s (Some (g ++ e ∷ [])));
+      heard = λ t. omega arith;
+    }
+  where
+    -- a copy is of a view that has begun, or is empty
+    below-view : (w : Shard) → IsKept w → (g : List ListEntry) → begins g (w.lists (view_of g)) ≡ true → view_of g ≤ w.view
+    below-view w k g b = elim (empty-or-not g) [
+      | inl e ↦ (let z : view_of g ≡ 0 = ap view_of e in omega arith)
+      | inr l ↦ begun-below w k (view_of g) (let m : length g ≤ length (w.lists (view_of g)) = begins-length g (w.lists (view_of g)) b in omega arith)
+    ]
+
+-- A server has another copy of all that the primary has.
+copies-anew : (w : Shard) → IsKept w → (s : ℕ) → IsKept (after_event w (Copies s))
+copies-anew w k s = record {
+  lists = k.lists;
+  copies = λ t xs h. elim (put-cases w.copies s (w.copies w.primary) t (Some xs) h) [
+    | inl p ↦ k.copies w.primary xs p.1
+    | inr p ↦ k.copies t xs p.1
+  ];
+  front = λ xs h. elim (put-cases w.copies s (w.copies w.primary) w.primary (Some xs) h) [
+    | inl p ↦ k.front xs p.1
+    | inr p ↦ k.front xs p.1
+  ];
+  unbegun = k.unbegun;
+  present = k.present;
+  below = k.below;
+  whole = k.whole;
+  enough = enough-more w.servers w.needed w.replicas w.leaving (λ t. not (lacks w.acknowledged (w.copies t))) w.replicas w.leaving
+      (λ t. not (lacks w.acknowledged (put w.copies s (w.copies w.primary) t))) k.enough (λ t x y z. (
+        x,
+        y,
+        lacks-nothing w.acknowledged (put w.copies s (w.copies w.primary) t) (λ copy q. elim (put-cases w.copies s (w.copies w.primary) t (Some copy) q) [
+          | inl p ↦ subst (λ (ys : List ListEntry). begins w.acknowledged ys ≡ true) (sym (k.front copy p.1)) (primary-has-all w k)
+          | inr p ↦ has-all w.acknowledged (w.copies t) copy z p.1
+        ]),
+      ));
+  told = λ t xs ys h b l. elim (put-cases w.copies s (w.copies w.primary) t (Some xs) h) [
+    | inl p ↦ subst (λ (zs : List ListEntry). begins ys zs ≡ true) (sym (k.front xs p.1)) b
+    | inr p ↦ k.told t xs ys p.1 b l
+  ];
+  heard = k.heard;
+}
+
+-- a copy that may go on behind a source of the primary's list is a beginning of what it becomes
+goes-on : (w : Shard) → IsKept w → (s : ℕ) (copy source list : List ListEntry) → w.copies s ≡ Some copy → source ≡ w.lists w.view → Resumes copy source →
+    begins list source ≡ true → length copy ≤ length list → begins copy list ≡ true
+goes-on w k s copy source list e is resumes b l =
+    let f = resumes.0 in
+    let in-list : begins f (w.lists w.view) ≡ true = subst (λ (ys : List ListEntry). begins f ys ≡ true) is resumes.1 in
+    let own : begins f (w.lists (view_of copy)) ≡ true = subst (λ (n : ℕ). begins f (w.lists n) ≡ true) resumes.3 (k.lists.matched w.view f in-list) in
+    let n : length f ≡ length copy = resumes.2 in
+    let front : begins copy f ≡ true = begins-shorter copy f (w.lists (view_of copy)) (k.copies s copy e) own (omega arith) in
+    begins-shorter copy list source (begins-through copy f source front resumes.1) b l
+
+-- A copy goes on behind the primary.
+follows : (w : Shard) → IsKept w → (s : ℕ) (list : List ListEntry) → MayHappen w (Follows s list) → IsKept (after_event w (Follows s list))
+follows w k s list a =
+    let copy = a.0 in
+    let source = a.1 in
+    let is : source ≡ w.lists w.view = k.front source a.3 in
+    let on : begins copy list ≡ true = goes-on w k s copy source list a.2 is a.4 a.5 a.6 in
+    let in-list : begins list (w.lists w.view) ≡ true = subst (λ (ys : List ListEntry). begins list ys ≡ true) is a.5 in
+    let own : begins list (w.lists (view_of list)) ≡ true = k.lists.matched w.view list in-list in
+    record {
+      lists = k.lists;
+      copies = λ t xs h. elim (put-cases w.copies s (Some list) t (Some xs) h) [
+        | inl p ↦ (let x : list ≡ xs = cc in subst (λ (ys : List ListEntry). begins ys (w.lists (view_of ys)) ≡ true) x own)
+        | inr p ↦ k.copies t xs p.1
+      ];
+      front = λ xs h. elim (put-cases w.copies s (Some list) w.primary (Some xs) h) [
+        | inl p ↦
+            let x : list ≡ xs = cc in
+            let both : Some source ≡ Some copy = sym a.3 ∙ ap w.copies p.0 ∙ a.2 in
+            let same : source ≡ copy = cc in
+            let n : length source ≡ length copy = ap length same in
+            let l : length copy ≤ length list = a.6 in
+            let m : length list ≤ length source = begins-length list source a.5 in
+            sym x ∙ begins-whole list source a.5 (omega arith) ∙ is
+        | inr p ↦ k.front xs p.1
+      ];
+      unbegun = k.unbegun;
+      present = k.present;
+      below = k.below;
+      whole = k.whole;
+      enough = enough-more w.servers w.needed w.replicas w.leaving (λ t. not (lacks w.acknowledged (w.copies t))) w.replicas w.leaving
+          (λ t. not (lacks w.acknowledged (put w.copies s (Some list) t))) k.enough (λ t x y z. (
+            x,
+            y,
+            lacks-nothing w.acknowledged (put w.copies s (Some list) t) (λ c q. elim (put-cases w.copies s (Some list) t (Some c) q) [
+              | inl p ↦
+                  let same : list ≡ c = cc in
+                  let had : begins w.acknowledged copy ≡ true = has-all w.acknowledged (w.copies t) copy z (ap w.copies p.0 ∙ a.2) in
+                  subst (λ (ys : List ListEntry). begins w.acknowledged ys ≡ true) same (begins-through w.acknowledged copy list had on)
+              | inr p ↦ has-all w.acknowledged (w.copies t) c z p.1
+            ]),
+          ));
+      told = λ t xs ys h b l. elim (put-cases w.copies s (Some list) t (Some xs) h) [
+        | inl p ↦
+            let same : list ≡ xs = cc in
+            let had : begins ys copy ≡ true = k.told t copy ys (ap w.copies p.0 ∙ a.2) b l in
+            subst (λ (zs : List ListEntry). begins ys zs ≡ true) same (begins-through ys copy list had on)
+        | inr p ↦ k.told t xs ys p.1 b l
+      ];
+      heard = k.heard;
+    }
+
+-- A server of the primary's view tells its position.
+tells : (w : Shard) → IsKept w → (s : ℕ) → MayHappen w (Tells s) → IsKept (after_event w (Tells s))
+tells w k s a =
+    let copy = a.0 in
+    let same : list_of (w.copies s) ≡ copy = list-of (w.copies s) copy a.1 in
+    let n : length (list_of (w.copies s)) ≡ length copy = ap length same in
+    let in-list : begins copy (w.lists w.view) ≡ true = subst (λ (u : ℕ). begins copy (w.lists u) ≡ true) a.2 (k.copies s copy a.1) in
+    record {
+      lists = k.lists;
+      copies = k.copies;
+      front = k.front;
+      unbegun = k.unbegun;
+      present = k.present;
+      below = k.below;
+      whole = k.whole;
+      enough = k.enough;
+      told = λ t xs ys h b l. elim (cases_eq t s) [
+        | inl q ↦
+            let x : Some xs ≡ Some copy = sym h ∙ ap w.copies q ∙ a.1 in
+            let is : xs ≡ copy = cc in
+            let m : put w.told s (length (list_of (w.copies s))) t ≡ length (list_of (w.copies s)) = put-here w.told s (length (list_of (w.copies s))) t q in
+            subst (λ (zs : List ListEntry). begins ys zs ≡ true) (sym is) (begins-shorter ys copy (w.lists w.view) b in-list (omega arith))
+        | inr d ↦
+            let m : put w.told s (length (list_of (w.copies s))) t ≡ w.told t = put-apart w.told s (length (list_of (w.copies s))) t d in
+            k.told t xs ys h b (omega arith)
+      ];
+      heard = λ t. elim (cases_eq t s) [
+        | inl q ↦
+            let m : put w.told s (length (list_of (w.copies s))) t ≡ length (list_of (w.copies s)) = put-here w.told s (length (list_of (w.copies s))) t q in
+            let l : length copy ≤ length (w.lists w.view) = begins-length copy (w.lists w.view) in-list in
+            omega arith
+        | inr d ↦
+            let m : put w.told s (length (list_of (w.copies s))) t ≡ w.told t = put-apart w.told s (length (list_of (w.copies s))) t d in
+            let l : w.told t ≤ length (w.lists w.view) = k.heard t in
+            omega arith
+      ];
+    }
+
+-- A beginning of the primary's list is acknowledged.
+acknowledges : (w : Shard) → IsKept w → (list : List ListEntry) → MayHappen w (Acknowledges list) → IsKept (after_event w (Acknowledges list))
+acknowledges w k list a =
+    let source = a.0 in
+    let in-list : begins list (w.lists w.view) ≡ true = subst (λ (ys : List ListEntry). begins list ys ≡ true) (k.front source a.1) a.2 in
+    let v : view_of list ≡ w.view = a.3 in
+    record {
+      lists = k.lists;
+      copies = k.copies;
+      front = k.front;
+      unbegun = k.unbegun;
+      present = k.present;
+      below = omega arith;
+      whole = λ u some low. (let top : u ≤ w.view = begun-below w k u some in let is : w.view ≡ u = omega arith in
+          subst (λ (n : ℕ). begins list (w.lists n) ≡ true) is in-list);
+      enough = enough-more w.servers w.needed w.replicas w.leaving (has_told w list) w.replicas w.leaving (λ t. not (lacks list (w.copies t))) a.5
+          (λ t x y z. (x, y, told-has w k list in-list t z));
+      told = k.told;
+      heard = k.heard;
+    }
+
+-- what a function that is 0 at one place has is not above what it was
+less : (f : ℕ → ℕ) (s t : ℕ) → put f s 0 t ≤ f t
+less f s t = elim (cases_eq t s) [
+  | inl q ↦ (let m : put f s 0 t ≡ 0 = put-here f s 0 t q in omega arith)
+  | inr d ↦ (let m : put f s 0 t ≡ f t = put-apart f s 0 t d in omega arith)
+]
+
+told-less : (w : Shard) → IsKept w → (s : ℕ) → IsTold (w.lists w.view) w.copies (put w.told s 0)
+told-less w k s t xs ys h b l = k.told t xs ys h b (let m : put w.told s 0 t ≤ w.told t = less w.told s t in omega arith)
+
+heard-less : (w : Shard) → IsKept w → (s t : ℕ) → put w.told s 0 t ≤ length (w.lists w.view)
+heard-less w k s t = let m : put w.told s 0 t ≤ w.told t = less w.told s t in let n : w.told t ≤ length (w.lists w.view) = k.heard t in omega arith
+
+-- what a test says after it was set to an answer at one place, if it said that before or the place is that one
+put-true : (f : ℕ → Bool) (s t : ℕ) → f t ≡ true → put f s true t ≡ true
+put-true f s t h = elim (cases_eq t s) [ inl q ↦ put-here f s true t q | inr d ↦ put-apart f s true t d ∙ h ]
+
+put-not : (f : ℕ → Bool) (s t : ℕ) → not (f t) ≡ true → not (put f s false t) ≡ true
+put-not f s t h = elim (cases_eq t s) [ inl q ↦ ap not (put-here f s false t q) | inr d ↦ ap not (put-apart f s false t d) ∙ h ]
+
+-- A server becomes a replica.
+joins : (w : Shard) → IsKept w → (s : ℕ) → IsKept (after_event w (Joins s))
+joins w k s = record {
+  lists = k.lists;
+  copies = k.copies;
+  front = k.front;
+  unbegun = k.unbegun;
+  present = k.present;
+  below = k.below;
+  whole = k.whole;
+  enough = enough-more w.servers w.needed w.replicas w.leaving (λ t. not (lacks w.acknowledged (w.copies t))) (put w.replicas s true) (put w.leaving s false)
+      (λ t. not (lacks w.acknowledged (w.copies t))) k.enough (λ t x y z. (put-true w.replicas s t x, put-not w.leaving s t y, z));
+  told = told-less w k s;
+  heard = heard-less w k s;
+}
+
+-- A replica stays.
+stays : (w : Shard) → IsKept w → (s : ℕ) → IsKept (after_event w (Stays s))
+stays w k s = record {
+  lists = k.lists;
+  copies = k.copies;
+  front = k.front;
+  unbegun = k.unbegun;
+  present = k.present;
+  below = k.below;
+  whole = k.whole;
+  enough = enough-more w.servers w.needed w.replicas w.leaving (λ t. not (lacks w.acknowledged (w.copies t))) w.replicas (put w.leaving s false)
+      (λ t. not (lacks w.acknowledged (w.copies t))) k.enough (λ t x y z. (x, put-not w.leaving s t y, z));
+  told = told-less w k s;
+  heard = heard-less w k s;
+}
+
+-- A replica gets leave.
+leave : (w : Shard) → IsKept w → (s : ℕ) → MayHappen w (Leave s) → IsKept (after_event w (Leave s))
+leave w k s a = record {
+  lists = k.lists;
+  copies = k.copies;
+  front = k.front;
+  unbegun = k.unbegun;
+  present = k.present;
+  below = k.below;
+  whole = k.whole;
+  enough = enough-more w.servers w.needed w.replicas w.leaving (λ t. not (t == s) && has_told w w.acknowledged t) w.replicas (put w.leaving s true)
+      (λ t. not (lacks w.acknowledged (w.copies t))) a (λ t x y z.
+      let p = and_parts (not (t == s)) (has_told w w.acknowledged t) z in
+      let apart : (t ≡ s) → ⊥ = λ (q : t ≡ s). both_ways (t == s) (not-true (t == s) p.0) (eq-eqb t s q) in
+      (x, ap not (put-apart w.leaving s true t apart) ∙ y, told-has w k w.acknowledged (primary-has-all w k) t p.1));
+  told = k.told;
+  heard = k.heard;
+}
+
+-- no copy is there where it was taken away
+taken : (copies : ℕ → Option (List ListEntry)) (s t : ℕ) (xs : List ListEntry) → put copies s None t ≡ Some xs → copies t ≡ Some xs
+taken copies s t xs h = elim (put-cases copies s None t (Some xs) h) [ inl p ↦ absurd (let e : None ≡ Some xs = p.1 in cc) | inr p ↦ p.1 ]
+
+taken-lacks : (list : List ListEntry) (copies : ℕ → Option (List ListEntry)) (s t : ℕ) → not (lacks list (copies t)) ≡ true → not (lacks list (put copies s None t)) ≡ true
+taken-lacks list copies s t h = lacks-nothing list (put copies s None t) (λ copy q. has-all list (copies t) copy h (taken copies s t copy q))
+
+-- A server loses its copy.
+loses : (w : Shard) → IsKept w → (s : ℕ) → IsKept (after_event w (Loses s))
+loses w k s = record {
+  lists = k.lists;
+  copies = λ t xs h. k.copies t xs (taken w.copies s t xs h);
+  front = λ xs h. k.front xs (taken w.copies s w.primary xs h);
+  unbegun = k.unbegun;
+  present = k.present;
+  below = k.below;
+  whole = k.whole;
+  enough = enough-more w.servers w.needed w.replicas w.leaving (λ t. not (lacks w.acknowledged (w.copies t))) w.replicas w.leaving
+      (λ t. not (lacks w.acknowledged (put w.copies s None t))) k.enough (λ t x y z. (x, y, taken-lacks w.acknowledged w.copies s t z));
+  told = λ t xs ys h b l. k.told t xs ys (taken w.copies s t xs h) b l;
+  heard = k.heard;
+}
+
+-- A replica with leave goes.
+goes : (w : Shard) → IsKept w → (s : ℕ) → MayHappen w (Goes s) → IsKept (after_event w (Goes s))
+goes w k s a = record {
+  lists = k.lists;
+  copies = λ t xs h. k.copies t xs (taken w.copies s t xs h);
+  front = λ xs h. k.front xs (taken w.copies s w.primary xs h);
+  unbegun = k.unbegun;
+  present = k.present;
+  below = k.below;
+  whole = k.whole;
+  enough = enough-more w.servers w.needed w.replicas w.leaving (λ t. not (lacks w.acknowledged (w.copies t))) (put w.replicas s false) w.leaving
+      (λ t. not (lacks w.acknowledged (put w.copies s None t))) k.enough (λ t x y z.
+      let apart : (t ≡ s) → ⊥ = λ (q : t ≡ s). both_ways (w.leaving t) (not-true (w.leaving t) y) (ap w.leaving q ∙ a) in
+      (put-apart w.replicas s false t apart ∙ x, y, taken-lacks w.acknowledged w.copies s t z));
+  told = λ t xs ys h b l. k.told t xs ys (taken w.copies s t xs h) b l;
+  heard = k.heard;
+}
+
+-- The shard is handed over.
+hands : (w : Shard) → IsKept w → (s : ℕ) → MayHappen w (Hands s) → IsKept (after_event w (Hands s))
+hands w k s a = record {
+  lists = k.lists;
+  copies = k.copies;
+  front = λ xs h. (let both : Some xs ≡ Some a.0 = sym h ∙ a.2 in let same : xs ≡ a.0 = cc in same ∙ k.front a.0 a.1);
+  unbegun = k.unbegun;
+  present = k.present;
+  below = k.below;
+  whole = k.whole;
+  enough = k.enough;
+  told = untold (w.lists w.view) w.copies;
+  heard = λ t. omega arith;
+}
+
+-- The primary starts again.
+restarts : (w : Shard) → IsKept w → (v : ℕ) → MayHappen w (Restarts v) → IsKept (after_event w (Restarts v))
+restarts w k v a =
+    let c = some-copy (w.copies w.primary) a.0 in
+    let all : begins w.acknowledged c.0 ≡ true = subst (λ (ys : List ListEntry). begins w.acknowledged ys ≡ true) (sym (k.front c.0 c.1)) (primary-has-all w k) in
+    begins-view w k w.primary v c.0 c.1 a.1 w.replicas w.leaving w.needed w.acknowledged all k.below k.whole k.enough
+
+-- The primary asks for more replicas.
+raises : (w : Shard) → IsKept w → (needed : ℕ) → MayHappen w (Raises needed) → IsKept (after_event w (Raises needed))
+raises w k needed a = record {
+  lists = k.lists;
+  copies = k.copies;
+  front = k.front;
+  unbegun = k.unbegun;
+  present = k.present;
+  below = k.below;
+  whole = k.whole;
+  enough = enough-more w.servers needed w.replicas w.leaving (has_told w w.acknowledged) w.replicas w.leaving (λ t. not (lacks w.acknowledged (w.copies t))) a
+      (λ t x y z. (x, y, told-has w k w.acknowledged (primary-has-all w k) t z));
+  told = k.told;
+  heard = k.heard;
+}
+
+-- It asks for fewer.
+lowers : (w : Shard) → IsKept w → (needed : ℕ) → MayHappen w (Lowers needed) → IsKept (after_event w (Lowers needed))
+lowers w k needed a = record {
+  lists = k.lists;
+  copies = k.copies;
+  front = k.front;
+  unbegun = k.unbegun;
+  present = k.present;
+  below = k.below;
+  whole = k.whole;
+  enough = (let l : needed ≤ w.needed = a in let m : w.needed ≤ counted w (λ t. not (lacks w.acknowledged (w.copies t))) = k.enough in omega arith);
+  told = k.told;
+  heard = k.heard;
+}
+
+-- Replicas go by a reopening, and it asks for as many fewer.
+removes : (w : Shard) → IsKept w → (gone : ℕ → Bool) (needed : ℕ) → MayHappen w (Removes gone needed) → IsKept (after_event w (Removes gone needed))
+removes w k gone needed a = record {
+  lists = k.lists;
+  copies = k.copies;
+  front = k.front;
+  unbegun = k.unbegun;
+  present = k.present;
+  below = k.below;
+  whole = k.whole;
+  enough =
+      (let p = λ (t : ℕ). w.replicas t && (not (w.leaving t) && not (lacks w.acknowledged (w.copies t))) in
+      let q = λ (t : ℕ). (w.replicas t && not (gone t)) && (not (w.leaving t) && not (lacks w.acknowledged (w.copies t))) in
+      let r = λ (t : ℕ). w.replicas t && gone t in
+      let l : count_below w.servers p ≤ count_below w.servers q + count_below w.servers r = count-either w.servers p q r (λ t h.
+      let x = and_parts (w.replicas t) (not (w.leaving t) && not (lacks w.acknowledged (w.copies t))) h in
+      elim (cases_Bool (gone t)) [
+        | inl g ↦ inr (and_from (w.replicas t) (gone t) x.0 g)
+        | inr g ↦ inl (and_from (w.replicas t && not (gone t)) (not (w.leaving t) && not (lacks w.acknowledged (w.copies t)))
+            (and_from (w.replicas t) (not (gone t)) x.0 (ap not g)) x.1)
+      ]) in
+      let m : w.needed ≤ count_below w.servers p = k.enough in
+      let n : needed + count_below w.servers r ≤ w.needed = a in
+      omega arith);
+  told = k.told;
+  heard = k.heard;
+}
+
+-- A replica becomes primary by an order.
+changes : (w : Shard) → IsKept w → (s v : ℕ) (answered : ℕ → Bool) → MayHappen w (Changes s v answered) → IsKept (after_event w (Changes s v answered))
+changes w k s v answered a =
+    let all : begins w.acknowledged a.0 ≡ true = greatest-has-all w k answered s a.0 a.1 a.2 a.4 in
+    begins-view w k s v a.0 a.1 a.3 w.replicas w.leaving w.needed w.acknowledged all k.below k.whole k.enough
+
+-- what stays acknowledged when a shard is named as lost, or is not
+kept-begins : (named : Bool) (list copy : List ListEntry) → (named ≡ false → begins list copy ≡ true) → begins (if named then [] else list) copy ≡ true
+kept-begins true list copy h = refl
+kept-begins false list copy h = h refl
+
+kept-below : (named : Bool) (list : List ListEntry) (v : ℕ) → view_of list ≤ v → view_of (if named then [] else list) ≤ v
+kept-below true list v h = omega arith
+kept-below false list v h = h
+
+kept-whole : (named : Bool) (lists : ℕ → List ListEntry) (list : List ListEntry) → IsWhole lists list → IsWhole lists (if named then [] else list)
+kept-whole true lists list h = λ u some low. refl
+kept-whole false lists list h = h
+
+-- A reopening chooses another primary.
+chooses : (w : Shard) → IsKept w → (c : Choice) → MayHappen w (Chooses c) → IsKept (after_event w (Chooses c))
+chooses w k c a =
+    let copy = a.0 in
+    let all : begins (if c.named then [] else w.acknowledged) copy ≡ true = kept-begins c.named w.acknowledged copy (λ n.
+    greatest-has-all w k c.answered c.heir copy a.1.copy_is a.1.greatest (a.1.named n)) in
+    let p = λ (t : ℕ). c.replicas t && is_copy copy (w.copies t) in
+    let q = λ (t : ℕ). c.replicas t && (not false && not (lacks (if c.named then [] else w.acknowledged) (w.copies t))) in
+    let l : count_below w.servers p ≤ count_below w.servers q = count-more w.servers p q (λ t h.
+    let x = and_parts (c.replicas t) (is_copy copy (w.copies t)) h in
+    let is : w.copies t ≡ Some copy = copy-is copy (w.copies t) x.1 in
+    and_from (c.replicas t) (not false && not (lacks (if c.named then [] else w.acknowledged) (w.copies t))) x.0
+    (lacks-nothing (if c.named then [] else w.acknowledged) (w.copies t) (λ other q.
+    let both : Some copy ≡ Some other = sym is ∙ q in
+    let same : copy ≡ other = cc in
+    subst (λ (ys : List ListEntry). begins (if c.named then [] else w.acknowledged) ys ≡ true) same all))) in
+    let n : c.needed ≤ count_below w.servers p = a.1.needed in
+    begins-view w k c.heir c.view copy a.1.copy_is a.1.later c.replicas (λ _. false) c.needed (if c.named then [] else w.acknowledged) all
+    (kept-below c.named w.acknowledged w.view k.below) (kept-whole c.named w.lists w.acknowledged k.whole) (omega arith)
+
+-- What holds holds after each event that is allowed.
+pub kept : (w : Shard) → IsKept w → (e : Event) → MayHappen w e → IsKept (after_event w e)
+kept w k (Executes write) a = executes w k write a
+kept w k (Copies s) a = copies-anew w k s
+kept w k (Follows s list) a = follows w k s list a
+kept w k (Tells s) a = tells w k s a
+kept w k (Acknowledges list) a = acknowledges w k list a
+kept w k (Joins s) a = joins w k s
+kept w k (Leave s) a = leave w k s a
+kept w k (Goes s) a = goes w k s a
+kept w k (Stays s) a = stays w k s
+kept w k (Loses s) a = loses w k s
+kept w k (Hands s) a = hands w k s a
+kept w k (Restarts v) a = restarts w k v a
+kept w k (Raises needed) a = raises w k needed a
+kept w k (Lowers needed) a = lowers w k needed a
+kept w k (Removes gone needed) a = removes w k gone needed a
+kept w k (Changes s v answered) a = changes w k s v answered a
+kept w k (Chooses c) a = chooses w k c a

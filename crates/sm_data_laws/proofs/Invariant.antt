@@ -1,0 +1,116 @@
+-- What holds of a shard's data at each moment.
+use Rattle.std.proofs.Common.{◌≡◌, ℕ, ◌<◌, ◌≤◌, inl, inr, Bool, true, false, not, ◌&&◌, List, [], Option, Some, None, is_some, length, refl, sym, ap, arith}
+use Rattle.std.proofs.lemmas.Bool.{and_parts, cases_lt, false≢true}
+use Rattle.sm_placement.specs.Sums.{count_below}
+use Rattle.sm_data_laws.specs.Lists.{ListEntry, IsAtLeast, begins, view_of}
+use Rattle.sm_data_laws.specs.Shard.{IsGreatest, Shard, counted, gone, lacks}
+use Rattle.sm_data_laws.proofs.Lists.{begins-length, begins-shorter, begins-through, empty-or-not, has-all}
+use Rattle.sm_data_laws.proofs.Counts.{count-apart}
+
+-- The list of each view: a beginning of one is a beginning of the list of its own view, which is no later.
+pub record AreLists (lists : ℕ → List ListEntry) : Type 0 where
+  pub matched : (u : ℕ) (xs : List ListEntry) → begins xs (lists u) ≡ true → begins xs (lists (view_of xs)) ≡ true
+  pub views : (u : ℕ) (xs : List ListEntry) → begins xs (lists u) ≡ true → view_of xs ≤ u
+
+-- A copy is a beginning of the list of its view.
+abbrev pub AreCopies : (ℕ → List ListEntry) → (ℕ → Option (List ListEntry)) → Type 0
+AreCopies lists copies = (s : ℕ) (xs : List ListEntry) → copies s ≡ Some xs → begins xs (lists (view_of xs)) ≡ true
+
+-- What is acknowledged is a beginning of each list that has begun in its view or later.
+abbrev pub IsWhole : (ℕ → List ListEntry) → List ListEntry → Type 0
+IsWhole lists acknowledged = (u : ℕ) → 0 < length (lists u) → view_of acknowledged ≤ u → begins acknowledged (lists u) ≡ true
+
+-- Who has told a position has the primary's list up to it.
+abbrev pub IsTold : List ListEntry → (ℕ → Option (List ListEntry)) → (ℕ → ℕ) → Type 0
+IsTold list copies told = (s : ℕ) (xs ys : List ListEntry) → copies s ≡ Some xs → begins ys list ≡ true → length ys ≤ told s → begins ys xs ≡ true
+
+pub record IsKept (w : Shard) : Type 0 where
+  pub lists : AreLists w.lists
+  pub copies : AreCopies w.lists w.copies
+  pub front : (xs : List ListEntry) → w.copies w.primary ≡ Some xs → xs ≡ w.lists w.view
+  pub unbegun : (u : ℕ) → w.view < u → w.lists u ≡ []
+  pub present : 0 < length (w.lists w.view)
+  pub below : view_of w.acknowledged ≤ w.view
+  pub whole : IsWhole w.lists w.acknowledged
+  pub enough : w.needed ≤ counted w (λ s. not (lacks w.acknowledged (w.copies s)))
+  pub told : IsTold (w.lists w.view) w.copies w.told
+  pub heard : (s : ℕ) → w.told s ≤ length (w.lists w.view)
+
+-- the primary has all that is acknowledged
+pub primary-has-all : (w : Shard) → IsKept w → begins w.acknowledged (w.lists w.view) ≡ true
+primary-has-all w k = k.whole w.view k.present k.below
+
+-- a view that has begun is no later than the primary's
+pub begun-below : (w : Shard) → IsKept w → (u : ℕ) → 0 < length (w.lists u) → u ≤ w.view
+begun-below w k u h = elim (cases_lt w.view u) [
+  | inl l ↦ absurd (let e : length (w.lists u) ≡ 0 = ap length (k.unbegun u l) in omega arith)
+  | inr l ↦ l
+]
+
+module _ (w : Shard) (k : IsKept w) (s h : ℕ) (xs ys : List ListEntry) (ex : w.copies s ≡ Some xs) (ey : w.copies h ≡ Some ys)
+    (b : begins w.acknowledged xs ≡ true) (g : IsAtLeast ys xs) where
+  x-in : begins xs (w.lists (view_of xs)) ≡ true
+  x-in = k.copies s xs ex
+
+  y-in : begins ys (w.lists (view_of ys)) ≡ true
+  y-in = k.copies h ys ey
+
+  here : begins w.acknowledged (w.lists (view_of xs)) ≡ true
+  here = begins-through w.acknowledged xs (w.lists (view_of xs)) b x-in
+
+  -- a shorter copy would be of an earlier view
+  short : length ys < length w.acknowledged → begins ys w.acknowledged ≡ true → ⊥
+  short l c = elim g [
+    | inl later ↦
+        let v : view_of ys ≤ view_of xs = k.lists.views (view_of xs) ys (begins-through ys w.acknowledged (w.lists (view_of xs)) c here) in
+        absurd (omega arith)
+    | inr same ↦
+        let m : length w.acknowledged ≤ length xs = begins-length w.acknowledged xs b in
+        let n : length xs ≤ length ys = same.1 in
+        absurd (omega arith)
+  ]
+
+  later : view_of w.acknowledged ≤ view_of ys
+  later =
+      let low : view_of w.acknowledged ≤ view_of xs = k.lists.views (view_of xs) w.acknowledged here in
+      elim g [
+        | inl l ↦ omega arith
+        | inr q ↦ (let e : view_of xs ≡ view_of ys = q.0 in omega arith)
+      ]
+
+  compared : begins w.acknowledged (w.lists (view_of ys)) ≡ true → begins w.acknowledged ys ≡ true
+  compared all = elim (cases_lt (length ys) (length w.acknowledged)) [
+    | inl l ↦ absurd (short l (begins-shorter ys w.acknowledged (w.lists (view_of ys)) y-in all (omega arith)))
+    | inr l ↦ begins-shorter w.acknowledged ys (w.lists (view_of ys)) all y-in l
+  ]
+
+  -- the greater copy has all that is acknowledged, too
+  pub greater-has-all : begins w.acknowledged ys ≡ true
+  greater-has-all = elim (empty-or-not w.acknowledged) [
+    | inl e ↦ rw e refl
+    | inr some ↦ elim (empty-or-not ys) [
+      | inl e ↦ absurd (short (let z : length ys ≡ 0 = ap length e in omega arith) (rw e refl))
+      | inr there ↦
+          let m : length ys ≤ length (w.lists (view_of ys)) = begins-length ys (w.lists (view_of ys)) y-in in
+          compared (k.whole (view_of ys) (omega arith) later)
+    ]
+  ]
+
+-- If fewer replicas than are asked for are gone, the greatest copy that is told has all that is acknowledged.
+pub greatest-has-all : (w : Shard) → IsKept w → (answered : ℕ → Bool) (heir : ℕ) (copy : List ListEntry) →
+    w.copies heir ≡ Some copy → IsGreatest w answered copy → gone w answered < w.needed → begins w.acknowledged copy ≡ true
+greatest-has-all w k answered heir copy e greatest few =
+    let p = λ (s : ℕ). w.replicas s && (not (w.leaving s) && not (lacks w.acknowledged (w.copies s))) in
+    let q = λ (s : ℕ). w.replicas s && not (answered s && is_some (w.copies s)) in
+    let enough : w.needed ≤ count_below w.servers p = k.enough in
+    let f = count-apart w.servers p q (omega arith) in
+    let a = and_parts (w.replicas f.0) (not (w.leaving f.0) && not (lacks w.acknowledged (w.copies f.0))) f.2 in
+    let b = and_parts (not (w.leaving f.0)) (not (lacks w.acknowledged (w.copies f.0))) a.1 in
+    let there = told-one (w.replicas f.0) (answered f.0) (w.copies f.0) a.0 f.3 in
+    greater-has-all w k f.0 heir there.1 copy there.2 e (has-all w.acknowledged (w.copies f.0) there.1 b.1 there.2) (greatest f.0 there.1 f.1 there.0 there.2)
+  where
+    told-one : (r a : Bool) (o : Option (List ListEntry)) → r ≡ true → (r && not (a && is_some o)) ≡ false → (a ≡ true) × (xs : List ListEntry) × (o ≡ Some xs)
+    told-one true true (Some xs) e h = (refl, xs, refl)
+    told-one true true None e h = absurd (false≢true (sym h))
+    told-one true false o e h = absurd (false≢true (sym h))
+    told-one false a o e h = absurd (false≢true e)

@@ -1,0 +1,99 @@
+-- The laws, of all schedules.
+use Rattle.std.proofs.Common.{◌≡◌, ℕ, ◌≤◌, Bool, true, false, not, ◌&&◌, List, [], ◌∷◌, Some, None, length, refl, sym, subst, arith, inl, inr, if◌then◌else◌}
+use Rattle.std.specs.List.{AllByRecursion}
+use Rattle.std.proofs.lemmas.Bool.{and_from, false≢true}
+use Rattle.sm_placement.specs.Sums.{count_below, put}
+use Rattle.sm_placement.proofs.Sums.{put-apart}
+use Rattle.sm_data_laws.specs.Lists.{ListEntry, begins, beginning, view_of}
+use Rattle.sm_data_laws.specs.Shard.{MayHappenInTurn, Event, Acknowledges, Changes, Chooses, Copies, Executes, Follows, Goes, Hands, MayHappen, IsShardReached, Joins, Leave, Loses, Lowers, Raises, Removes, Restarts, Shard, Stays, Tells, after_event, lacks, names, new_shard, after_events}
+use Rattle.sm_data_laws.specs.Laws.{AcknowledgedWritesStay, EnoughHaveThem, GreatestHasAll}
+use Rattle.sm_data_laws.proofs.Lists.{begins-self, begins-shorter, begins-through, lacks-nothing, put-cases}
+use Rattle.sm_data_laws.proofs.Counts.{count-more}
+use Rattle.sm_data_laws.proofs.Growth.{grown-copies, grown-lists}
+use Rattle.sm_data_laws.proofs.Events.{kept}
+use Rattle.sm_data_laws.proofs.Invariant.{AreCopies, AreLists, IsKept, greatest-has-all, primary-has-all}
+
+-- a new shard
+new-kept : (servers : ℕ) (replicas : ℕ → Bool) (primary needed : ℕ) → needed ≤ count_below servers replicas → IsKept (new_shard servers replicas primary needed)
+new-kept servers replicas primary needed enough =
+    let none : AreLists (λ _. []) = record { matched = λ u xs b. b; views = λ u xs b. empty-view xs b } in
+    let no-copies : AreCopies (λ _. []) (λ _. None) = λ s xs h. absurd (let e : None ≡ Some xs = h in cc) in
+    let l : count_below servers replicas ≤ count_below servers (λ s. replicas s && (not false && not (lacks [] (put (λ _. None) primary (Some (beginning 0 ∷ [])) s)))) =
+    count-more servers replicas (λ s. replicas s && (not false && not (lacks [] (put (λ _. None) primary (Some (beginning 0 ∷ [])) s)))) (λ s h.
+    and_from (replicas s) (not false && not (lacks [] (put (λ _. None) primary (Some (beginning 0 ∷ [])) s))) h
+    (lacks-nothing [] (put (λ _. None) primary (Some (beginning 0 ∷ [])) s) (λ copy q. refl))) in
+    record {
+      lists = grown-lists (λ _. []) none 0 [] (beginning 0) refl refl refl (omega arith);
+      copies = grown-copies (λ _. []) none 0 [] (beginning 0) refl refl refl (omega arith) (λ _. None) primary no-copies;
+      front = λ xs h. elim (put-cases (λ _. None) primary (Some (beginning 0 ∷ [])) primary (Some xs) h) [
+        | inl p ↦ (let x : beginning 0 ∷ [] ≡ xs = cc in sym x)
+        | inr p ↦ absurd (p.0 refl)
+      ];
+      unbegun = λ u l. put-apart (λ _. []) 0 (beginning 0 ∷ []) u (λ q. absurd (omega arith));
+      present = omega arith;
+      below = omega arith;
+      whole = λ u some low. refl;
+      enough = omega arith;
+      told = λ s xs ys h b l. nothing-told s xs ys l;
+      heard = λ s. omega arith;
+    }
+  where
+    empty-view : (xs : List ListEntry) → {u : ℕ} → begins xs [] ≡ true → view_of xs ≤ u
+    empty-view [] b = omega arith
+    empty-view (x ∷ xs) b = absurd (false≢true b)
+
+    nothing-told : (s : ℕ) (xs ys : List ListEntry) → length ys ≤ 0 → begins ys xs ≡ true
+    nothing-told s xs [] l = refl
+    nothing-told s xs (y ∷ ys) l = absurd (omega arith)
+
+-- a whole schedule keeps what holds
+all-kept : (w : Shard) (es : List Event) → IsKept w → MayHappenInTurn w es → IsKept (after_events es w)
+all-kept w [] k a = k
+all-kept w (e ∷ es) k a = all-kept (after_event w e) es (kept w k e a.0) a.1
+
+reached-kept : (w : Shard) → IsShardReached w → IsKept w
+reached-kept w r = subst IsKept r.is (all-kept (new_shard r.servers r.replicas r.primary r.needed) r.events (new-kept r.servers r.replicas r.primary r.needed r.enough) r.allowed)
+
+-- what is acknowledged stays so, unless the shard is named as lost
+stays-acknowledged : (w : Shard) → IsKept w → (e : Event) → MayHappen w e → names e ≡ false → begins w.acknowledged (after_event w e).acknowledged ≡ true
+stays-acknowledged w k (Executes write) a n = begins-self w.acknowledged
+stays-acknowledged w k (Copies s) a n = begins-self w.acknowledged
+stays-acknowledged w k (Follows s list) a n = begins-self w.acknowledged
+stays-acknowledged w k (Tells s) a n = begins-self w.acknowledged
+stays-acknowledged w k (Acknowledges list) a n =
+    begins-shorter w.acknowledged list a.0 (subst (λ (ys : List ListEntry). begins w.acknowledged ys ≡ true) (sym (k.front a.0 a.1)) (primary-has-all w k)) a.2 a.4
+stays-acknowledged w k (Joins s) a n = begins-self w.acknowledged
+stays-acknowledged w k (Leave s) a n = begins-self w.acknowledged
+stays-acknowledged w k (Goes s) a n = begins-self w.acknowledged
+stays-acknowledged w k (Stays s) a n = begins-self w.acknowledged
+stays-acknowledged w k (Loses s) a n = begins-self w.acknowledged
+stays-acknowledged w k (Hands s) a n = begins-self w.acknowledged
+stays-acknowledged w k (Restarts v) a n = begins-self w.acknowledged
+stays-acknowledged w k (Raises needed) a n = begins-self w.acknowledged
+stays-acknowledged w k (Lowers needed) a n = begins-self w.acknowledged
+stays-acknowledged w k (Removes gone needed) a n = begins-self w.acknowledged
+stays-acknowledged w k (Changes s v answered) a n = begins-self w.acknowledged
+stays-acknowledged w k (Chooses c) a n = subst (λ (b : Bool). begins w.acknowledged (if b then [] else w.acknowledged) ≡ true) (sym n) (begins-self w.acknowledged)
+
+all-acknowledged : (w : Shard) (es : List Event) → IsKept w → MayHappenInTurn w es → AllByRecursion (λ e. names e ≡ false) es → begins w.acknowledged (after_events es w).acknowledged ≡ true
+all-acknowledged w [] k a n = begins-self w.acknowledged
+all-acknowledged w (e ∷ es) k a n =
+    begins-through w.acknowledged (after_event w e).acknowledged (after_events es (after_event w e)).acknowledged
+    (stays-acknowledged w k e a.0 n.0)
+    (all-acknowledged (after_event w e) es (kept w k e a.0) a.1 n.1)
+
+-- acknowledged writes stay with the primary
+pub acknowledged-writes-stay : AcknowledgedWritesStay
+acknowledged-writes-stay w es copy r a n is =
+    let k : IsKept w = reached-kept w r in
+    let l : IsKept (after_events es w) = all-kept w es k a in
+    begins-through w.acknowledged (after_events es w).acknowledged copy (all-acknowledged w es k a n)
+    (subst (λ (ys : List ListEntry). begins (after_events es w).acknowledged ys ≡ true) (sym (l.front copy is)) (primary-has-all (after_events es w) l))
+
+-- enough replicas have them
+pub enough-have-them : EnoughHaveThem
+enough-have-them w r = (reached-kept w r).enough
+
+-- the greatest copy has them
+pub greatest-copy-has-all : GreatestHasAll
+greatest-copy-has-all w answered heir copy r is greatest few = greatest-has-all w (reached-kept w r) answered heir copy is greatest few

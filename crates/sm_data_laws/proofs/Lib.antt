@@ -1,0 +1,6 @@
+mod Lists
+mod Counts
+mod Invariant
+mod Growth
+mod Events
+mod Laws

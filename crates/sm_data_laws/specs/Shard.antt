@@ -1,0 +1,204 @@
+-- What happens to the data of one shard: writes, copies, losses, replicas that come and go, other primaries. What a server has is what is durable there.
+use Rattle.std.specs.Prelude.{◌≡◌, ◌<◌, ◌≤◌, ◌+◌, ◌==◌, ◌&&◌, nat_le, ℕ, Bool, true, false, not, List, [], ◌∷◌, ◌++◌, Option, Some, None, is_some, length, if◌then◌else◌}
+use Rattle.sm_placement.specs.Sums.{put, count_below}
+pub use Rattle.sm_data_laws.specs.Lists.{ListEntry, IsAtLeast, Resumes, begins, beginning, view_of}
+
+-- A shard's data. A copy is there only if it is whole: a beginning of the shard's list.
+pub record Shard : Type 0 where
+  -- how many servers there are
+  pub servers : ℕ
+  -- the whole copy of each
+  pub copies : ℕ → Option (List ListEntry)
+  -- who is a replica, and who of them has leave to go
+  pub replicas : ℕ → Bool
+  pub leaving : ℕ → Bool
+  pub primary : ℕ
+  -- the view of the primary, the position in it that each server has told it, and how many replicas it asks for
+  pub view : ℕ
+  pub told : ℕ → ℕ
+  pub needed : ℕ
+  -- the beginning of the list that is acknowledged
+  pub acknowledged : List ListEntry
+  -- the list of each view as its primary had it; nothing that happens depends on these
+  pub lists : ℕ → List ListEntry
+
+-- A choice of another primary by a reopening: who it is, its view, and who are replicas from then on; whose copies were told; how many replicas are
+-- asked for; and whether the shard is named as lost.
+pub record Choice : Type 0 where
+  pub heir : ℕ
+  pub view : ℕ
+  pub replicas : ℕ → Bool
+  pub answered : ℕ → Bool
+  pub needed : ℕ
+  pub named : Bool
+
+-- Something that happens.
+pub data Event : Type 0 where
+  -- The primary executes a write.
+  Executes : (write : ℕ) → Event
+  -- A server has another copy of all that the primary has, made beside the one that it had, if any.
+  Copies : (server : ℕ) → Event
+  -- A server's copy goes on behind the primary, up to this beginning of its list.
+  Follows : (server : ℕ) (list : List ListEntry) → Event
+  -- A server of the primary's view tells it its position.
+  Tells : (server : ℕ) → Event
+  -- The primary acknowledges this beginning of its list.
+  Acknowledges : (list : List ListEntry) → Event
+  -- A server becomes a replica.
+  Joins : (server : ℕ) → Event
+  -- A replica gets leave to go; goes, and deletes its copy; or stays.
+  Leave : (server : ℕ) → Event
+  Goes : (server : ℕ) → Event
+  Stays : (server : ℕ) → Event
+  -- A server loses its copy.
+  Loses : (server : ℕ) → Event
+  -- The primary hands the shard to another server, which has all.
+  Hands : (server : ℕ) → Event
+  -- The primary starts again, in a view of its own.
+  Restarts : (view : ℕ) → Event
+  -- The primary asks for another number of replicas.
+  Raises : (needed : ℕ) → Event
+  Lowers : (needed : ℕ) → Event
+  -- A reopening takes these replicas away, and leaves the primary.
+  Removes : (gone : ℕ → Bool) (needed : ℕ) → Event
+  -- A replica becomes primary by an order, with a view of its own; these have told it their copies.
+  Changes : (server view : ℕ) (answered : ℕ → Bool) → Event
+  -- A reopening chooses another primary.
+  Chooses : (choice : Choice) → Event
+
+-- how many replicas that do not leave pass a test
+abbrev pub counted : Shard → (ℕ → Bool) → ℕ
+counted w test = count_below w.servers (λ s. w.replicas s && (not (w.leaving s) && test s))
+
+-- whether a server has told the primary the position at which a list ends
+abbrev pub has_told : Shard → List ListEntry → ℕ → Bool
+has_told w list s = nat_le (length list) (w.told s)
+
+-- whether a whole copy lacks something of a list
+abbrev pub lacks : List ListEntry → Option (List ListEntry) → Bool
+lacks list None = false
+lacks list (Some copy) = not (begins list copy)
+
+-- the replicas of which no whole copy is told
+abbrev pub gone : Shard → (ℕ → Bool) → ℕ
+gone w answered = count_below w.servers (λ s. w.replicas s && not (answered s && is_some (w.copies s)))
+
+-- whether a server's whole copy is this list
+abbrev pub is_copy : List ListEntry → Option (List ListEntry) → Bool
+is_copy list None = false
+is_copy list (Some copy) = (length list == length copy) && begins list copy
+
+-- no copy that is told is greater
+abbrev pub IsGreatest : Shard → (ℕ → Bool) → List ListEntry → Type 0
+IsGreatest w answered heir = (s : ℕ) (copy : List ListEntry) → s < w.servers → answered s ≡ true → w.copies s ≡ Some copy → IsAtLeast heir copy
+
+-- The rules of a choice: the heir's copy is told, and is the greatest; its view is a new one; as many replicas as are asked for have its copy; and unless
+-- the shard is named fewer than were asked for are gone.
+pub record IsChosen (w : Shard) (choice : Choice) (copy : List ListEntry) : Type 0 where
+  pub copy_is : w.copies choice.heir ≡ Some copy
+  pub greatest : IsGreatest w choice.answered copy
+  pub later : w.view < choice.view
+  pub needed : choice.needed ≤ count_below w.servers (λ s. choice.replicas s && is_copy copy (w.copies s))
+  pub named : choice.named ≡ false → gone w choice.answered < w.needed
+
+-- The rules: what may happen.
+abbrev pub MayHappen : Shard → Event → Type 0
+MayHappen w (Executes write) = is_some (w.copies w.primary) ≡ true
+MayHappen w (Copies s) = is_some (w.copies w.primary) ≡ true
+MayHappen w (Follows s list) = (copy source : List ListEntry) × (w.copies s ≡ Some copy) × (w.copies w.primary ≡ Some source) × Resumes copy source
+    × (begins list source ≡ true) × (length copy ≤ length list)
+MayHappen w (Tells s) = (copy : List ListEntry) × (w.copies s ≡ Some copy) × (view_of copy ≡ w.view)
+MayHappen w (Acknowledges list) = (source : List ListEntry) × (w.copies w.primary ≡ Some source) × (begins list source ≡ true) × (view_of list ≡ w.view)
+    × (length w.acknowledged ≤ length list) × (w.needed ≤ counted w (has_told w list))
+MayHappen w (Joins s) = Unit
+MayHappen w (Leave s) = w.needed ≤ counted w (λ other. not (other == s) && has_told w w.acknowledged other)
+MayHappen w (Goes s) = w.leaving s ≡ true
+MayHappen w (Stays s) = Unit
+MayHappen w (Loses s) = Unit
+MayHappen w (Hands s) = (copy : List ListEntry) × (w.copies w.primary ≡ Some copy) × (w.copies s ≡ Some copy)
+MayHappen w (Restarts view) = (is_some (w.copies w.primary) ≡ true) × (w.view < view)
+MayHappen w (Raises needed) = needed ≤ counted w (has_told w w.acknowledged)
+MayHappen w (Lowers needed) = needed ≤ w.needed
+MayHappen w (Removes gone needed) = needed + count_below w.servers (λ s. w.replicas s && gone s) ≤ w.needed
+MayHappen w (Changes s view answered) = (copy : List ListEntry) × (w.copies s ≡ Some copy) × IsGreatest w answered copy × (w.view < view) × (gone w answered < w.needed)
+MayHappen w (Chooses choice) = (copy : List ListEntry) × IsChosen w choice copy
+
+-- the list of a whole copy, empty without one
+abbrev pub list_of : Option (List ListEntry) → List ListEntry
+list_of None = []
+list_of (Some copy) = copy
+
+-- a server has this copy, which is the list of a view
+abbrev pub with_list : Shard → ℕ → ℕ → List ListEntry → Shard
+with_list w s view list = record w { copies = put w.copies s (Some list); lists = put w.lists view list }
+
+-- a server begins a view as its primary: nobody has told it anything yet
+abbrev pub with_view : Shard → ℕ → ℕ → Shard
+with_view w s view = record (with_list w s view (list_of (w.copies s) ++ beginning view ∷ [])) { primary = s; view = view; told = λ _. 0 }
+
+-- The shard after something has happened.
+abbrev pub after_event : Shard → Event → Shard
+after_event w (Executes write) = with_list w w.primary w.view (list_of (w.copies w.primary) ++ record { view = w.view; write = write } ∷ [])
+after_event w (Copies s) = record w { copies = put w.copies s (w.copies w.primary) }
+after_event w (Follows s list) = record w { copies = put w.copies s (Some list) }
+after_event w (Tells s) = record w { told = put w.told s (length (list_of (w.copies s))) }
+after_event w (Acknowledges list) = record w { acknowledged = list }
+after_event w (Joins s) = record w { replicas = put w.replicas s true; leaving = put w.leaving s false; told = put w.told s 0 }
+after_event w (Leave s) = record w { leaving = put w.leaving s true }
+after_event w (Goes s) = record w { replicas = put w.replicas s false; copies = put w.copies s None }
+after_event w (Stays s) = record w { leaving = put w.leaving s false; told = put w.told s 0 }
+after_event w (Loses s) = record w { copies = put w.copies s None }
+after_event w (Hands s) = record w { primary = s; told = λ _. 0 }
+after_event w (Restarts view) = with_view w w.primary view
+after_event w (Raises needed) = record w { needed = needed }
+after_event w (Lowers needed) = record w { needed = needed }
+after_event w (Removes gone needed) = record w { replicas = λ s. w.replicas s && not (gone s); needed = needed }
+after_event w (Changes s view answered) = with_view w s view
+after_event w (Chooses choice) = record (with_view w choice.heir choice.view) {
+  replicas = choice.replicas;
+  leaving = λ _. false;
+  needed = choice.needed;
+  acknowledged = if choice.named then [] else w.acknowledged;
+}
+
+-- a whole schedule
+abbrev pub after_events : List Event → Shard → Shard
+after_events [] w = w
+after_events (e ∷ es) w = after_events es (after_event w e)
+
+-- each event is allowed when it happens
+abbrev pub MayHappenInTurn : Shard → List Event → Type 0
+MayHappenInTurn w [] = Unit
+MayHappenInTurn w (e ∷ es) = MayHappen w e × MayHappenInTurn (after_event w e) es
+
+-- whether an event names the shard as lost
+abbrev pub names : Event → Bool
+names (Chooses choice) = choice.named
+names _ = false
+
+-- A new shard: its primary has nothing, and begins the view 0.
+abbrev pub new_shard : ℕ → (ℕ → Bool) → ℕ → ℕ → Shard
+new_shard servers replicas primary needed =
+    record {
+      servers = servers;
+      copies = put (λ _. None) primary (Some (beginning 0 ∷ []));
+      replicas = replicas;
+      leaving = λ _. false;
+      primary = primary;
+      view = 0;
+      told = λ _. 0;
+      needed = needed;
+      acknowledged = [];
+      lists = put (λ _. []) 0 (beginning 0 ∷ []);
+    }
+
+-- Events that are allowed lead to the shard, from a new one with as many replicas as are asked for.
+pub record IsShardReached (w : Shard) : Type 0 where
+  pub servers : ℕ
+  pub replicas : ℕ → Bool
+  pub primary : ℕ
+  pub needed : ℕ
+  pub events : List Event
+  pub enough : needed ≤ count_below servers replicas
+  pub allowed : MayHappenInTurn (new_shard servers replicas primary needed) events
+  pub is : after_events events (new_shard servers replicas primary needed) ≡ w

@@ -1,0 +1,19 @@
+//! The laws.
+ghost use Rattle.sm_data_laws.specs.Laws.{AcknowledgedWritesStay, EnoughHaveThem, GreatestHasAll};
+
+/// States that the primary, if it has a whole copy, has every write that was ever acknowledged, whatever happened since, unless a
+/// reopening has named the shard as lost.
+pub fn acknowledged_writes_stay()
+    ensures { AcknowledgedWritesStay }
+{}
+
+/// States that at each moment at least as many replicas as are asked for have all acknowledged writes, or have lost their whole copy.
+pub fn enough_replicas_have_them()
+    ensures { EnoughHaveThem }
+{}
+
+/// States that if fewer replicas than are asked for are gone or silent, the greatest copy of those that were told has all
+/// acknowledged writes.
+pub fn greatest_copy_has_all()
+    ensures { GreatestHasAll }
+{}

@@ -1,0 +1,6 @@
+//! Laws of data: a write that is acknowledged stays with the shard's primary, whatever is lost, unless the shard was named as lost.
+#![tactic(auto)]
+
+mod law;
+
+pub use law::{acknowledged_writes_stay, enough_replicas_have_them, greatest_copy_has_all};
