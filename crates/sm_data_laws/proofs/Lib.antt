@@ -4,3 +4,4 @@ mod Invariant
 mod Growth
 mod Events
 mod Laws
+mod Plays

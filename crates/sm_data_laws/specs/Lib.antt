@@ -1,3 +1,4 @@
 pub mod Lists
 pub mod Shard
 pub mod Laws
+pub mod Plays

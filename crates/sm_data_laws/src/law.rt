@@ -1,5 +1,6 @@
 //! The laws.
 ghost use Rattle.sm_data_laws.specs.Laws.{AcknowledgedWritesStay, EnoughHaveThem, GreatestHasAll};
+ghost use Rattle.sm_data_laws.specs.Plays.{OutlivesItsPrimary};
 
 /// States that the primary, if it has a whole copy, has every write that was ever acknowledged, whatever happened since, unless a
 /// reopening has named the shard as lost.
@@ -16,4 +17,9 @@ pub fn enough_replicas_have_them()
 /// acknowledged writes.
 pub fn greatest_copy_has_all()
     ensures { GreatestHasAll }
+{}
+
+/// States that the premises of the laws can be met: in a worked play a write outlives its primary, with nothing named.
+pub fn a_write_outlives_its_primary()
+    ensures { OutlivesItsPrimary }
 {}

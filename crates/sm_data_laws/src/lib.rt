@@ -3,4 +3,7 @@
 
 mod law;
 
-pub use law::{acknowledged_writes_stay, enough_replicas_have_them, greatest_copy_has_all};
+pub use law::{
+    a_write_outlives_its_primary, acknowledged_writes_stay, enough_replicas_have_them,
+    greatest_copy_has_all,
+};
