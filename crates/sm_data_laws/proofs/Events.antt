@@ -4,7 +4,7 @@ use Rattle.std.proofs.lemmas.Bool.{and_from, and_parts, cases_Bool, cases_eq, fa
 use Rattle.sm_placement.specs.Sums.{count_below, put}
 use Rattle.sm_placement.proofs.Sums.{put-apart, put-here}
 use Rattle.sm_data_laws.specs.Lists.{ListEntry, Resumes, begins, beginning, view_of}
-use Rattle.sm_data_laws.specs.Shard.{Choice, Event, Acknowledges, Changes, Chooses, Copies, Executes, Follows, Goes, Hands, MayHappen, Joins, Leave, Loses, Lowers, Raises, Removes, Restarts, Shard, Stays, Tells, with_view, counted, after_event, has_told, is_copy, lacks, list_of}
+use Rattle.sm_data_laws.specs.Shard.{Choice, Event, Acknowledges, Changes, Chooses, Copies, Executes, Follows, Goes, Hands, MayHappen, Joins, Leave, Loses, Lowers, Raises, Removes, Restarts, Shard, Stays, Tells, with_view, counted, left_by, has_told, is_copy, lacks, list_of}
 use Rattle.sm_data_laws.proofs.Lists.{begins-last, begins-length, begins-self, begins-shorter, begins-through, begins-whole, copy-is, empty-or-not, has-all, lacks-nothing, put-cases}
 use Rattle.sm_data_laws.proofs.Counts.{count-either, count-more, enough-more}
 use Rattle.sm_data_laws.proofs.Growth.{grown-copies, grown-enough, grown-lists, grown-whole}
@@ -28,7 +28,7 @@ told-has : (w : Shard) → IsKept w → (list : List ListEntry) → begins list 
 told-has w k list b s h = lacks-nothing list (w.copies s) (λ copy e. k.told s copy list e b (leb-true (length list) (w.told s) h))
 
 -- A list grows in its view: the primary executes a write.
-executes : (w : Shard) → IsKept w → (write : ℕ) → MayHappen w (Executes write) → IsKept (after_event w (Executes write))
+executes : (w : Shard) → IsKept w → (write : ℕ) → MayHappen w (Executes write) → IsKept (left_by w (Executes write))
 executes w k write a =
     let c = some-copy (w.copies w.primary) a in
     let g = list_of (w.copies w.primary) in
@@ -110,7 +110,7 @@ begins-view w k s v copy is later replicas leaving needed acknowledged all low w
     ]
 
 -- A server has another copy of all that the primary has.
-copies-anew : (w : Shard) → IsKept w → (s : ℕ) → IsKept (after_event w (Copies s))
+copies-anew : (w : Shard) → IsKept w → (s : ℕ) → IsKept (left_by w (Copies s))
 copies-anew w k s = record {
   lists = k.lists;
   copies = λ t xs h. elim (put-cases w.copies s (w.copies w.primary) t (Some xs) h) [
@@ -153,7 +153,7 @@ goes-on w k s copy source list e is resumes b l =
     begins-shorter copy list source (begins-through copy f source front resumes.1) b l
 
 -- A copy goes on behind the primary.
-follows : (w : Shard) → IsKept w → (s : ℕ) (list : List ListEntry) → MayHappen w (Follows s list) → IsKept (after_event w (Follows s list))
+follows : (w : Shard) → IsKept w → (s : ℕ) (list : List ListEntry) → MayHappen w (Follows s list) → IsKept (left_by w (Follows s list))
 follows w k s list a =
     let copy = a.0 in
     let source = a.1 in
@@ -205,7 +205,7 @@ follows w k s list a =
     }
 
 -- A server of the primary's view tells its position.
-tells : (w : Shard) → IsKept w → (s : ℕ) → MayHappen w (Tells s) → IsKept (after_event w (Tells s))
+tells : (w : Shard) → IsKept w → (s : ℕ) → MayHappen w (Tells s) → IsKept (left_by w (Tells s))
 tells w k s a =
     let copy = a.0 in
     let same : list_of (w.copies s) ≡ copy = list-of (w.copies s) copy a.1 in
@@ -243,7 +243,7 @@ tells w k s a =
     }
 
 -- A beginning of the primary's list is acknowledged.
-acknowledges : (w : Shard) → IsKept w → (list : List ListEntry) → MayHappen w (Acknowledges list) → IsKept (after_event w (Acknowledges list))
+acknowledges : (w : Shard) → IsKept w → (list : List ListEntry) → MayHappen w (Acknowledges list) → IsKept (left_by w (Acknowledges list))
 acknowledges w k list a =
     let source = a.0 in
     let in-list : begins list (w.lists w.view) ≡ true = subst (λ (ys : List ListEntry). begins list ys ≡ true) (k.front source a.1) a.2 in
@@ -284,7 +284,7 @@ put-not : (f : ℕ → Bool) (s t : ℕ) → not (f t) ≡ true → not (put f s
 put-not f s t h = elim (cases_eq t s) [ inl q ↦ ap not (put-here f s false t q) | inr d ↦ ap not (put-apart f s false t d) ∙ h ]
 
 -- A server becomes a replica.
-joins : (w : Shard) → IsKept w → (s : ℕ) → IsKept (after_event w (Joins s))
+joins : (w : Shard) → IsKept w → (s : ℕ) → IsKept (left_by w (Joins s))
 joins w k s = record {
   lists = k.lists;
   copies = k.copies;
@@ -300,7 +300,7 @@ joins w k s = record {
 }
 
 -- A replica stays.
-stays : (w : Shard) → IsKept w → (s : ℕ) → IsKept (after_event w (Stays s))
+stays : (w : Shard) → IsKept w → (s : ℕ) → IsKept (left_by w (Stays s))
 stays w k s = record {
   lists = k.lists;
   copies = k.copies;
@@ -316,7 +316,7 @@ stays w k s = record {
 }
 
 -- A replica gets leave.
-leave : (w : Shard) → IsKept w → (s : ℕ) → MayHappen w (Leave s) → IsKept (after_event w (Leave s))
+leave : (w : Shard) → IsKept w → (s : ℕ) → MayHappen w (Leave s) → IsKept (left_by w (Leave s))
 leave w k s a = record {
   lists = k.lists;
   copies = k.copies;
@@ -342,7 +342,7 @@ taken-lacks : (list : List ListEntry) (copies : ℕ → Option (List ListEntry))
 taken-lacks list copies s t h = lacks-nothing list (put copies s None t) (λ copy q. has-all list (copies t) copy h (taken copies s t copy q))
 
 -- A server loses its copy.
-loses : (w : Shard) → IsKept w → (s : ℕ) → IsKept (after_event w (Loses s))
+loses : (w : Shard) → IsKept w → (s : ℕ) → IsKept (left_by w (Loses s))
 loses w k s = record {
   lists = k.lists;
   copies = λ t xs h. k.copies t xs (taken w.copies s t xs h);
@@ -358,7 +358,7 @@ loses w k s = record {
 }
 
 -- A replica with leave goes.
-goes : (w : Shard) → IsKept w → (s : ℕ) → MayHappen w (Goes s) → IsKept (after_event w (Goes s))
+goes : (w : Shard) → IsKept w → (s : ℕ) → MayHappen w (Goes s) → IsKept (left_by w (Goes s))
 goes w k s a = record {
   lists = k.lists;
   copies = λ t xs h. k.copies t xs (taken w.copies s t xs h);
@@ -376,7 +376,7 @@ goes w k s a = record {
 }
 
 -- The shard is handed over.
-hands : (w : Shard) → IsKept w → (s : ℕ) → MayHappen w (Hands s) → IsKept (after_event w (Hands s))
+hands : (w : Shard) → IsKept w → (s : ℕ) → MayHappen w (Hands s) → IsKept (left_by w (Hands s))
 hands w k s a = record {
   lists = k.lists;
   copies = k.copies;
@@ -391,14 +391,14 @@ hands w k s a = record {
 }
 
 -- The primary starts again.
-restarts : (w : Shard) → IsKept w → (v : ℕ) → MayHappen w (Restarts v) → IsKept (after_event w (Restarts v))
+restarts : (w : Shard) → IsKept w → (v : ℕ) → MayHappen w (Restarts v) → IsKept (left_by w (Restarts v))
 restarts w k v a =
     let c = some-copy (w.copies w.primary) a.0 in
     let all : begins w.acknowledged c.0 ≡ true = subst (λ (ys : List ListEntry). begins w.acknowledged ys ≡ true) (sym (k.front c.0 c.1)) (primary-has-all w k) in
     begins-view w k w.primary v c.0 c.1 a.1 w.replicas w.leaving w.needed w.acknowledged all k.below k.whole k.enough
 
 -- The primary asks for more replicas.
-raises : (w : Shard) → IsKept w → (needed : ℕ) → MayHappen w (Raises needed) → IsKept (after_event w (Raises needed))
+raises : (w : Shard) → IsKept w → (needed : ℕ) → MayHappen w (Raises needed) → IsKept (left_by w (Raises needed))
 raises w k needed a = record {
   lists = k.lists;
   copies = k.copies;
@@ -414,7 +414,7 @@ raises w k needed a = record {
 }
 
 -- It asks for fewer.
-lowers : (w : Shard) → IsKept w → (needed : ℕ) → MayHappen w (Lowers needed) → IsKept (after_event w (Lowers needed))
+lowers : (w : Shard) → IsKept w → (needed : ℕ) → MayHappen w (Lowers needed) → IsKept (left_by w (Lowers needed))
 lowers w k needed a = record {
   lists = k.lists;
   copies = k.copies;
@@ -429,7 +429,7 @@ lowers w k needed a = record {
 }
 
 -- Replicas go by a reopening, and it asks for as many fewer.
-removes : (w : Shard) → IsKept w → (gone : ℕ → Bool) (needed : ℕ) → MayHappen w (Removes gone needed) → IsKept (after_event w (Removes gone needed))
+removes : (w : Shard) → IsKept w → (gone : ℕ → Bool) (needed : ℕ) → MayHappen w (Removes gone needed) → IsKept (left_by w (Removes gone needed))
 removes w k gone needed a = record {
   lists = k.lists;
   copies = k.copies;
@@ -457,7 +457,7 @@ removes w k gone needed a = record {
 }
 
 -- A replica becomes primary by an order.
-changes : (w : Shard) → IsKept w → (s v : ℕ) (answered : ℕ → Bool) → MayHappen w (Changes s v answered) → IsKept (after_event w (Changes s v answered))
+changes : (w : Shard) → IsKept w → (s v : ℕ) (answered : ℕ → Bool) → MayHappen w (Changes s v answered) → IsKept (left_by w (Changes s v answered))
 changes w k s v answered a =
     let all : begins w.acknowledged a.0 ≡ true = greatest-has-all w k answered s a.0 a.1 a.2 a.4 in
     begins-view w k s v a.0 a.1 a.3 w.replicas w.leaving w.needed w.acknowledged all k.below k.whole k.enough
@@ -476,7 +476,7 @@ kept-whole true lists list h = λ u some low. refl
 kept-whole false lists list h = h
 
 -- A reopening chooses another primary.
-chooses : (w : Shard) → IsKept w → (c : Choice) → MayHappen w (Chooses c) → IsKept (after_event w (Chooses c))
+chooses : (w : Shard) → IsKept w → (c : Choice) → MayHappen w (Chooses c) → IsKept (left_by w (Chooses c))
 chooses w k c a =
     let copy = a.0 in
     let all : begins (if c.named then [] else w.acknowledged) copy ≡ true = kept-begins c.named w.acknowledged copy (λ n.
@@ -496,7 +496,7 @@ chooses w k c a =
     (kept-below c.named w.acknowledged w.view k.below) (kept-whole c.named w.lists w.acknowledged k.whole) (omega arith)
 
 -- What holds holds after each event that is allowed.
-pub kept : (w : Shard) → IsKept w → (e : Event) → MayHappen w e → IsKept (after_event w e)
+pub kept : (w : Shard) → IsKept w → (e : Event) → MayHappen w e → IsKept (left_by w e)
 kept w k (Executes write) a = executes w k write a
 kept w k (Copies s) a = copies-anew w k s
 kept w k (Follows s list) a = follows w k s list a

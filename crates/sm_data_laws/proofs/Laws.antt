@@ -5,7 +5,7 @@ use Rattle.std.proofs.lemmas.Bool.{and_from, false≢true}
 use Rattle.sm_placement.specs.Sums.{count_below, put}
 use Rattle.sm_placement.proofs.Sums.{put-apart}
 use Rattle.sm_data_laws.specs.Lists.{ListEntry, begins, beginning, view_of}
-use Rattle.sm_data_laws.specs.Shard.{MayHappenInTurn, Event, Acknowledges, Changes, Chooses, Copies, Executes, Follows, Goes, Hands, MayHappen, IsShardReached, Joins, Leave, Loses, Lowers, Raises, Removes, Restarts, Shard, Stays, Tells, after_event, lacks, names, new_shard, after_events}
+use Rattle.sm_data_laws.specs.Shard.{MayHappenInTurn, Event, Acknowledges, Changes, Chooses, Copies, Executes, Follows, Goes, Hands, MayHappen, IsShardReached, Joins, Leave, Loses, Lowers, Raises, Removes, Restarts, Shard, Stays, Tells, left_by, lacks, names, new_shard, all_left}
 use Rattle.sm_data_laws.specs.Laws.{AcknowledgedWritesStay, EnoughHaveThem, GreatestHasAll}
 use Rattle.sm_data_laws.proofs.Lists.{begins-self, begins-shorter, begins-through, lacks-nothing, put-cases}
 use Rattle.sm_data_laws.proofs.Counts.{count-more}
@@ -47,15 +47,15 @@ new-kept servers replicas primary needed enough =
     nothing-told s xs (y ∷ ys) l = absurd (omega arith)
 
 -- a whole schedule keeps what holds
-all-kept : (w : Shard) (es : List Event) → IsKept w → MayHappenInTurn w es → IsKept (after_events es w)
+all-kept : (w : Shard) (es : List Event) → IsKept w → MayHappenInTurn w es → IsKept (all_left es w)
 all-kept w [] k a = k
-all-kept w (e ∷ es) k a = all-kept (after_event w e) es (kept w k e a.0) a.1
+all-kept w (e ∷ es) k a = all-kept (left_by w e) es (kept w k e a.0) a.1
 
 reached-kept : (w : Shard) → IsShardReached w → IsKept w
 reached-kept w r = subst IsKept r.is (all-kept (new_shard r.servers r.replicas r.primary r.needed) r.events (new-kept r.servers r.replicas r.primary r.needed r.enough) r.allowed)
 
 -- what is acknowledged stays so, unless the shard is named as lost
-stays-acknowledged : (w : Shard) → IsKept w → (e : Event) → MayHappen w e → names e ≡ false → begins w.acknowledged (after_event w e).acknowledged ≡ true
+stays-acknowledged : (w : Shard) → IsKept w → (e : Event) → MayHappen w e → names e ≡ false → begins w.acknowledged (left_by w e).acknowledged ≡ true
 stays-acknowledged w k (Executes write) a n = begins-self w.acknowledged
 stays-acknowledged w k (Copies s) a n = begins-self w.acknowledged
 stays-acknowledged w k (Follows s list) a n = begins-self w.acknowledged
@@ -75,20 +75,20 @@ stays-acknowledged w k (Removes gone needed) a n = begins-self w.acknowledged
 stays-acknowledged w k (Changes s v answered) a n = begins-self w.acknowledged
 stays-acknowledged w k (Chooses c) a n = subst (λ (b : Bool). begins w.acknowledged (if b then [] else w.acknowledged) ≡ true) (sym n) (begins-self w.acknowledged)
 
-all-acknowledged : (w : Shard) (es : List Event) → IsKept w → MayHappenInTurn w es → AllByRecursion (λ e. names e ≡ false) es → begins w.acknowledged (after_events es w).acknowledged ≡ true
+all-acknowledged : (w : Shard) (es : List Event) → IsKept w → MayHappenInTurn w es → AllByRecursion (λ e. names e ≡ false) es → begins w.acknowledged (all_left es w).acknowledged ≡ true
 all-acknowledged w [] k a n = begins-self w.acknowledged
 all-acknowledged w (e ∷ es) k a n =
-    begins-through w.acknowledged (after_event w e).acknowledged (after_events es (after_event w e)).acknowledged
+    begins-through w.acknowledged (left_by w e).acknowledged (all_left es (left_by w e)).acknowledged
     (stays-acknowledged w k e a.0 n.0)
-    (all-acknowledged (after_event w e) es (kept w k e a.0) a.1 n.1)
+    (all-acknowledged (left_by w e) es (kept w k e a.0) a.1 n.1)
 
 -- acknowledged writes stay with the primary
 pub acknowledged-writes-stay : AcknowledgedWritesStay
 acknowledged-writes-stay w es copy r a n is =
     let k : IsKept w = reached-kept w r in
-    let l : IsKept (after_events es w) = all-kept w es k a in
-    begins-through w.acknowledged (after_events es w).acknowledged copy (all-acknowledged w es k a n)
-    (subst (λ (ys : List ListEntry). begins (after_events es w).acknowledged ys ≡ true) (sym (l.front copy is)) (primary-has-all (after_events es w) l))
+    let l : IsKept (all_left es w) = all-kept w es k a in
+    begins-through w.acknowledged (all_left es w).acknowledged copy (all-acknowledged w es k a n)
+    (subst (λ (ys : List ListEntry). begins (all_left es w).acknowledged ys ≡ true) (sym (l.front copy is)) (primary-has-all (all_left es w) l))
 
 -- enough replicas have them
 pub enough-have-them : EnoughHaveThem

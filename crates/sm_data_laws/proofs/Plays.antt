@@ -1,12 +1,12 @@
 -- The worked play, step by step.
 use Rattle.std.proofs.Common.{◌≡◌, ℕ, ◌<◌, List, [], ◌∷◌, Some, None, take, zero, suc, refl, subst, arith, inr}
 use Rattle.sm_data_laws.specs.Lists.{IsAtLeast, ListEntry, beginning}
-use Rattle.sm_data_laws.specs.Shard.{Shard, after_events}
+use Rattle.sm_data_laws.specs.Shard.{Shard, all_left}
 use Rattle.sm_data_laws.specs.Plays.{OutlivesItsPrimary, PRIMARY_IS_LOST, SEVEN, THREE}
 
 -- the shard when its primary is lost
 abbrev LOST : Shard
-LOST = after_events (take 8 PRIMARY_IS_LOST) THREE
+LOST = all_left (take 8 PRIMARY_IS_LOST) THREE
 
 -- server 1 has the greatest copy of those that are left
 greatest : (s : ℕ) (copy : List ListEntry) → s < 3 → LOST.copies s ≡ Some copy → IsAtLeast (beginning 0 ∷ SEVEN ∷ []) copy

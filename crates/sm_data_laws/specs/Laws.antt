@@ -1,13 +1,13 @@
 -- The laws of data.
 use Rattle.std.specs.Prelude.{◌≡◌, ◌<◌, ◌≤◌, ℕ, Bool, true, false, not, List, Some}
 use Rattle.std.specs.List.{AllByRecursion}
-use Rattle.sm_data_laws.specs.Shard.{MayHappenInTurn, ListEntry, Event, IsGreatest, IsShardReached, Shard, begins, counted, gone, lacks, names, after_events}
+use Rattle.sm_data_laws.specs.Shard.{MayHappenInTurn, ListEntry, Event, IsGreatest, IsShardReached, Shard, begins, counted, gone, lacks, names, all_left}
 
 -- Whatever happens from now on, if the shard is not named as lost its primary has all that is acknowledged now, as long as it has a whole copy.
 abbrev pub AcknowledgedWritesStay : Type 0
 AcknowledgedWritesStay = (w : Shard) (events : List Event) (copy : List ListEntry) →
     IsShardReached w → MayHappenInTurn w events → AllByRecursion (λ e. names e ≡ false) events →
-    (after_events events w).copies (after_events events w).primary ≡ Some copy → begins w.acknowledged copy ≡ true
+    (all_left events w).copies (all_left events w).primary ≡ Some copy → begins w.acknowledged copy ≡ true
 
 -- As many replicas as are asked for lack nothing that is acknowledged: they have it, or have no whole copy.
 abbrev pub EnoughHaveThem : Type 0

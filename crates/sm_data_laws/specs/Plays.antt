@@ -1,7 +1,7 @@
 -- A worked play: the premises of the laws can be met.
 use Rattle.std.specs.Prelude.{◌≡◌, true, false, List, [], ◌∷◌, Some}
 use Rattle.sm_data_laws.specs.Lists.{ListEntry, beginning}
-use Rattle.sm_data_laws.specs.Shard.{Event, Acknowledges, Chooses, Copies, Executes, Follows, Loses, MayHappenInTurn, Shard, Tells, after_events, new_shard}
+use Rattle.sm_data_laws.specs.Shard.{Event, Acknowledges, Chooses, Copies, Executes, Follows, Loses, MayHappenInTurn, Shard, Tells, all_left, new_shard}
 
 -- three replicas, of which 0 is primary; two have each write
 abbrev pub THREE : Shard
@@ -23,6 +23,6 @@ PRIMARY_IS_LOST =
 -- The play is allowed. The write is acknowledged and with the new primary, which is not the one that executed it.
 pub record OutlivesItsPrimary : Type 0 where
   pub allowed : MayHappenInTurn THREE PRIMARY_IS_LOST
-  pub primary : (after_events PRIMARY_IS_LOST THREE).primary ≡ 1
-  pub acknowledged : (after_events PRIMARY_IS_LOST THREE).acknowledged ≡ beginning 0 ∷ SEVEN ∷ []
-  pub copy : (after_events PRIMARY_IS_LOST THREE).copies 1 ≡ Some (beginning 0 ∷ SEVEN ∷ beginning 5 ∷ [])
+  pub primary : (all_left PRIMARY_IS_LOST THREE).primary ≡ 1
+  pub acknowledged : (all_left PRIMARY_IS_LOST THREE).acknowledged ≡ beginning 0 ∷ SEVEN ∷ []
+  pub copy : (all_left PRIMARY_IS_LOST THREE).copies 1 ≡ Some (beginning 0 ∷ SEVEN ∷ beginning 5 ∷ [])

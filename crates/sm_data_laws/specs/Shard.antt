@@ -137,24 +137,24 @@ abbrev pub with_view : Shard → ℕ → ℕ → Shard
 with_view w s view = record (with_list w s view (list_of (w.copies s) ++ beginning view ∷ [])) { primary = s; view = view; told = λ _. 0 }
 
 -- The shard after something has happened.
-abbrev pub after_event : Shard → Event → Shard
-after_event w (Executes write) = with_list w w.primary w.view (list_of (w.copies w.primary) ++ record { view = w.view; write = write } ∷ [])
-after_event w (Copies s) = record w { copies = put w.copies s (w.copies w.primary) }
-after_event w (Follows s list) = record w { copies = put w.copies s (Some list) }
-after_event w (Tells s) = record w { told = put w.told s (length (list_of (w.copies s))) }
-after_event w (Acknowledges list) = record w { acknowledged = list }
-after_event w (Joins s) = record w { replicas = put w.replicas s true; leaving = put w.leaving s false; told = put w.told s 0 }
-after_event w (Leave s) = record w { leaving = put w.leaving s true }
-after_event w (Goes s) = record w { replicas = put w.replicas s false; copies = put w.copies s None }
-after_event w (Stays s) = record w { leaving = put w.leaving s false; told = put w.told s 0 }
-after_event w (Loses s) = record w { copies = put w.copies s None }
-after_event w (Hands s) = record w { primary = s; told = λ _. 0 }
-after_event w (Restarts view) = with_view w w.primary view
-after_event w (Raises needed) = record w { needed = needed }
-after_event w (Lowers needed) = record w { needed = needed }
-after_event w (Removes gone needed) = record w { replicas = λ s. w.replicas s && not (gone s); needed = needed }
-after_event w (Changes s view answered) = with_view w s view
-after_event w (Chooses choice) = record (with_view w choice.heir choice.view) {
+abbrev pub left_by : Shard → Event → Shard
+left_by w (Executes write) = with_list w w.primary w.view (list_of (w.copies w.primary) ++ record { view = w.view; write = write } ∷ [])
+left_by w (Copies s) = record w { copies = put w.copies s (w.copies w.primary) }
+left_by w (Follows s list) = record w { copies = put w.copies s (Some list) }
+left_by w (Tells s) = record w { told = put w.told s (length (list_of (w.copies s))) }
+left_by w (Acknowledges list) = record w { acknowledged = list }
+left_by w (Joins s) = record w { replicas = put w.replicas s true; leaving = put w.leaving s false; told = put w.told s 0 }
+left_by w (Leave s) = record w { leaving = put w.leaving s true }
+left_by w (Goes s) = record w { replicas = put w.replicas s false; copies = put w.copies s None }
+left_by w (Stays s) = record w { leaving = put w.leaving s false; told = put w.told s 0 }
+left_by w (Loses s) = record w { copies = put w.copies s None }
+left_by w (Hands s) = record w { primary = s; told = λ _. 0 }
+left_by w (Restarts view) = with_view w w.primary view
+left_by w (Raises needed) = record w { needed = needed }
+left_by w (Lowers needed) = record w { needed = needed }
+left_by w (Removes gone needed) = record w { replicas = λ s. w.replicas s && not (gone s); needed = needed }
+left_by w (Changes s view answered) = with_view w s view
+left_by w (Chooses choice) = record (with_view w choice.heir choice.view) {
   replicas = choice.replicas;
   leaving = λ _. false;
   needed = choice.needed;
@@ -162,14 +162,14 @@ after_event w (Chooses choice) = record (with_view w choice.heir choice.view) {
 }
 
 -- a whole schedule
-abbrev pub after_events : List Event → Shard → Shard
-after_events [] w = w
-after_events (e ∷ es) w = after_events es (after_event w e)
+abbrev pub all_left : List Event → Shard → Shard
+all_left [] w = w
+all_left (e ∷ es) w = all_left es (left_by w e)
 
 -- each event is allowed when it happens
 abbrev pub MayHappenInTurn : Shard → List Event → Type 0
 MayHappenInTurn w [] = Unit
-MayHappenInTurn w (e ∷ es) = MayHappen w e × MayHappenInTurn (after_event w e) es
+MayHappenInTurn w (e ∷ es) = MayHappen w e × MayHappenInTurn (left_by w e) es
 
 -- whether an event names the shard as lost
 abbrev pub names : Event → Bool
@@ -201,4 +201,4 @@ pub record IsShardReached (w : Shard) : Type 0 where
   pub events : List Event
   pub enough : needed ≤ count_below servers replicas
   pub allowed : MayHappenInTurn (new_shard servers replicas primary needed) events
-  pub is : after_events events (new_shard servers replicas primary needed) ≡ w
+  pub is : all_left events (new_shard servers replicas primary needed) ≡ w
