@@ -4,11 +4,11 @@ use Rattle.std.proofs.lemmas.Bool.{and_from, and_parts, cases_Bool, cases_eq, fa
 use Rattle.sm_placement.specs.Sums.{count_below, put}
 use Rattle.sm_placement.proofs.Sums.{put-apart, put-here}
 use Rattle.sm_data_laws.specs.Lists.{ListEntry, Resumes, begins, beginning, view_of}
-use Rattle.sm_data_laws.specs.Shard.{Choice, Event, Acknowledges, Changes, Chooses, Copies, Executes, Follows, Goes, Hands, MayHappen, Joins, Leave, Loses, Lowers, Raises, Removes, Restarts, Shard, Stays, Tells, with_view, counted, left_by, has_told, is_copy, lacks, list_of}
+use Rattle.sm_data_laws.specs.Shard.{Choice, Event, Acknowledges, Changes, Chooses, Copies, Executes, Follows, Goes, Hands, MayHappen, Joins, Leave, Loses, Lowers, Raises, Removes, Restarts, Shard, Stays, Tells, Hears, ToldCopy, with_view, counted, left_by, has_heard, is_copy, lacks, list_of}
 use Rattle.sm_data_laws.proofs.Lists.{begins-last, begins-length, begins-self, begins-shorter, begins-through, begins-whole, copy-is, empty-or-not, has-all, lacks-nothing, put-cases}
 use Rattle.sm_data_laws.proofs.Counts.{count-either, count-more, enough-more}
 use Rattle.sm_data_laws.proofs.Growth.{grown-copies, grown-enough, grown-lists, grown-whole}
-use Rattle.sm_data_laws.proofs.Invariant.{IsKept, IsTold, IsWhole, begun-below, greatest-has-all, primary-has-all}
+use Rattle.sm_data_laws.proofs.Invariant.{IsKept, HasUpTo, IsTrueOf, IsWhole, begun-below, greatest-has-all, primary-has-all, word-is-true, words-end, words-stay}
 
 -- a whole copy is there
 some-copy : (o : Option (List ListEntry)) → is_some o ≡ true → (copy : List ListEntry) × (o ≡ Some copy)
@@ -18,14 +18,17 @@ some-copy (Some copy) h = (copy, refl)
 list-of : (o : Option (List ListEntry)) (copy : List ListEntry) → o ≡ Some copy → list_of o ≡ copy
 list-of o copy e = ap list_of e
 
--- nobody has told anything
-untold : (list : List ListEntry) (copies : ℕ → Option (List ListEntry)) → IsTold list copies (λ _. 0)
-untold list copies s xs [] e b l = refl
-untold list copies s xs (y ∷ ys) e b l = absurd (omega arith)
+-- nobody was heard yet
+unheard : (list : List ListEntry) (copies : ℕ → Option (List ListEntry)) (s : ℕ) → HasUpTo list copies s 0
+unheard list copies s = record { bound = omega arith; part = λ xs ys e b l. none ys xs l }
+  where
+    none : (ys xs : List ListEntry) → length ys ≤ 0 → begins ys xs ≡ true
+    none [] xs l = refl
+    none (y ∷ ys) xs l = absurd (omega arith)
 
--- who has told the position at which a beginning of the primary's list ends has it
-told-has : (w : Shard) → IsKept w → (list : List ListEntry) → begins list (w.lists w.view) ≡ true → (s : ℕ) → has_told w list s ≡ true → not (lacks list (w.copies s)) ≡ true
-told-has w k list b s h = lacks-nothing list (w.copies s) (λ copy e. k.told s copy list e b (leb-true (length list) (w.told s) h))
+-- of whom a beginning of the primary's list was heard, that has it
+heard-has : (w : Shard) → IsKept w → (list : List ListEntry) → begins list (w.lists w.view) ≡ true → (s : ℕ) → has_heard w list s ≡ true → not (lacks list (w.copies s)) ≡ true
+heard-has w k list b s h = lacks-nothing list (w.copies s) (λ copy e. (k.heard s).part copy list e b (leb-true (length list) (w.heard s) h))
 
 -- A list grows in its view: the primary executes a write.
 executes : (w : Shard) → IsKept w → (write : ℕ) → MayHappen w (Executes write) → IsKept (left_by w (Executes write))
@@ -40,6 +43,22 @@ executes w k write a =
     let old : view_of g ≤ w.view = k.lists.views w.view g (subst (λ (ys : List ListEntry). begins ys (w.lists w.view) ≡ true) (sym same) (begins-self (w.lists w.view))) in
     let all : begins w.acknowledged g ≡ true = subst (λ (ys : List ListEntry). begins w.acknowledged ys ≡ true) (sym same) (primary-has-all w k) in
     let now : put w.lists w.view (g ++ e ∷ []) w.view ≡ g ++ e ∷ [] = put-here w.lists w.view (g ++ e ∷ []) w.view refl in
+    let n : length g ≡ length (w.lists w.view) = ap length same in
+    let o : length (put w.lists w.view (g ++ e ∷ []) w.view) ≡ length (g ++ e ∷ []) = ap length now in
+    let longer : (t position : ℕ) → HasUpTo (w.lists w.view) w.copies t position →
+    HasUpTo (put w.lists w.view (g ++ e ∷ []) w.view) (put w.copies w.primary (Some (g ++ e ∷ []))) t position = λ t position old. record {
+      bound = (let m : position ≤ length (w.lists w.view) = old.bound in omega (arith, length-append g (e ∷ [])));
+      part = λ xs ys h b l. elim (put-cases w.copies w.primary (Some (g ++ e ∷ [])) t (Some xs) h) [
+        | inl p ↦ (let x : g ++ e ∷ [] ≡ xs = cc in subst (λ (zs : List ListEntry). begins ys zs ≡ true) (now ∙ x) b)
+        | inr p ↦ elim (begins-last ys g e (subst (λ (zs : List ListEntry). begins ys zs ≡ true) now b)) [
+          | inl c ↦ old.part xs ys p.1 (subst (λ (zs : List ListEntry). begins ys zs ≡ true) same c) l
+          | inr q ↦
+              let m : position ≤ length (w.lists w.view) = old.bound in
+              let x : length ys ≡ length (g ++ e ∷ []) = ap length q in
+              absurd (omega (arith, length-append g (e ∷ [])))
+        ]
+      ];
+    } in
     record {
       lists = grown-lists w.lists k.lists w.view g e refl behind from old;
       copies = grown-copies w.lists k.lists w.view g e refl behind from old w.copies w.primary k.copies;
@@ -52,22 +71,16 @@ executes w k write a =
       below = k.below;
       whole = grown-whole w.lists k.lists w.view g e refl behind from old w.acknowledged all k.whole;
       enough = grown-enough w.lists k.lists w.view g e refl behind from old w.servers w.needed w.replicas w.leaving w.acknowledged w.copies w.primary all k.enough;
-      told = λ t xs ys h b l. elim (put-cases w.copies w.primary (Some (g ++ e ∷ [])) t (Some xs) h) [
-        | inl p ↦ (let x : g ++ e ∷ [] ≡ xs = cc in subst (λ (zs : List ListEntry). begins ys zs ≡ true) (now ∙ x) b)
-        | inr p ↦ elim (begins-last ys g e (subst (λ (zs : List ListEntry). begins ys zs ≡ true) now b)) [
-          | inl c ↦ k.told t xs ys p.1 (subst (λ (zs : List ListEntry). begins ys zs ≡ true) same c) l
-          | inr q ↦
-              let m : w.told t ≤ length (w.lists w.view) = k.heard t in
-              let n : length g ≡ length (w.lists w.view) = ap length same in
-              let o : length ys ≡ length (g ++ e ∷ []) = ap length q in
-              absurd (omega (arith, length-append g (e ∷ [])))
-        ]
-      ];
-      heard = λ t. (let m : w.told t ≤ length (w.lists w.view) = k.heard t in
-          let n : length g ≡ length (w.lists w.view) = ap length same in
-          let o : length (put w.lists w.view (g ++ e ∷ []) w.view) ≡ length (g ++ e ∷ []) = ap length now in
-          omega (arith, length-append g (e ∷ [])));
+      heard = λ t. longer t (w.heard t) (k.heard t);
+      words = words-stay w.view (w.lists w.view) (put w.lists w.view (g ++ e ∷ []) w.view) w.copies (put w.copies w.primary (Some (g ++ e ∷ []))) longer w.words k.words;
     }
+
+-- a copy is of a view that has begun, or is empty
+copy-below : (w : Shard) → IsKept w → (g : List ListEntry) → begins g (w.lists (view_of g)) ≡ true → view_of g ≤ w.view
+copy-below w k g b = elim (empty-or-not g) [
+  | inl e ↦ (let z : view_of g ≡ 0 = ap view_of e in omega arith)
+  | inr l ↦ begun-below w k (view_of g) (let m : length g ≤ length (w.lists (view_of g)) = begins-length g (w.lists (view_of g)) b in omega arith)
+]
 
 -- A server begins a view as primary, with a copy that has all that is to stay acknowledged.
 begins-view : (w : Shard) → IsKept w → (s v : ℕ) (copy : List ListEntry) → w.copies s ≡ Some copy → w.view < v →
@@ -80,7 +93,7 @@ begins-view w k s v copy is later replicas leaving needed acknowledged all low w
     let same : g ≡ copy = list-of (w.copies s) copy is in
     let there : w.copies s ≡ Some g = is ∙ ap (λ (ys : List ListEntry). Some ys) (sym same) in
     let from : begins g (w.lists (view_of g)) ≡ true = k.copies s g there in
-    let old : view_of g ≤ w.view = below-view w k g from in
+    let old : view_of g ≤ w.view = copy-below w k g from in
     let none : w.lists v ≡ [] = k.unbegun v later in
     let behind : begins (w.lists v) g ≡ true = rw none refl in
     let has : begins acknowledged g ≡ true = subst (λ (ys : List ListEntry). begins acknowledged ys ≡ true) (sym same) all in
@@ -98,48 +111,47 @@ begins-view w k s v copy is later replicas leaving needed acknowledged all low w
       below = omega arith;
       whole = grown-whole w.lists k.lists v g e refl behind from early acknowledged has whole;
       enough = grown-enough w.lists k.lists v g e refl behind from early w.servers needed replicas leaving acknowledged w.copies s has enough;
-      told = untold (put w.lists v (g ++ e ∷ []) v) (put w.copies s (Some (g ++ e ∷ [])));
-      heard = λ t. omega arith;
+      heard = unheard (put w.lists v (g ++ e ∷ []) v) (put w.copies s (Some (g ++ e ∷ [])));
+      words = words-end w.view v (w.lists w.view) (put w.lists v (g ++ e ∷ []) v) w.copies (put w.copies s (Some (g ++ e ∷ []))) later w.words k.words;
     }
-  where
-    -- a copy is of a view that has begun, or is empty
-    below-view : (w : Shard) → IsKept w → (g : List ListEntry) → begins g (w.lists (view_of g)) ≡ true → view_of g ≤ w.view
-    below-view w k g b = elim (empty-or-not g) [
-      | inl e ↦ (let z : view_of g ≡ 0 = ap view_of e in omega arith)
-      | inr l ↦ begun-below w k (view_of g) (let m : length g ≤ length (w.lists (view_of g)) = begins-length g (w.lists (view_of g)) b in omega arith)
-    ]
 
 -- A server has another copy of all that the primary has.
 copies-anew : (w : Shard) → IsKept w → (s : ℕ) → IsKept (left_by w (Copies s))
-copies-anew w k s = record {
-  lists = k.lists;
-  copies = λ t xs h. elim (put-cases w.copies s (w.copies w.primary) t (Some xs) h) [
-    | inl p ↦ k.copies w.primary xs p.1
-    | inr p ↦ k.copies t xs p.1
-  ];
-  front = λ xs h. elim (put-cases w.copies s (w.copies w.primary) w.primary (Some xs) h) [
-    | inl p ↦ k.front xs p.1
-    | inr p ↦ k.front xs p.1
-  ];
-  unbegun = k.unbegun;
-  present = k.present;
-  below = k.below;
-  whole = k.whole;
-  enough = enough-more w.servers w.needed w.replicas w.leaving (λ t. not (lacks w.acknowledged (w.copies t))) w.replicas w.leaving
-      (λ t. not (lacks w.acknowledged (put w.copies s (w.copies w.primary) t))) k.enough (λ t x y z. (
-        x,
-        y,
-        lacks-nothing w.acknowledged (put w.copies s (w.copies w.primary) t) (λ copy q. elim (put-cases w.copies s (w.copies w.primary) t (Some copy) q) [
-          | inl p ↦ subst (λ (ys : List ListEntry). begins w.acknowledged ys ≡ true) (sym (k.front copy p.1)) (primary-has-all w k)
-          | inr p ↦ has-all w.acknowledged (w.copies t) copy z p.1
-        ]),
-      ));
-  told = λ t xs ys h b l. elim (put-cases w.copies s (w.copies w.primary) t (Some xs) h) [
-    | inl p ↦ subst (λ (zs : List ListEntry). begins ys zs ≡ true) (sym (k.front xs p.1)) b
-    | inr p ↦ k.told t xs ys p.1 b l
-  ];
-  heard = k.heard;
-}
+copies-anew w k s =
+    let more : (t position : ℕ) → HasUpTo (w.lists w.view) w.copies t position → HasUpTo (w.lists w.view) (put w.copies s (w.copies w.primary)) t position =
+    λ t position old. record {
+      bound = old.bound;
+      part = λ xs ys h b l. elim (put-cases w.copies s (w.copies w.primary) t (Some xs) h) [
+        | inl p ↦ subst (λ (zs : List ListEntry). begins ys zs ≡ true) (sym (k.front xs p.1)) b
+        | inr p ↦ old.part xs ys p.1 b l
+      ];
+    } in
+    record {
+      lists = k.lists;
+      copies = λ t xs h. elim (put-cases w.copies s (w.copies w.primary) t (Some xs) h) [
+        | inl p ↦ k.copies w.primary xs p.1
+        | inr p ↦ k.copies t xs p.1
+      ];
+      front = λ xs h. elim (put-cases w.copies s (w.copies w.primary) w.primary (Some xs) h) [
+        | inl p ↦ k.front xs p.1
+        | inr p ↦ k.front xs p.1
+      ];
+      unbegun = k.unbegun;
+      present = k.present;
+      below = k.below;
+      whole = k.whole;
+      enough = enough-more w.servers w.needed w.replicas w.leaving (λ t. not (lacks w.acknowledged (w.copies t))) w.replicas w.leaving
+          (λ t. not (lacks w.acknowledged (put w.copies s (w.copies w.primary) t))) k.enough (λ t x y z. (
+            x,
+            y,
+            lacks-nothing w.acknowledged (put w.copies s (w.copies w.primary) t) (λ copy q. elim (put-cases w.copies s (w.copies w.primary) t (Some copy) q) [
+              | inl p ↦ subst (λ (ys : List ListEntry). begins w.acknowledged ys ≡ true) (sym (k.front copy p.1)) (primary-has-all w k)
+              | inr p ↦ has-all w.acknowledged (w.copies t) copy z p.1
+            ]),
+          ));
+      heard = λ t. more t (w.heard t) (k.heard t);
+      words = words-stay w.view (w.lists w.view) (w.lists w.view) w.copies (put w.copies s (w.copies w.primary)) more w.words k.words;
+    }
 
 -- a copy that may go on behind a source of the primary's list is a beginning of what it becomes
 goes-on : (w : Shard) → IsKept w → (s : ℕ) (copy source list : List ListEntry) → w.copies s ≡ Some copy → source ≡ w.lists w.view → Resumes copy source →
@@ -161,6 +173,17 @@ follows w k s list a =
     let on : begins copy list ≡ true = goes-on w k s copy source list a.2 is a.4 a.5 a.6 in
     let in-list : begins list (w.lists w.view) ≡ true = subst (λ (ys : List ListEntry). begins list ys ≡ true) is a.5 in
     let own : begins list (w.lists (view_of list)) ≡ true = k.lists.matched w.view list in-list in
+    let more : (t position : ℕ) → HasUpTo (w.lists w.view) w.copies t position → HasUpTo (w.lists w.view) (put w.copies s (Some list)) t position =
+    λ t position old. record {
+      bound = old.bound;
+      part = λ xs ys h b l. elim (put-cases w.copies s (Some list) t (Some xs) h) [
+        | inl p ↦
+            let same : list ≡ xs = cc in
+            let had : begins ys copy ≡ true = old.part copy ys (ap w.copies p.0 ∙ a.2) b l in
+            subst (λ (zs : List ListEntry). begins ys zs ≡ true) same (begins-through ys copy list had on)
+        | inr p ↦ old.part xs ys p.1 b l
+      ];
+    } in
     record {
       lists = k.lists;
       copies = λ t xs h. elim (put-cases w.copies s (Some list) t (Some xs) h) [
@@ -194,23 +217,16 @@ follows w k s list a =
               | inr p ↦ has-all w.acknowledged (w.copies t) c z p.1
             ]),
           ));
-      told = λ t xs ys h b l. elim (put-cases w.copies s (Some list) t (Some xs) h) [
-        | inl p ↦
-            let same : list ≡ xs = cc in
-            let had : begins ys copy ≡ true = k.told t copy ys (ap w.copies p.0 ∙ a.2) b l in
-            subst (λ (zs : List ListEntry). begins ys zs ≡ true) same (begins-through ys copy list had on)
-        | inr p ↦ k.told t xs ys p.1 b l
-      ];
-      heard = k.heard;
+      heard = λ t. more t (w.heard t) (k.heard t);
+      words = words-stay w.view (w.lists w.view) (w.lists w.view) w.copies (put w.copies s (Some list)) more w.words k.words;
     }
 
--- A server of the primary's view tells its position.
+-- A server tells what its copy is.
 tells : (w : Shard) → IsKept w → (s : ℕ) → MayHappen w (Tells s) → IsKept (left_by w (Tells s))
 tells w k s a =
-    let copy = a.0 in
-    let same : list_of (w.copies s) ≡ copy = list-of (w.copies s) copy a.1 in
-    let n : length (list_of (w.copies s)) ≡ length copy = ap length same in
-    let in-list : begins copy (w.lists w.view) ≡ true = subst (λ (u : ℕ). begins copy (w.lists u) ≡ true) a.2 (k.copies s copy a.1) in
+    let c = some-copy (w.copies s) a in
+    let copy = list_of (w.copies s) in
+    let is : w.copies s ≡ Some copy = c.1 ∙ ap (λ (ys : List ListEntry). Some ys) (sym (list-of (w.copies s) c.0 c.1)) in
     record {
       lists = k.lists;
       copies = k.copies;
@@ -220,27 +236,43 @@ tells w k s a =
       below = k.below;
       whole = k.whole;
       enough = k.enough;
-      told = λ t xs ys h b l. elim (cases_eq t s) [
-        | inl q ↦
-            let x : Some xs ≡ Some copy = sym h ∙ ap w.copies q ∙ a.1 in
-            let is : xs ≡ copy = cc in
-            let m : put w.told s (length (list_of (w.copies s))) t ≡ length (list_of (w.copies s)) = put-here w.told s (length (list_of (w.copies s))) t q in
-            subst (λ (zs : List ListEntry). begins ys zs ≡ true) (sym is) (begins-shorter ys copy (w.lists w.view) b in-list (omega arith))
-        | inr d ↦
-            let m : put w.told s (length (list_of (w.copies s))) t ≡ w.told t = put-apart w.told s (length (list_of (w.copies s))) t d in
-            k.told t xs ys h b (omega arith)
-      ];
-      heard = λ t. elim (cases_eq t s) [
-        | inl q ↦
-            let m : put w.told s (length (list_of (w.copies s))) t ≡ length (list_of (w.copies s)) = put-here w.told s (length (list_of (w.copies s))) t q in
-            let l : length copy ≤ length (w.lists w.view) = begins-length copy (w.lists w.view) in-list in
-            omega arith
-        | inr d ↦
-            let m : put w.told s (length (list_of (w.copies s))) t ≡ w.told t = put-apart w.told s (length (list_of (w.copies s))) t d in
-            let l : w.told t ≤ length (w.lists w.view) = k.heard t in
-            omega arith
-      ];
+      heard = k.heard;
+      words = (
+        record {
+          below = copy-below w k copy (k.copies s copy is);
+          has = λ e. (let in-list : begins copy (w.lists w.view) ≡ true = subst (λ (u : ℕ). begins copy (w.lists u) ≡ true) e (k.copies s copy is) in record {
+            bound = begins-length copy (w.lists w.view) in-list;
+            part = λ xs ys h b l. (let both : Some copy ≡ Some xs = sym is ∙ h in let same : copy ≡ xs = cc in
+                subst (λ (zs : List ListEntry). begins ys zs ≡ true) same (begins-shorter ys copy (w.lists w.view) b in-list l));
+          });
+        },
+        k.words,
+      );
     }
+
+-- The primary hears a word.
+hears-word : (w : Shard) → IsKept w → (word : ToldCopy) → HasUpTo (w.lists w.view) w.copies word.server word.position → IsKept (record w { heard = put w.heard word.server word.position })
+hears-word w k word h = record {
+  lists = k.lists;
+  copies = k.copies;
+  front = k.front;
+  unbegun = k.unbegun;
+  present = k.present;
+  below = k.below;
+  whole = k.whole;
+  enough = k.enough;
+  words = k.words;
+  heard = λ t. elim (cases_eq t word.server) [
+    | inl q ↦ subst (λ (n : ℕ). HasUpTo (w.lists w.view) w.copies t n) (sym (put-here w.heard word.server word.position t q))
+        (subst (λ (n : ℕ). HasUpTo (w.lists w.view) w.copies n word.position) (sym q) h)
+    | inr d ↦ subst (λ (n : ℕ). HasUpTo (w.lists w.view) w.copies t n) (sym (put-apart w.heard word.server word.position t d)) (k.heard t)
+  ];
+}
+
+hears : (w : Shard) → IsKept w → (which : ℕ) → MayHappen w (Hears which) → IsKept (left_by w (Hears which))
+hears w k which a =
+    let true-word = word-is-true (IsTrueOf w.view (w.lists w.view) w.copies) w.words which a.0 k.words a.1 in
+    rw a.1 (hears-word w k a.0 (true-word.has a.2))
 
 -- A beginning of the primary's list is acknowledged.
 acknowledges : (w : Shard) → IsKept w → (list : List ListEntry) → MayHappen w (Acknowledges list) → IsKept (left_by w (Acknowledges list))
@@ -257,10 +289,10 @@ acknowledges w k list a =
       below = omega arith;
       whole = λ u some low. (let top : u ≤ w.view = begun-below w k u some in let is : w.view ≡ u = omega arith in
           subst (λ (n : ℕ). begins list (w.lists n) ≡ true) is in-list);
-      enough = enough-more w.servers w.needed w.replicas w.leaving (has_told w list) w.replicas w.leaving (λ t. not (lacks list (w.copies t))) a.5
-          (λ t x y z. (x, y, told-has w k list in-list t z));
-      told = k.told;
+      enough = enough-more w.servers w.needed w.replicas w.leaving (has_heard w list) w.replicas w.leaving (λ t. not (lacks list (w.copies t))) a.5
+          (λ t x y z. (x, y, heard-has w k list in-list t z));
       heard = k.heard;
+      words = k.words;
     }
 
 -- what a function that is 0 at one place has is not above what it was
@@ -270,11 +302,11 @@ less f s t = elim (cases_eq t s) [
   | inr d ↦ (let m : put f s 0 t ≡ f t = put-apart f s 0 t d in omega arith)
 ]
 
-told-less : (w : Shard) → IsKept w → (s : ℕ) → IsTold (w.lists w.view) w.copies (put w.told s 0)
-told-less w k s t xs ys h b l = k.told t xs ys h b (let m : put w.told s 0 t ≤ w.told t = less w.told s t in omega arith)
-
-heard-less : (w : Shard) → IsKept w → (s t : ℕ) → put w.told s 0 t ≤ length (w.lists w.view)
-heard-less w k s t = let m : put w.told s 0 t ≤ w.told t = less w.told s t in let n : w.told t ≤ length (w.lists w.view) = k.heard t in omega arith
+heard-less : (w : Shard) → IsKept w → (s t : ℕ) → HasUpTo (w.lists w.view) w.copies t (put w.heard s 0 t)
+heard-less w k s t =
+    let m : put w.heard s 0 t ≤ w.heard t = less w.heard s t in
+    let h = k.heard t in
+    record { bound = (let n : w.heard t ≤ length (w.lists w.view) = h.bound in omega arith); part = λ xs ys e b l. h.part xs ys e b (omega arith) }
 
 -- what a test says after it was set to an answer at one place, if it said that before or the place is that one
 put-true : (f : ℕ → Bool) (s t : ℕ) → f t ≡ true → put f s true t ≡ true
@@ -295,8 +327,8 @@ joins w k s = record {
   whole = k.whole;
   enough = enough-more w.servers w.needed w.replicas w.leaving (λ t. not (lacks w.acknowledged (w.copies t))) (put w.replicas s true) (put w.leaving s false)
       (λ t. not (lacks w.acknowledged (w.copies t))) k.enough (λ t x y z. (put-true w.replicas s t x, put-not w.leaving s t y, z));
-  told = told-less w k s;
   heard = heard-less w k s;
+  words = k.words;
 }
 
 -- A replica stays.
@@ -311,8 +343,8 @@ stays w k s = record {
   whole = k.whole;
   enough = enough-more w.servers w.needed w.replicas w.leaving (λ t. not (lacks w.acknowledged (w.copies t))) w.replicas (put w.leaving s false)
       (λ t. not (lacks w.acknowledged (w.copies t))) k.enough (λ t x y z. (x, put-not w.leaving s t y, z));
-  told = told-less w k s;
   heard = heard-less w k s;
+  words = k.words;
 }
 
 -- A replica gets leave.
@@ -325,13 +357,13 @@ leave w k s a = record {
   present = k.present;
   below = k.below;
   whole = k.whole;
-  enough = enough-more w.servers w.needed w.replicas w.leaving (λ t. not (t == s) && has_told w w.acknowledged t) w.replicas (put w.leaving s true)
+  enough = enough-more w.servers w.needed w.replicas w.leaving (λ t. not (t == s) && has_heard w w.acknowledged t) w.replicas (put w.leaving s true)
       (λ t. not (lacks w.acknowledged (w.copies t))) a (λ t x y z.
-      let p = and_parts (not (t == s)) (has_told w w.acknowledged t) z in
+      let p = and_parts (not (t == s)) (has_heard w w.acknowledged t) z in
       let apart : (t ≡ s) → ⊥ = λ (q : t ≡ s). both_ways (t == s) (not-true (t == s) p.0) (eq-eqb t s q) in
-      (x, ap not (put-apart w.leaving s true t apart) ∙ y, told-has w k w.acknowledged (primary-has-all w k) t p.1));
-  told = k.told;
+      (x, ap not (put-apart w.leaving s true t apart) ∙ y, heard-has w k w.acknowledged (primary-has-all w k) t p.1));
   heard = k.heard;
+  words = k.words;
 }
 
 -- no copy is there where it was taken away
@@ -340,6 +372,9 @@ taken copies s t xs h = elim (put-cases copies s None t (Some xs) h) [ inl p ↦
 
 taken-lacks : (list : List ListEntry) (copies : ℕ → Option (List ListEntry)) (s t : ℕ) → not (lacks list (copies t)) ≡ true → not (lacks list (put copies s None t)) ≡ true
 taken-lacks list copies s t h = lacks-nothing list (put copies s None t) (λ copy q. has-all list (copies t) copy h (taken copies s t copy q))
+
+taken-has : (list : List ListEntry) (copies : ℕ → Option (List ListEntry)) (s t position : ℕ) → HasUpTo list copies t position → HasUpTo list (put copies s None) t position
+taken-has list copies s t position old = record { bound = old.bound; part = λ xs ys h b l. old.part xs ys (taken copies s t xs h) b l }
 
 -- A server loses its copy.
 loses : (w : Shard) → IsKept w → (s : ℕ) → IsKept (left_by w (Loses s))
@@ -353,8 +388,8 @@ loses w k s = record {
   whole = k.whole;
   enough = enough-more w.servers w.needed w.replicas w.leaving (λ t. not (lacks w.acknowledged (w.copies t))) w.replicas w.leaving
       (λ t. not (lacks w.acknowledged (put w.copies s None t))) k.enough (λ t x y z. (x, y, taken-lacks w.acknowledged w.copies s t z));
-  told = λ t xs ys h b l. k.told t xs ys (taken w.copies s t xs h) b l;
-  heard = k.heard;
+  heard = λ t. taken-has (w.lists w.view) w.copies s t (w.heard t) (k.heard t);
+  words = words-stay w.view (w.lists w.view) (w.lists w.view) w.copies (put w.copies s None) (taken-has (w.lists w.view) w.copies s) w.words k.words;
 }
 
 -- A replica with leave goes.
@@ -371,8 +406,8 @@ goes w k s a = record {
       (λ t. not (lacks w.acknowledged (put w.copies s None t))) k.enough (λ t x y z.
       let apart : (t ≡ s) → ⊥ = λ (q : t ≡ s). both_ways (w.leaving t) (not-true (w.leaving t) y) (ap w.leaving q ∙ a) in
       (put-apart w.replicas s false t apart ∙ x, y, taken-lacks w.acknowledged w.copies s t z));
-  told = λ t xs ys h b l. k.told t xs ys (taken w.copies s t xs h) b l;
-  heard = k.heard;
+  heard = λ t. taken-has (w.lists w.view) w.copies s t (w.heard t) (k.heard t);
+  words = words-stay w.view (w.lists w.view) (w.lists w.view) w.copies (put w.copies s None) (taken-has (w.lists w.view) w.copies s) w.words k.words;
 }
 
 -- The shard is handed over.
@@ -386,8 +421,8 @@ hands w k s a = record {
   below = k.below;
   whole = k.whole;
   enough = k.enough;
-  told = untold (w.lists w.view) w.copies;
-  heard = λ t. omega arith;
+  heard = unheard (w.lists w.view) w.copies;
+  words = k.words;
 }
 
 -- The primary starts again.
@@ -407,10 +442,10 @@ raises w k needed a = record {
   present = k.present;
   below = k.below;
   whole = k.whole;
-  enough = enough-more w.servers needed w.replicas w.leaving (has_told w w.acknowledged) w.replicas w.leaving (λ t. not (lacks w.acknowledged (w.copies t))) a
-      (λ t x y z. (x, y, told-has w k w.acknowledged (primary-has-all w k) t z));
-  told = k.told;
+  enough = enough-more w.servers needed w.replicas w.leaving (has_heard w w.acknowledged) w.replicas w.leaving (λ t. not (lacks w.acknowledged (w.copies t))) a
+      (λ t x y z. (x, y, heard-has w k w.acknowledged (primary-has-all w k) t z));
   heard = k.heard;
+  words = k.words;
 }
 
 -- It asks for fewer.
@@ -424,8 +459,8 @@ lowers w k needed a = record {
   below = k.below;
   whole = k.whole;
   enough = (let l : needed ≤ w.needed = a in let m : w.needed ≤ counted w (λ t. not (lacks w.acknowledged (w.copies t))) = k.enough in omega arith);
-  told = k.told;
   heard = k.heard;
+  words = k.words;
 }
 
 -- Replicas go by a reopening, and it asks for as many fewer.
@@ -452,8 +487,8 @@ removes w k gone needed a = record {
       let m : w.needed ≤ count_below w.servers p = k.enough in
       let n : needed + count_below w.servers r ≤ w.needed = a in
       omega arith);
-  told = k.told;
   heard = k.heard;
+  words = k.words;
 }
 
 -- A replica becomes primary by an order.
@@ -501,6 +536,7 @@ kept w k (Executes write) a = executes w k write a
 kept w k (Copies s) a = copies-anew w k s
 kept w k (Follows s list) a = follows w k s list a
 kept w k (Tells s) a = tells w k s a
+kept w k (Hears which) a = hears w k which a
 kept w k (Acknowledges list) a = acknowledges w k list a
 kept w k (Joins s) a = joins w k s
 kept w k (Leave s) a = leave w k s a

@@ -1,9 +1,10 @@
 -- What holds of a shard's data at each moment.
-use Rattle.std.proofs.Common.{◌≡◌, ℕ, ◌<◌, ◌≤◌, inl, inr, Bool, true, false, not, ◌&&◌, List, [], Option, Some, None, is_some, length, refl, sym, ap, arith}
+use Rattle.std.proofs.Common.{subst, suc, zero, ◌∷◌, ◌≡◌, ℕ, ◌<◌, ◌≤◌, inl, inr, Bool, true, false, not, ◌&&◌, List, [], Option, Some, None, is_some, length, slice_get, refl, sym, ap, arith}
+use Rattle.std.specs.List.{AllByRecursion}
 use Rattle.std.proofs.lemmas.Bool.{and_parts, cases_lt, false≢true}
 use Rattle.sm_placement.specs.Sums.{count_below}
 use Rattle.sm_data_laws.specs.Lists.{ListEntry, IsAtLeast, begins, view_of}
-use Rattle.sm_data_laws.specs.Shard.{IsGreatest, Shard, counted, gone, lacks}
+use Rattle.sm_data_laws.specs.Shard.{ToldCopy, IsGreatest, Shard, counted, gone, lacks}
 use Rattle.sm_data_laws.proofs.Lists.{begins-length, begins-shorter, begins-through, empty-or-not, has-all}
 use Rattle.sm_data_laws.proofs.Counts.{count-apart}
 
@@ -20,9 +21,15 @@ AreCopies lists copies = (s : ℕ) (xs : List ListEntry) → copies s ≡ Some x
 abbrev pub IsWhole : (ℕ → List ListEntry) → List ListEntry → Type 0
 IsWhole lists acknowledged = (u : ℕ) → 0 < length (lists u) → view_of acknowledged ≤ u → begins acknowledged (lists u) ≡ true
 
--- Who has told a position has the primary's list up to it.
-abbrev pub IsTold : List ListEntry → (ℕ → Option (List ListEntry)) → (ℕ → ℕ) → Type 0
-IsTold list copies told = (s : ℕ) (xs ys : List ListEntry) → copies s ≡ Some xs → begins ys list ≡ true → length ys ≤ told s → begins ys xs ≡ true
+-- A server has the list up to a position, if it has a whole copy.
+pub record HasUpTo (list : List ListEntry) (copies : ℕ → Option (List ListEntry)) (s position : ℕ) : Type 0 where
+  pub bound : position ≤ length list
+  pub part : (xs ys : List ListEntry) → copies s ≡ Some xs → begins ys list ≡ true → length ys ≤ position → begins ys xs ≡ true
+
+-- What was told of a copy of the primary's view is so; none of a later view was told.
+pub record IsTrueOf (view : ℕ) (list : List ListEntry) (copies : ℕ → Option (List ListEntry)) (word : ToldCopy) : Type 0 where
+  pub below : word.view ≤ view
+  pub has : word.view ≡ view → HasUpTo list copies word.server word.position
 
 pub record IsKept (w : Shard) : Type 0 where
   pub lists : AreLists w.lists
@@ -33,8 +40,8 @@ pub record IsKept (w : Shard) : Type 0 where
   pub below : view_of w.acknowledged ≤ w.view
   pub whole : IsWhole w.lists w.acknowledged
   pub enough : w.needed ≤ counted w (λ s. not (lacks w.acknowledged (w.copies s)))
-  pub told : IsTold (w.lists w.view) w.copies w.told
-  pub heard : (s : ℕ) → w.told s ≤ length (w.lists w.view)
+  pub heard : (s : ℕ) → HasUpTo (w.lists w.view) w.copies s (w.heard s)
+  pub words : AllByRecursion (IsTrueOf w.view (w.lists w.view) w.copies) w.words
 
 -- the primary has all that is acknowledged
 pub primary-has-all : (w : Shard) → IsKept w → begins w.acknowledged (w.lists w.view) ≡ true
@@ -114,3 +121,29 @@ greatest-has-all w k answered heir copy e greatest few =
     told-one true true None e h = absurd (false≢true (sym h))
     told-one true false o e h = absurd (false≢true (sym h))
     told-one false a o e h = absurd (false≢true e)
+
+-- what follows of each of a list's words
+pub words-more : (P Q : ToldCopy → Type 0) → ((word : ToldCopy) → P word → Q word) → (words : List ToldCopy) → AllByRecursion P words → AllByRecursion Q words
+words-more P Q h [] a = tt
+words-more P Q h (word ∷ words) a = (h word a.0, words-more P Q h words a.1)
+
+-- words stay true if whoever has the list up to a position does so afterwards
+pub words-stay : (view : ℕ) (list list' : List ListEntry) (copies copies' : ℕ → Option (List ListEntry)) →
+    ((s position : ℕ) → HasUpTo list copies s position → HasUpTo list' copies' s position) → (words : List ToldCopy) →
+    AllByRecursion (IsTrueOf view list copies) words → AllByRecursion (IsTrueOf view list' copies') words
+words-stay view list list' copies copies' h words a =
+    words-more (IsTrueOf view list copies) (IsTrueOf view list' copies')
+    (λ word t. record { below = t.below; has = λ e. h word.server word.position (t.has e) }) words a
+
+-- in a later view no word counts
+pub words-end : (view later : ℕ) (list list' : List ListEntry) (copies copies' : ℕ → Option (List ListEntry)) → view < later → (words : List ToldCopy) →
+    AllByRecursion (IsTrueOf view list copies) words → AllByRecursion (IsTrueOf later list' copies') words
+words-end view later list list' copies copies' l words a =
+    words-more (IsTrueOf view list copies) (IsTrueOf later list' copies')
+    (λ word t. (let b : word.view ≤ view = t.below in record { below = omega arith; has = λ e. absurd (omega arith) })) words a
+
+-- a word that was told is true
+pub word-is-true : (P : ToldCopy → Type 0) (words : List ToldCopy) (which : ℕ) (word : ToldCopy) → AllByRecursion P words → slice_get words which ≡ Some word → P word
+word-is-true P [] which word a e = absurd (let n : None ≡ Some word = e in cc)
+word-is-true P (first ∷ words) zero word a e = (let n : Some first ≡ Some word = e in let same : first ≡ word = cc in subst P same a.0)
+word-is-true P (first ∷ words) (suc which) word a e = word-is-true P words which word a.1 e

@@ -1,11 +1,11 @@
 -- The laws, of all schedules.
-use Rattle.std.proofs.Common.{◌≡◌, ℕ, ◌≤◌, Bool, true, false, not, ◌&&◌, List, [], ◌∷◌, Some, None, length, refl, sym, subst, arith, inl, inr, if◌then◌else◌}
+use Rattle.std.proofs.Common.{◌≡◌, ℕ, ◌≤◌, Bool, true, false, not, ◌&&◌, List, [], ◌∷◌, Option, Some, None, length, refl, sym, subst, arith, inl, inr, if◌then◌else◌}
 use Rattle.std.specs.List.{AllByRecursion}
 use Rattle.std.proofs.lemmas.Bool.{and_from, false≢true}
 use Rattle.sm_placement.specs.Sums.{count_below, put}
 use Rattle.sm_placement.proofs.Sums.{put-apart}
 use Rattle.sm_data_laws.specs.Lists.{ListEntry, begins, beginning, view_of}
-use Rattle.sm_data_laws.specs.Shard.{MayHappenInTurn, Event, Acknowledges, Changes, Chooses, Copies, Executes, Follows, Goes, Hands, MayHappen, IsShardReached, Joins, Leave, Loses, Lowers, Raises, Removes, Restarts, Shard, Stays, Tells, left_by, lacks, names, new_shard, all_left}
+use Rattle.sm_data_laws.specs.Shard.{ToldCopy, with_heard, MayHappenInTurn, Event, Acknowledges, Changes, Chooses, Copies, Executes, Follows, Goes, Hands, MayHappen, IsShardReached, Joins, Leave, Loses, Lowers, Raises, Removes, Restarts, Shard, Stays, Tells, Hears, left_by, lacks, names, new_shard, all_left}
 use Rattle.sm_data_laws.specs.Laws.{AcknowledgedWritesStay, EnoughHaveThem, GreatestHasAll}
 use Rattle.sm_data_laws.proofs.Lists.{begins-self, begins-shorter, begins-through, lacks-nothing, put-cases}
 use Rattle.sm_data_laws.proofs.Counts.{count-more}
@@ -34,17 +34,17 @@ new-kept servers replicas primary needed enough =
       below = omega arith;
       whole = λ u some low. refl;
       enough = omega arith;
-      told = λ s xs ys h b l. nothing-told s xs ys l;
-      heard = λ s. omega arith;
+      heard = λ s. record { bound = omega arith; part = λ xs ys h b l. nothing-told ys xs l };
+      words = tt;
     }
   where
     empty-view : (xs : List ListEntry) → {u : ℕ} → begins xs [] ≡ true → view_of xs ≤ u
     empty-view [] b = omega arith
     empty-view (x ∷ xs) b = absurd (false≢true b)
 
-    nothing-told : (s : ℕ) (xs ys : List ListEntry) → length ys ≤ 0 → begins ys xs ≡ true
-    nothing-told s xs [] l = refl
-    nothing-told s xs (y ∷ ys) l = absurd (omega arith)
+    nothing-told : (ys xs : List ListEntry) → length ys ≤ 0 → begins ys xs ≡ true
+    nothing-told [] xs l = refl
+    nothing-told (y ∷ ys) xs l = absurd (omega arith)
 
 -- a whole schedule keeps what holds
 all-kept : (w : Shard) (es : List Event) → IsKept w → MayHappenInTurn w es → IsKept (all_left es w)
@@ -60,6 +60,7 @@ stays-acknowledged w k (Executes write) a n = begins-self w.acknowledged
 stays-acknowledged w k (Copies s) a n = begins-self w.acknowledged
 stays-acknowledged w k (Follows s list) a n = begins-self w.acknowledged
 stays-acknowledged w k (Tells s) a n = begins-self w.acknowledged
+stays-acknowledged w k (Hears which) a n = subst (λ (o : Option ToldCopy). begins w.acknowledged (with_heard w o).acknowledged ≡ true) (sym a.1) (begins-self w.acknowledged)
 stays-acknowledged w k (Acknowledges list) a n =
     begins-shorter w.acknowledged list a.0 (subst (λ (ys : List ListEntry). begins w.acknowledged ys ≡ true) (sym (k.front a.0 a.1)) (primary-has-all w k)) a.2 a.4
 stays-acknowledged w k (Joins s) a n = begins-self w.acknowledged

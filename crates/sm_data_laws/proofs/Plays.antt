@@ -1,12 +1,12 @@
 -- The worked play, step by step.
 use Rattle.std.proofs.Common.{◌≡◌, ℕ, ◌<◌, List, [], ◌∷◌, Some, None, take, zero, suc, refl, subst, arith, inr}
 use Rattle.sm_data_laws.specs.Lists.{IsAtLeast, ListEntry, beginning}
-use Rattle.sm_data_laws.specs.Shard.{Shard, all_left}
+use Rattle.sm_data_laws.specs.Shard.{told_of, Shard, all_left}
 use Rattle.sm_data_laws.specs.Plays.{OutlivesItsPrimary, PRIMARY_IS_LOST, SEVEN, THREE}
 
 -- the shard when its primary is lost
 abbrev LOST : Shard
-LOST = all_left (take 8 PRIMARY_IS_LOST) THREE
+LOST = all_left (take 10 PRIMARY_IS_LOST) THREE
 
 -- server 1 has the greatest copy of those that are left
 greatest : (s : ℕ) (copy : List ListEntry) → s < 3 → LOST.copies s ≡ Some copy → IsAtLeast (beginning 0 ∷ SEVEN ∷ []) copy
@@ -29,16 +29,22 @@ outlives-its-primary = record {
         (
           (beginning 0 ∷ [], beginning 0 ∷ SEVEN ∷ [], refl, refl, (beginning 0 ∷ [], refl, refl, refl), refl, omega arith),
           (
-            (beginning 0 ∷ SEVEN ∷ [], refl, refl),
+            refl,
             (
-              (beginning 0 ∷ SEVEN ∷ [], refl, refl),
+              refl,
               (
-                (beginning 0 ∷ SEVEN ∷ [], refl, refl, refl, omega arith, omega arith),
+                (told_of 1 (beginning 0 ∷ SEVEN ∷ []), refl, refl),
                 (
-                  tt,
+                  (told_of 0 (beginning 0 ∷ SEVEN ∷ []), refl, refl),
                   (
-                    (beginning 0 ∷ SEVEN ∷ [], record { copy_is = refl; greatest = λ s copy l a h. greatest s copy l h; later = omega arith; needed = omega arith; named = λ n. omega arith }),
-                    tt,
+                    (beginning 0 ∷ SEVEN ∷ [], refl, refl, refl, omega arith, omega arith),
+                    (
+                      tt,
+                      (
+                        (beginning 0 ∷ SEVEN ∷ [], record { copy_is = refl; greatest = λ s copy l a h. greatest s copy l h; later = omega arith; needed = omega arith; named = λ n. omega arith }),
+                        tt,
+                      ),
+                    ),
                   ),
                 ),
               ),

@@ -1,7 +1,13 @@
 -- What happens to the data of one shard: writes, copies, losses, replicas that come and go, other primaries. What a server has is what is durable there.
-use Rattle.std.specs.Prelude.{◌≡◌, ◌<◌, ◌≤◌, ◌+◌, ◌==◌, ◌&&◌, nat_le, ℕ, Bool, true, false, not, List, [], ◌∷◌, ◌++◌, Option, Some, None, is_some, length, if◌then◌else◌}
+use Rattle.std.specs.Prelude.{◌≡◌, ◌<◌, ◌≤◌, ◌+◌, ◌==◌, ◌&&◌, nat_le, ℕ, Bool, true, false, not, List, [], ◌∷◌, ◌++◌, Option, Some, None, is_some, length, slice_get, if◌then◌else◌}
 use Rattle.sm_placement.specs.Sums.{put, count_below}
 pub use Rattle.sm_data_laws.specs.Lists.{ListEntry, IsAtLeast, Resumes, begins, beginning, view_of}
+
+-- What a server has told of its copy: its view and its position.
+pub record ToldCopy : Type 0 where
+  pub server : ℕ
+  pub view : ℕ
+  pub position : ℕ
 
 -- A shard's data. A copy is there only if it is whole: a beginning of the shard's list.
 pub record Shard : Type 0 where
@@ -13,10 +19,12 @@ pub record Shard : Type 0 where
   pub replicas : ℕ → Bool
   pub leaving : ℕ → Bool
   pub primary : ℕ
-  -- the view of the primary, the position in it that each server has told it, and how many replicas it asks for
+  -- the view of the primary, the position in it that it has heard of each server, and how many replicas it asks for
   pub view : ℕ
-  pub told : ℕ → ℕ
+  pub heard : ℕ → ℕ
   pub needed : ℕ
+  -- all that was ever told; it may be heard late, again, or never
+  pub words : List ToldCopy
   -- the beginning of the list that is acknowledged
   pub acknowledged : List ListEntry
   -- the list of each view as its primary had it; nothing that happens depends on these
@@ -40,8 +48,9 @@ pub data Event : Type 0 where
   Copies : (server : ℕ) → Event
   -- A server's copy goes on behind the primary, up to this beginning of its list.
   Follows : (server : ℕ) (list : List ListEntry) → Event
-  -- A server of the primary's view tells it its position.
+  -- A server tells what its copy is; the primary hears one of all words.
   Tells : (server : ℕ) → Event
+  Hears : (which : ℕ) → Event
   -- The primary acknowledges this beginning of its list.
   Acknowledges : (list : List ListEntry) → Event
   -- A server becomes a replica.
@@ -70,9 +79,9 @@ pub data Event : Type 0 where
 abbrev pub counted : Shard → (ℕ → Bool) → ℕ
 counted w test = count_below w.servers (λ s. w.replicas s && (not (w.leaving s) && test s))
 
--- whether a server has told the primary the position at which a list ends
-abbrev pub has_told : Shard → List ListEntry → ℕ → Bool
-has_told w list s = nat_le (length list) (w.told s)
+-- whether the primary has heard of a server that its position is at the end of a list or behind it
+abbrev pub has_heard : Shard → List ListEntry → ℕ → Bool
+has_heard w list s = nat_le (length list) (w.heard s)
 
 -- whether a whole copy lacks something of a list
 abbrev pub lacks : List ListEntry → Option (List ListEntry) → Bool
@@ -107,17 +116,18 @@ MayHappen w (Executes write) = is_some (w.copies w.primary) ≡ true
 MayHappen w (Copies s) = is_some (w.copies w.primary) ≡ true
 MayHappen w (Follows s list) = (copy source : List ListEntry) × (w.copies s ≡ Some copy) × (w.copies w.primary ≡ Some source) × Resumes copy source
     × (begins list source ≡ true) × (length copy ≤ length list)
-MayHappen w (Tells s) = (copy : List ListEntry) × (w.copies s ≡ Some copy) × (view_of copy ≡ w.view)
+MayHappen w (Tells s) = is_some (w.copies s) ≡ true
+MayHappen w (Hears which) = (word : ToldCopy) × (slice_get w.words which ≡ Some word) × (word.view ≡ w.view)
 MayHappen w (Acknowledges list) = (source : List ListEntry) × (w.copies w.primary ≡ Some source) × (begins list source ≡ true) × (view_of list ≡ w.view)
-    × (length w.acknowledged ≤ length list) × (w.needed ≤ counted w (has_told w list))
+    × (length w.acknowledged ≤ length list) × (w.needed ≤ counted w (has_heard w list))
 MayHappen w (Joins s) = Unit
-MayHappen w (Leave s) = w.needed ≤ counted w (λ other. not (other == s) && has_told w w.acknowledged other)
+MayHappen w (Leave s) = w.needed ≤ counted w (λ other. not (other == s) && has_heard w w.acknowledged other)
 MayHappen w (Goes s) = w.leaving s ≡ true
 MayHappen w (Stays s) = Unit
 MayHappen w (Loses s) = Unit
 MayHappen w (Hands s) = (copy : List ListEntry) × (w.copies w.primary ≡ Some copy) × (w.copies s ≡ Some copy)
 MayHappen w (Restarts view) = (is_some (w.copies w.primary) ≡ true) × (w.view < view)
-MayHappen w (Raises needed) = needed ≤ counted w (has_told w w.acknowledged)
+MayHappen w (Raises needed) = needed ≤ counted w (has_heard w w.acknowledged)
 MayHappen w (Lowers needed) = needed ≤ w.needed
 MayHappen w (Removes gone needed) = needed + count_below w.servers (λ s. w.replicas s && gone s) ≤ w.needed
 MayHappen w (Changes s view answered) = (copy : List ListEntry) × (w.copies s ≡ Some copy) × IsGreatest w answered copy × (w.view < view) × (gone w answered < w.needed)
@@ -134,21 +144,31 @@ with_list w s view list = record w { copies = put w.copies s (Some list); lists 
 
 -- a server begins a view as its primary: nobody has told it anything yet
 abbrev pub with_view : Shard → ℕ → ℕ → Shard
-with_view w s view = record (with_list w s view (list_of (w.copies s) ++ beginning view ∷ [])) { primary = s; view = view; told = λ _. 0 }
+with_view w s view = record (with_list w s view (list_of (w.copies s) ++ beginning view ∷ [])) { primary = s; view = view; heard = λ _. 0 }
+
+-- what a server tells of its copy
+abbrev pub told_of : ℕ → List ListEntry → ToldCopy
+told_of s copy = record { server = s; view = view_of copy; position = length copy }
+
+-- the primary with_heard a word
+abbrev pub with_heard : Shard → Option ToldCopy → Shard
+with_heard w None = w
+with_heard w (Some word) = record w { heard = put w.heard word.server word.position }
 
 -- The shard after something has happened.
 abbrev pub left_by : Shard → Event → Shard
 left_by w (Executes write) = with_list w w.primary w.view (list_of (w.copies w.primary) ++ record { view = w.view; write = write } ∷ [])
 left_by w (Copies s) = record w { copies = put w.copies s (w.copies w.primary) }
 left_by w (Follows s list) = record w { copies = put w.copies s (Some list) }
-left_by w (Tells s) = record w { told = put w.told s (length (list_of (w.copies s))) }
+left_by w (Tells s) = record w { words = told_of s (list_of (w.copies s)) ∷ w.words }
+left_by w (Hears which) = with_heard w (slice_get w.words which)
 left_by w (Acknowledges list) = record w { acknowledged = list }
-left_by w (Joins s) = record w { replicas = put w.replicas s true; leaving = put w.leaving s false; told = put w.told s 0 }
+left_by w (Joins s) = record w { replicas = put w.replicas s true; leaving = put w.leaving s false; heard = put w.heard s 0 }
 left_by w (Leave s) = record w { leaving = put w.leaving s true }
 left_by w (Goes s) = record w { replicas = put w.replicas s false; copies = put w.copies s None }
-left_by w (Stays s) = record w { leaving = put w.leaving s false; told = put w.told s 0 }
+left_by w (Stays s) = record w { leaving = put w.leaving s false; heard = put w.heard s 0 }
 left_by w (Loses s) = record w { copies = put w.copies s None }
-left_by w (Hands s) = record w { primary = s; told = λ _. 0 }
+left_by w (Hands s) = record w { primary = s; heard = λ _. 0 }
 left_by w (Restarts view) = with_view w w.primary view
 left_by w (Raises needed) = record w { needed = needed }
 left_by w (Lowers needed) = record w { needed = needed }
@@ -186,8 +206,9 @@ new_shard servers replicas primary needed =
       leaving = λ _. false;
       primary = primary;
       view = 0;
-      told = λ _. 0;
+      heard = λ _. 0;
       needed = needed;
+      words = [];
       acknowledged = [];
       lists = put (λ _. []) 0 (beginning 0 ∷ []);
     }
