@@ -37,7 +37,7 @@ OTHERS = {
 # Liveness: without these rules the service does not go on, which a play shows.
 STOPS = {
     "grant_ends", "lower_asks_first", "change_by_count", "former_counts", "down_lowers", "drops_leave_copies",
-    "fence_bounded",
+    "fence_bounded", "newest_terms",
 }
 
 
@@ -71,7 +71,7 @@ class RulesAreNeeded(unittest.TestCase):
     def test_each_law_on_data_is_broken_by_some_play(self):
         broken = {played(it, with_rule=False).law for it in DATA_PLAYS}
         own = [it.__name__ for it in laws.STANDING if it.__module__ == laws.__name__]
-        self.assertEqual([it for it in (*own, "last_copy_stays", "best_copy_wins") if it not in broken], [])
+        self.assertEqual([it for it in (*own, "last_copy_stays", "best_copy_wins", "named_writes_stay") if it not in broken], [])
 
     def test_rules_have_sentences(self):
         for rule in rule_names():

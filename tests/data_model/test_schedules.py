@@ -14,7 +14,8 @@ MET = (
     "acknowledged at several", "an answer too late", "approved", "asked again", "carried over", "copied", "copies anew",
     "copies anew though a beginning", "copies lowered", "crashed at work", "cut off", "gone back", "journal replaced",
     "leave given", "leave taken",
-    "lost for good", "named rather than awaited", "reopened", "reopening replaced", "restored", "seen", "told too late",
+    "lost for good", "named rather than awaited", "reopened", "reopening replaced", "restored", "seen", "set aside",
+    "told too late",
 )
 
 

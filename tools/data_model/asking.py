@@ -5,10 +5,10 @@ from __future__ import annotations
 import random
 from collections import Counter
 
-from driving_model.cells import ABSENT, Kind, SECONDARY, Verb, serving
+from driving_model.cells import ABSENT, Kind, Verb, serving
 
 from .copies import Told
-from .host import Host, Open, Replica
+from .host import Host, Open
 from .messages import Answer, Asks, Question
 from .rules import Rules
 
@@ -76,16 +76,12 @@ class Asking:
         return asking is not None and asking.number == question.number
 
     def asks_for(self, host: Host, shard: int) -> Asks | None:
-        """What a server asks: leave for a drop, who has the greatest copy for a `change` to primary, or to copy anew
-        from it where there is no primary."""
+        """What a server asks: leave for a drop, and who has the greatest copy for a `change` to primary."""
         call, replica = host.server.slots[shard].call, host.at[shard]
         if call is not None and call.verb is Verb.DROP:
             return None if replica.has_leave or self.is_alone(host, shard) else Asks.LEAVE
-        if call is not None and call.verb is Verb.CHANGE and call.role is Kind.PRIMARY:
-            return Asks.GREATEST
-        brings = call is not None and call.verb is Verb.ADD
-        follows = host.cell(shard) == SECONDARY or brings
-        return Asks.GREATEST if follows and replica.terms.primary is None and not replica.copy.is_whole else None
+        is_change = call is not None and call.verb is Verb.CHANGE and call.role is Kind.PRIMARY
+        return Asks.GREATEST if is_change else None
 
     def asked_by(self, host: Host, shard: int, asks: Asks) -> list[int]:
         """Whom a server asks: for leave who serves the shard, or else the replicas that it was told of."""
@@ -108,7 +104,7 @@ class Asking:
     def answer(self, question: Question) -> None:
         """A question comes to the primary, or to a replica."""
         host = self.hosts[question.to]
-        if not host.answers or question.life != host.life or host.cell(question.shard) == ABSENT:
+        if not host.answers or self.has_ended(host, question) or host.cell(question.shard) == ABSENT:
             return
         replica = host.at[question.shard]
         if self.rules.connections_numbered and replica.newest.get(question.by, -1) > question.connection:
@@ -186,27 +182,18 @@ class Asking:
         return sum(it >= own for it in told) >= max(1, enough) and not host.runs(shard)
 
     def has_greatest(self, host: Host, shard: int) -> bool:
-        """The server may become primary: it has a whole copy, and nobody of enough replicas has told a greater one; or
-        the former primary has told one that is not."""
-        mine = host.copy(shard).told()
-        return mine is not None and self.is_greatest(host.at[shard], host.number, mine, own=True)
-
-    def has_told_greatest(self, host: Host, source: Host, shard: int) -> bool:
-        """In a shard without a primary enough replicas have told a server that none has more than this one."""
-        told = source.copy(shard).told(self.rules.told_flushed)
-        return told is not None and self.is_greatest(host.at[shard], host.number, told, own=False)
-
-    def is_greatest(self, replica: Replica, number: int, told: Told, own: bool) -> bool:
-        """Of the replicas that were named all but `copies` less one have told whole copies, none of them greater than
-        this one; or the former primary is among them."""
-        if replica.asking is None or replica.asking.asks is not Asks.GREATEST:
+        """The server may become primary: it has a whole copy, and of the replicas that were named all but `copies` less
+        one, itself among them, have told whole ones, none of them greater; or the former primary is among them."""
+        replica, mine = host.at[shard], host.copy(shard).told()
+        if mine is None:
             return False
-        answers = {by: it for by, it in replica.asking.answers.items() if by in replica.terms.replicas}
-        if any(it.told and it.told > told for it in answers.values()):
+        terms, asking = replica.terms, replica.asking
+        told = asking.answers if asking and asking.asks is Asks.GREATEST else {}
+        answers = {by: it for by, it in told.items() if by in terms.replicas}
+        if any(it.told and it.told > mine for it in answers.values()):
             return False
-        former = replica.terms.former
-        if self.rules.former_counts and former and any((by, it.former) == former for by, it in answers.items()):
+        ended = {(by, it.former) for by, it in answers.items()} | {(host.number, replica.former)}
+        if self.rules.former_counts and terms.former in ended:
             return True
-        replicas = replica.terms.replicas | {number}
-        missing = replica.terms.copies - 1 if self.rules.change_by_count else 0
-        return len(answers) + own >= len(replicas) - missing
+        missing = terms.copies - 1 if self.rules.change_by_count else 0
+        return len(answers) + 1 >= len(terms.replicas | {host.number}) - missing

@@ -8,14 +8,15 @@ class Writes:
     """For each shard its one list of executed writes, those that were acknowledged, and those that some reply showed.
 
     A write is forgotten only when the shard was named as lost and that was confirmed, until a new primary acknowledges
-    it again, or when a plan has dropped the shard's last replica. `promised` has of each how many copies it had at least, and `destroyed` how many were lost with their
-    disks.
+    it again, or when a plan has dropped the shard's last replica. `named` has those that no new primary had. `promised`
+    has of each how many copies it had at least, and `destroyed` how many were lost with their disks.
     """
 
     def __init__(self, shard_count: int) -> None:
         self.history: list[list[int]] = [[] for _ in range(shard_count)]
         self.acknowledged: list[set[int]] = [set() for _ in range(shard_count)]
         self.seen: list[set[int]] = [set() for _ in range(shard_count)]
+        self.named: list[set[int]] = [set() for _ in range(shard_count)]
         self.promised: dict[int, int] = {}
         self.destroyed: dict[int, int] = {}
         self.requests: list[Write] = []
@@ -43,6 +44,17 @@ class Writes:
             self.destroyed[write] = self.destroyed.get(write, 0) + 1
 
     def keep(self, shard: int, writes: list[int]) -> None:
-        """The loss of all others is known."""
+        """The loss of all others was named."""
+        self.named[shard] |= self.acknowledged[shard].difference(writes)
         self.acknowledged[shard] &= set(writes)
         self.seen[shard] &= set(writes)
+
+    def give_up(self, shard: int, writes: list[int]) -> None:
+        """The shard was named, and its new primary has these."""
+        self.keep(shard, writes)
+        self.acknowledged[shard], self.seen[shard] = set(), set()
+
+    def drop(self, shard: int) -> None:
+        """A plan has dropped the shard."""
+        for found in (self.acknowledged, self.seen, self.named):
+            found[shard] = set()

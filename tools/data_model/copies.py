@@ -69,6 +69,10 @@ class Copy:
         """What it tells of a copy in doubt."""
         return Told(self.view, self.position) if self.is_doubted else None
 
+    def kept(self) -> frozenset[int]:
+        """The writes of a copy that was whole, or is in doubt."""
+        return frozenset(self.writes) if self.is_whole or self.is_doubted else frozenset()
+
     # How copies compare.
 
     def begins_with(self, told: Told) -> bool:

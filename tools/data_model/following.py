@@ -6,9 +6,11 @@ from collections import Counter
 
 from driving_model.cells import ABSENT, Cell, Kind, SECONDARY, Verb, serving
 
+from . import laws
+from .clients import Writes
 from .copies import Copy, Told
 from .host import Heard, Host
-from .messages import Word
+from .messages import Question, Word
 from .rules import Rules
 
 # How many words are kept that may still come.
@@ -20,6 +22,7 @@ class Following:
 
     rules: Rules
     hosts: list[Host]
+    writes: Writes
     dice: random.Random
     coverage: Counter[str]
     is_fair: bool
@@ -71,24 +74,24 @@ class Following:
                 self.copy_anew(host, shard, sent)
             return
         most = self.dice.choice([sent.position, self.dice.randint(0, sent.position)])
-        was = copy.all, bool(copy.part)
+        was, had = (copy.all, bool(copy.part)), copy.kept()
         copy.take(sent, most, rules.views_resumed, rules.lesser_waits, rules.anew_beside)
         self.coverage["copies anew"] += bool(copy.part) and not was[1]
         if bool(was[0]) != copy.is_whole:
             self.say("server", host.number, "has copied shard", shard, "of", source.number, "or has to")
         if was[0] and (not copy.is_whole or was[1] and not copy.part):
             self.replaced_copy(host, shard)
+        self.set_aside(host, shard, had)
 
     def may_copy_from(self, host: Host, source: Host, shard: int) -> bool:
-        """A copy may be made anew from this source: it may acknowledge, or hands the shard over to the server; where
-        there is no primary, enough replicas have told that none has more."""
+        """A copy may be made anew from this source: it may acknowledge, or hands the shard over to the server; or that
+        has lost no copy, since it has one, or is only to be a replica."""
         row = self.row(shard)
         cell = row[host.number]
         if self.may_acknowledge(source, shard, row) or (cell.kind is Kind.PREPARED and cell.party == source.number):
             return True
-        if row[source.number] != SECONDARY:
-            return not self.rules.anew_of_acknowledger
-        return self.has_told_greatest(host, source, shard) or not self.rules.copy_of_greatest
+        has_lost_none = host.copy(shard).is_whole or cell == ABSENT
+        return (row[source.number] == SECONDARY and has_lost_none) or not self.rules.anew_of_acknowledger
 
     def copy_anew(self, host: Host, shard: int, sent: Copy) -> None:
         """A stream is lost, so that a copy is made anew although it is a beginning of its source."""
@@ -98,15 +101,25 @@ class Following:
         if not self.rules.anew_beside:
             copy.clear()
         self.coverage["copies anew though a beginning"] += copy.is_whole
+        had = copy.kept()
         copy.make_anew(sent, self.dice.choice([sent.position, self.dice.randint(0, sent.position)]))
         if copy.part is None or not copy.is_whole:
             self.replaced_copy(host, shard)
+        self.set_aside(host, shard, had)
 
     def replaced_copy(self, host: Host, shard: int) -> None:
         """Another copy has taken the place of the old one, or that was deleted: the server connects anew."""
         host.at[shard].has_lost_stream = False
         host.hang_up(shard)
         self.say("server", host.number, "has another copy of shard", shard)
+
+    def set_aside(self, host: Host, shard: int, had: frozenset[int]) -> None:
+        """What a server had before its copy was replaced or taken away, and has no more."""
+        gone = had.difference(host.copy(shard).writes)
+        if self.rules.set_aside:
+            host.at[shard].aside |= gone
+            self.coverage["set aside"] += bool(gone & self.writes.named[shard])
+        laws.named_writes_stay(self, host, shard, gone)
 
     # What followers tell.
 
@@ -138,13 +151,17 @@ class Following:
         host = self.hosts[word.to]
         replica = host.at[word.shard]
         is_late = self.rules.connections_numbered and replica.newest.get(word.by, -1) > word.connection
-        if not host.answers or word.life != host.life or is_late:
+        if not host.answers or self.has_ended(host, word) or is_late:
             self.coverage["told too late"] += 1
             return
         replica.newest[word.by] = word.connection
         before = replica.heard.get(word.by)
         if before is None or before.connection != word.connection or before.told <= word.told:
             replica.heard[word.by] = Heard(word.connection, word.settled, word.told)
+
+    def has_ended(self, host: Host, said: Word | Question) -> bool:
+        """The server to which this goes has started since it was said."""
+        return said.life != host.life and self.rules.connections_end
 
     # Whom an acknowledger counts.
 

@@ -59,6 +59,8 @@ class Replica:
     # What replies saw that wait; whether its stream is lost, so that it has to copy anew.
     replies: list[tuple[int, ...]] = field(default_factory=list)
     has_lost_stream: bool = False
+    # The writes of copies that were set aside.
+    aside: set[int] = field(default_factory=set)
     # Whether it was restored without a copy (for a law).
     came_bare: bool = False
 

@@ -157,6 +157,15 @@ def last_copy_stays(world: World, host: Host, shard: int) -> None:
             raise Violation("last_copy_stays", found)
 
 
+def named_writes_stay(world: World, host: Host, shard: int, gone: frozenset[int]) -> None:
+    """Nobody deletes the last copy of a write whose loss was named: it came back with a server that was given up."""
+    others = [it for it in world.hosts if not it.is_lost]
+    for write in gone & world.writes.named[shard]:
+        if not any(write in it.copy(shard).kept() | it.at[shard].aside for it in others):
+            found = f"server {host.number} deletes write {write} of shard {shard}, whose loss was named"
+            raise Violation("named_writes_stay", found)
+
+
 def best_copy_wins(world: World, reopening: Reopening) -> None:
     """If a server that has answered has all acknowledged writes of a shard, its new primary has them."""
     for shard, row in enumerate(reopening.cells):

@@ -96,6 +96,17 @@ class Play(base.Play):
         self.work(self.world.hosts)
         self.take_answers()
 
+    def step_of_plan(self, plan: int) -> None:
+        """The orders of one plan come, and are worked on; nothing is copied."""
+        self.tell_all()
+        for message in self.controller.orders():
+            if message.plan == plan:
+                self.deliver(message)
+                self.work([self.host(message.server)] if isinstance(message, Order) else [])
+        for answer in list(self.world.network.answers.items):
+            if answer.plan == plan:
+                self.do(answer)
+
     def tell_all(self) -> None:
         """All that there is becomes durable, and is told."""
         for host in self.world.hosts:

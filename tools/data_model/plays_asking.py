@@ -115,6 +115,44 @@ def counted_though_it_leaves(rules: Rules) -> None:
     play.work([play.host(1)])
 
 
+def counted_by_what_was_said_before_a_start(rules: Rules) -> None:
+    """A leaver told that it has 8, asks, and gets leave. The primary starts anew, and knows nothing of it; then the
+    word comes, and the answer."""
+    play = Play(rules, ALL, want=3, copies=2)
+    play.write(7, copies=(1, 2))
+    play.execute(0, 8)
+    play.host(0).copy(0).flush()
+    play.copy(1, 0)
+    play.host(1).copy(0).flush()
+    play.world.words.clear()
+    play.world.tell(0, play.world.row(0))
+    late = [it for it in play.world.words if it.by == 1]
+    play.drop(1)
+    play.deliver_orders()
+    answer = play.answer(play.question(1, 0))
+    play.crash(0)
+    for word in late:
+        play.world.hear_word(word)
+    play.acknowledge()
+    play.world.take_answer(answer)
+    play.work([play.host(1)])
+
+
+def primary_goes_while_it_is_asked(rules: Rules) -> None:
+    """A secondary is to be dropped, and waits for the primary's leave. The primary becomes a secondary, and only then
+    the question could be answered."""
+    play = Play(rules, ALL, want=3, copies=2)
+    play.write(7, copies=(1, 2))
+    play.drop(1)
+    play.deliver_orders()
+    play.change_to_secondary()
+    for _ in range(4):
+        play.step_of_plan(1)
+    for _ in range(3):
+        play.step()
+    must(play.world.row(0)[1] == ABSENT, "a drop waits for a primary that is none")
+
+
 def answer_comes_late(rules: Rules) -> None:
     """A leaver has asked, abandoned its order, and told a write anew; it asks again, and the first answer comes."""
     play = asking(rules)
@@ -226,6 +264,21 @@ def change_by_the_former_primary(rules: Rules) -> None:
     must(PRIMARY in play.world.row(0), "nobody becomes primary")
 
 
+def change_back(rules: Rules) -> None:
+    """The primary becomes a secondary. All others crash, and it is to be primary again."""
+    play = Play(rules, TWO, want=2, cap=2)
+    play.write(7, copies=(1,))
+    play.change_to_secondary()
+    for _ in range(2):
+        play.step()
+    play.crash(1)
+    play.host(1).is_alive = False
+    play.change_to_primary(0)
+    for _ in range(2):
+        play.step(0)
+    must(PRIMARY in play.world.row(0), "nobody becomes primary")
+
+
 def without_a_primary(rules: Rules) -> Play:
     """A primary and a secondary have 7, another one lags; one copy is asked for. The primary is dropped by leave, and
     then the first secondary loses its disk, and is restored."""
@@ -257,6 +310,34 @@ def copy_from_the_lesser(rules: Rules) -> None:
         play.world.follow(0)
     play.change_to_primary(2)
     play.step()
+
+
+def copied_while_an_answer_is_late(rules: Rules) -> None:
+    """Of four replicas the primary and one whose `add` is not recorded yet have 7. The primary becomes a secondary, and
+    loses its disk; the other one is down. It copies from one of two that lag: by the replicas that it was told of none
+    has more. Then one of these three is to be primary."""
+    play = Play(rules, (PRIMARY, SECONDARY, SECONDARY, ABSENT), want=4, cap=3, copies=3)
+    permit = play.approve(1)
+    for lower in play.controller.lowers():
+        play.deliver(lower)
+    play.do(play.host(1).restarted(permit))
+    play.add_secondary(3)
+    order = play.controller.orders()[0]
+    play.world.deliver(order)
+    play.copy(3, 0)
+    play.world.work(play.host(3), order)
+    play.write(7, copies=(3,))
+    play.host(3).is_alive = False
+    play.change_to_secondary()
+    for _ in range(2):
+        play.step_of_plan(1)
+    play.world.lose(play.host(0))
+    play.restore(0)
+    play.world.is_fair = True
+    for _ in range(6):
+        play.world.follow(0)
+    play.change_to_primary(2)
+    play.step_of_plan(2)
 
 
 def leave_for_one_without_a_copy(rules: Rules) -> None:
@@ -304,6 +385,7 @@ def first_primary_beside_a_secondary(rules: Rules) -> None:
 
 
 PLAYS = (
+    Worked(primary_goes_while_it_is_asked, "newest_terms"),
     Worked(drop_without_its_primary, "drop_granted"),
     Worked(leave_while_one_is_down, "leave_of_all"),
     Worked(leave_after_a_start, "leave_of_earlier"),
@@ -312,13 +394,16 @@ PLAYS = (
     Worked(counted_though_it_leaves, "leaver_uncounted"),
     Worked(answer_comes_late, "leave_numbered"),
     Worked(question_comes_late, "connections_numbered"),
+    Worked(counted_by_what_was_said_before_a_start, "connections_end"),
     Worked(leave_that_came_to_nothing, "grant_ends"),
     Worked(two_that_ask_each_other, "lower_asks_first"),
     Worked(change_of_an_empty_secondary, "change_compares"),
     Worked(change_with_one_dead, "change_by_count", beside=("former_counts",)),
     Worked(change_by_the_former_primary, "former_counts"),
+    Worked(change_back, "former_counts"),
     Worked(change_counts_none, "change_counts_whole"),
-    Worked(copy_from_the_lesser, "copy_of_greatest"),
+    Worked(copy_from_the_lesser, "anew_of_acknowledger"),
+    Worked(copied_while_an_answer_is_late, "anew_of_acknowledger"),
     Worked(leave_for_one_without_a_copy, "leave_of_whole"),
     Worked(change_in_the_same_view, "change_begins_view"),
     Worked(first_primary_beside_a_secondary, "begins_alone"),

@@ -7,7 +7,7 @@ from driving_model.commands import Reopen
 from driving_model.messages import BASE_STEP, Fence, MAP, Restore, Settle
 
 from .copies import Began
-from .play import ALL, ALONE, Play, TWO
+from .play import ALL, ALONE, Play, Row, TWO
 from .rules import Rules
 from .worked import Worked, must
 
@@ -90,6 +90,31 @@ def confirmed_unread(rules: Rules) -> None:
     play.confirm(lost=frozenset())
     for settle in play.sent_to(1, Settle):
         play.deliver(settle)
+
+
+def returned_after_its_loss(rules: Rules, row: Row) -> None:
+    """The primary alone had 7, and is lost, which was named. It comes back with its data."""
+    play = Play(rules, TWO, want=2, cap=1)
+    play.write(7, copies=())
+    play.fail_over(0, (ABSENT, SECONDARY, ABSENT))
+    play.write(8, copies=(), primary=1)
+    play.come_back(0)
+    play.reopening(set(), (ABSENT, PRIMARY, ABSENT))
+    play.confirm(*row)
+    for settle in play.sent_to(0, Settle):
+        play.deliver(settle)
+    for _ in range(9):
+        play.world.follow(0)
+
+
+def copy_that_a_settle_takes_away(rules: Rules) -> None:
+    """It comes back, and a reopening brings it nothing: it deletes what it has."""
+    returned_after_its_loss(rules, (ABSENT, PRIMARY, ABSENT))
+
+
+def copy_that_is_made_anew(rules: Rules) -> None:
+    """It comes back as a secondary, and copies the new primary's list over what it has."""
+    returned_after_its_loss(rules, (SECONDARY, PRIMARY, ABSENT))
 
 
 def copy_of_another_view(rules: Rules) -> None:
@@ -338,6 +363,8 @@ PLAYS = (
     Worked(silent_secondary_has_all, "members_awaited"),
     Worked(primary_alone_had_it, "loss_named", beside=("loss_confirmed",)),
     Worked(confirmed_unread, "loss_confirmed"),
+    Worked(copy_that_a_settle_takes_away, "set_aside"),
+    Worked(copy_that_is_made_anew, "set_aside"),
     Worked(copy_of_another_view, "views_compared"),
     Worked(view_of_a_later_journal, "views_below"),
     Worked(unknown_with_all, "unknown_data_counts"),

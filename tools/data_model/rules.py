@@ -34,17 +34,24 @@ class Rules(driving.Rules):
     connections_numbered: bool = rule(
         "A follower numbers its connections; what comes by an earlier one than the newest heard is not heard."
     )
+    connections_end: bool = rule(
+        "A start of the server to which a connection goes ends it: what was said by it is not heard."
+    )
     # Copies that come.
     views_resumed: bool = rule(
         "A copy goes on only if its view and position make it a beginning of its source; others are made anew."
     )
     lesser_waits: bool = rule("Who has more than its source waits, and gives nothing up.")
     anew_of_acknowledger: bool = rule(
-        "Where there is a primary, who has no whole copy copies only from who may acknowledge: it, or a new owner at "
-        "its cut."
+        "A replica that has lost its copy makes one only from who may acknowledge: the primary, or a new owner at its "
+        "cut."
     )
     anew_beside: bool = rule("A copy that replaces another one is made beside it, and takes its place when whole.")
+    set_aside: bool = rule(
+        "A copy with writes that another one has not, which is replaced or taken away, is set aside and not deleted."
+    )
     # Leave to drop.
+    newest_terms: bool = rule("What the newest message names of a shard holds also for the work under way.")
     drop_granted: bool = rule("A drop commits only with leave, unless nobody else is named as a replica.")
     leave_of_all: bool = rule("Leave asks for the full number of copies at others, also while fewer acknowledge.")
     leave_of_whole: bool = rule("Without another primary only a replica with a whole copy gets leave.")
@@ -64,9 +71,6 @@ class Rules(driving.Rules):
     change_by_count: bool = rule("It asks all replicas but `copies` less one, and not each one.")
     change_counts_whole: bool = rule("Of those asked only whole copies count.")
     former_counts: bool = rule("Or the former primary has told its copy, which it has kept since it was primary.")
-    copy_of_greatest: bool = rule(
-        "Without a primary a copy is made anew only from one that could be changed to primary."
-    )
     change_begins_view: bool = rule("Who becomes primary by `change` begins a view with the order's number.")
     begins_alone: bool = rule("`add` of a primary begins empty, and only if nobody else is named as a replica.")
     # Losses.

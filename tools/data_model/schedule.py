@@ -273,6 +273,7 @@ class Schedule(base.Schedule):
         if self.rare.random() < 0.4:
             for replica in host.at:
                 replica.copy.clear()
+                replica.aside = set()
         self.world.say("server", host.number, "comes back as a new one")
 
 

@@ -145,6 +145,7 @@ class World(Following, Asking, Serving, base.World):
             self.writes.destroy(replica.copy.writes if replica.copy.is_whole else [])
             if not is_for_good:
                 replica.copy.clear()
+                replica.aside = set()
         if not self.controller.record or host.number not in self.controller.record.permits:
             self.are_floors_excused = True
         was_known, nonce = host.server.is_known, host.server.nonce
@@ -236,7 +237,8 @@ class World(Following, Asking, Serving, base.World):
         """An order comes to its server, which knows its terms from now on, also for work under way."""
         slot = host.server.slots[order.shard]
         if host.server.is_known and order.journal == host.server.journal and order.fence <= host.server.base:
-            if order.number > host.server.base and order.number >= max(slot.work or 0, slot.last):
+            is_under_way = slot.work is not None and not self.rules.newest_terms
+            if order.number > host.server.base and order.number >= max(slot.work or 0, slot.last) and not is_under_way:
                 host.at[order.shard].terms = order.terms
         super().deliver_order(host, order, is_eager)
 
@@ -282,7 +284,7 @@ class World(Following, Asking, Serving, base.World):
                 laws.last_copy_stays(self, host, shard)
             replica.copy.clear()
             if is_last:
-                self.writes.keep(shard, [])
+                self.writes.drop(shard)
         elif was == ABSENT and (cell.kind is Kind.PRIMARY or (begins and not replica.copy.is_whole)):
             replica.copy.begin_empty(order.number)
             self.writes.history[shard] = []
@@ -345,9 +347,15 @@ class World(Following, Asking, Serving, base.World):
         replica.came_bare = isinstance(message, Restore) and is_bare
         if cell == ABSENT:
             laws.last_copy_stays(self, host, shard)
-            copy.clear()
+            self.take_away(host, shard)
         elif cell.kind is Kind.PRIMARY:
             self.become_primary(host, shard, told.view, message)
+
+    def take_away(self, host: Host, shard: int) -> None:
+        """A settle or a restore brings a server nothing of a shard of which it may have a copy."""
+        before = host.copy(shard).kept()
+        host.copy(shard).clear()
+        self.set_aside(host, shard, before)
 
     def become_primary(self, host: Host, shard: int, view: int | None, message: Settle | Restore) -> None:
         """A server that takes a slot is primary: as before, or it begins a view."""
@@ -361,8 +369,9 @@ class World(Following, Asking, Serving, base.World):
             copy.begin_view(view or 0)
         else:
             laws.last_copy_stays(self, host, shard)
+            self.take_away(host, shard)
             copy.begin_empty(view or 0)
         history[shard] = list(copy.writes)
         if isinstance(message, Settle) and shard in self.perhaps.get(message.base, ()):
-            self.writes.keep(shard, [])
+            self.writes.give_up(shard, copy.writes)
             self.coverage["a named loss taken"] += 1
