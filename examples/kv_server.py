@@ -1,114 +1,153 @@
-"""A key-value server that moves its shards by the agent: what docs/YOUR-SERVERS.md tells, in one file. Its state is one SQLite database, so slots
-and data change in one transaction. Its peers are objects; a real server would send them messages, which may be lost, late or repeated.
+"""A key-value server that moves its shards by the agent, and keeps the rules of docs/YOUR-SERVERS.md. Its peers are objects: each method that one
+calls of another stands for a message, which may be lost (an OSError), but here not late.
 """
 import os
 import secrets
-import sqlite3
 import sys
-from dataclasses import astuple, replace
+from dataclasses import replace
 
 sys.path.insert(0, os.path.join(os.path.dirname(os.path.abspath(__file__)), "../python"))
-from smplan import agent  # noqa: E402  (the path comes first)
-from smplan.agent import Answer, Base, Call, Cell, Request, Restoration, Settlement, Slot  # noqa: E402
+from kv_store import Store  # noqa: E402  (the path comes first)
+from smplan import agent  # noqa: E402
+from smplan.agent import Answer, Call, Cell, Request, Restoration, Role, Settlement, Slot  # noqa: E402
 
-TABLES = """
-CREATE TABLE IF NOT EXISTS base (one INTEGER PRIMARY KEY, journal, number, nonce, known, fenced);
-CREATE TABLE IF NOT EXISTS slots (shard TEXT PRIMARY KEY, cell, party, handover, last, at_work, load, cut, has_cut);
-CREATE TABLE IF NOT EXISTS pairs (shard, key, value, PRIMARY KEY (shard, key));
-CREATE TABLE IF NOT EXISTS writes (shard, place, request, reply, PRIMARY KEY (shard, place));
-"""
+FOLLOWING = (Cell.SECONDARY, Cell.PREPARED, Cell.FORWARDING)
+LOST = "lost"
 
 
-class Server:
-    """One server; `peers` has all of them by number."""
+class Server(Store):
+    """One server; `peers` has all of them by number. `copies` replicas have each acknowledged write. If the service is new, no shard has data yet."""
 
-    def __init__(self, number, peers, path=":memory:"):
-        self.number, self.peers = number, peers
-        self.db = sqlite3.connect(path)
-        self.db.executescript(TABLES)
+    def __init__(self, number, peers, path=":memory:", copies=1, is_new=True):
+        super().__init__(path)
+        self.number, self.peers, self.copies, self.is_new = number, peers, copies, is_new
         peers[number] = self
         self.start()
 
     def start(self):
         """Begins without work. If it is Unknown, or there is no base, it asks under a new nonce."""
+        self.named = {}  # by shard, who is primary, and which others are replicas, as the newest order names them
         with self.db:
             if self.db.execute("SELECT 1 FROM base WHERE known").fetchone() is None:
                 self.store_base(agent.forget(secrets.randbits(63) | 1))
             self.abandon_all()
 
-    # -- what is stored
-
-    def base(self):
-        return Base(*map(int, self.db.execute("SELECT journal, number, nonce, known, fenced FROM base").fetchone()))
-
-    def store_base(self, base):
-        self.db.execute("REPLACE INTO base VALUES (1, ?, ?, ?, ?, ?)", [str(int(it)) for it in astuple(base)])  # (64 bits are too many for its numbers)
-
-    def slot(self, shard):
-        row = self.db.execute("SELECT cell, party, handover, last, at_work, load, cut, has_cut FROM slots WHERE shard = ?", (shard,)).fetchone()
-        return Slot(*row) if row else agent.VACANT if self.base().known else Slot()
-
-    def store_slot(self, shard, slot):
-        self.db.execute("REPLACE INTO slots VALUES (?, ?, ?, ?, ?, ?, ?, ?, ?)", (shard, *map(int, astuple(slot))))
-        if slot.cell == Cell.ABSENT:
-            self.store_copy(shard, ([], []))
-
-    def shards(self):
-        return [shard for (shard,) in self.db.execute("SELECT shard FROM slots ORDER BY shard")]
-
-    def used(self):
-        return self.db.execute("SELECT COALESCE(SUM(load), 0) FROM slots").fetchone()[0]
-
-    def applied(self, shard):
-        """The shard's position: how many of its writes are here."""
-        return self.db.execute("SELECT COUNT(*) FROM writes WHERE shard = ?", (shard,)).fetchone()[0]
-
-    def copy_of(self, shard):
-        """A shard's data, with the identities and replies of the requests that made it."""
-        return (self.db.execute("SELECT key, value FROM pairs WHERE shard = ?", (shard,)).fetchall(),
-                self.db.execute("SELECT place, request, reply FROM writes WHERE shard = ?", (shard,)).fetchall())
-
-    def store_copy(self, shard, copy):
-        self.db.execute("DELETE FROM pairs WHERE shard = ?", (shard,))
-        self.db.execute("DELETE FROM writes WHERE shard = ?", (shard,))
-        self.db.executemany("INSERT INTO pairs VALUES (?, ?, ?)", [(shard, *pair) for pair in copy[0]])
-        self.db.executemany("INSERT INTO writes VALUES (?, ?, ?, ?)", [(shard, *write) for write in copy[1]])
-
     def abandon_all(self):
+        self.questions = {}  # by shard the question for leave that is open: its number, the copy's mark, and who has given leave
         for shard in self.shards():
             self.store_slot(shard, agent.abandon(self.slot(shard)))
 
+    # -- who follows whom
+
+    def serves(self, shard):
+        slot = self.slot(shard)
+        return slot.cell == Cell.PRIMARY or (slot.cell == Cell.PREPARED and agent.has_reached_cut(slot, self.applied(shard)))
+
+    def offer(self, shard, number, mark):
+        """What a peer with this mark lacks, and behind which place, if this server serves, is its old owner, or a replica that has more."""
+        slot, mine = self.slot(shard), self.mark(shard)
+        has_more = slot.cell == Cell.SECONDARY and None not in (mark, mine) and mark < mine
+        if not (self.serves(shard) or has_more or (slot.cell == Cell.FORWARDING and slot.party == number)):
+            return None
+        after = mark[1] if mark and self.begins_with(shard, *mark) else 0
+        return self.copy_of(shard, after), after
+
+    def pull(self, shard, source, reopened=0):
+        """Takes what a source has, if it is to be followed. Returns the copy's mark then, durable; None if it is no replica that was settled at the
+        source's last reopening, or asks for leave."""
+        slot, mark = self.slot(shard), self.mark(shard)
+        if slot.cell not in FOLLOWING or self.reopened() < reopened or shard in self.questions:
+            return None
+        if slot.cell == Cell.SECONDARY or (slot.party == source and not self.serves(shard)):
+            offer = self.peers[source].offer(shard, self.number, mark)
+            with self.db:
+                if offer and self.mark(shard) == mark:
+                    self.store_copy(shard, *offer)
+        return self.mark(shard)
+
+    def ask(self, number, message, *words):
+        """What a peer answers; LOST if it does not."""
+        try:
+            return getattr(self.peers[number], message)(*words)
+        except (OSError, KeyError):
+            return LOST
+
+    def replicate(self, shard, but=0):
+        """Whether all that is here is at each live replica, at `copies` with this one, and in a handover at the old owner, live or not."""
+        mine, old = self.mark(shard), self.slot(shard).party or self.old_owner(shard)
+        told = {it: self.ask(it, "pull", shard, self.number, self.reopened()) for it in self.peers if it not in (self.number, but)}
+        marks = [it for it in told.values() if it not in (None, LOST)]
+        return all(it == mine for it in marks) and len(marks) + 1 >= self.copies and (old in (0, but) or told.get(old) == mine)
+
     # -- orders
 
-    def order(self, shard, order):
-        """Judges an order, and begins it if it is new. On AGAIN it is answered as done; on BEGIN `work` follows, which may take hours."""
+    def order(self, shard, order, primary=0, replicas=None):
+        """Judges an order, which names primary and replicas (otherwise all peers are asked), and begins it if it is new. On AGAIN it is answered as
+        done; on BEGIN `work` follows, which may take hours."""
         with self.db:
             self.heed(order.journal, order.fence)
             verdict = agent.judge(self.base(), self.slot(shard), self.used(), order)
             if verdict == Answer.BEGIN:
                 self.store_slot(shard, agent.begin(self.slot(shard), order))
+            if replicas is not None and verdict in (Answer.BEGIN, Answer.WORKING):
+                self.named[shard] = primary, set(replicas) - {self.number}
         return verdict
+
+    def replicas(self, shard):
+        """Who is primary, 0 if nobody is, and which others are replicas."""
+        cells = {it: peer.slot(shard).cell for it, peer in self.peers.items() if it != self.number}
+        primary = next((it for it in cells if cells[it] == Cell.PRIMARY), 0)
+        return self.named.get(shard) or (primary, {it for it in cells if cells[it] in (*FOLLOWING, Cell.PRIMARY)})
 
     def work(self, shard, order):
         """Does an order's work, commits it in one transaction with the slot, and returns whether it did. Otherwise the order is not answered."""
+        if self.slot(shard).at_work != order.number or not self.is_ready(shard, order):
+            return False
         copy = self.copy_for(shard, order)
         with self.db:
-            after = agent.commit(self.base(), self.slot(shard), order, self.applied(shard))
-            if after is None:
+            before = self.slot(shard)
+            after = agent.commit(self.base(), before, order, self.applied(shard))
+            if after is None or (copy is None and before.cell == Cell.ABSENT and after.cell in (Cell.PREPARED, Cell.SECONDARY)):
                 return False
             if copy is not None:
                 self.store_copy(shard, copy)
+            if after.cell == Cell.ABSENT:
+                self.delete_copy(shard)
+            elif after.cell == Cell.PRIMARY and before.cell == Cell.PREPARED:
+                self.put_old_owner(shard, before.party)
+            elif after.cell == Cell.PRIMARY:
+                self.begin_view(shard, order.number)
             self.store_slot(shard, after)
+            self.questions.pop(shard, None)
+            self.named.pop(shard, None)
         if order.call == Call.PREPARE_DROP:
-            self.peers[order.party].seal(shard, order.handover, after.cut)
+            self.ask(order.party, "seal", shard, order.handover, after.cut)
         return True
 
+    def is_ready(self, shard, order):
+        """Whether all is done before the commit that asks others: leave to drop, and who becomes primary has the greatest copy, or nobody has one."""
+        if order.call == Call.DROP:
+            return self.has_leave(shard)
+        if order.call == Call.CHANGE:
+            return self.has_greatest(shard) if order.new_role == Role.PRIMARY else self.replicate(shard)
+        begins = order.call == Call.ADD and order.role == Role.PRIMARY and self.slot(shard).cell == Cell.ABSENT
+        return not begins or not self.replicas(shard)[1]
+
+    def has_greatest(self, shard):
+        """Whether each other replica has answered, and none has more. First it follows those that have."""
+        marks = {it: self.ask(it, "mark", shard) for it in self.replicas(shard)[1]}
+        for it, mark in marks.items() if self.mark(shard) else ():
+            if mark not in (None, LOST) and mark > self.mark(shard):
+                self.pull(shard, it)
+        return self.mark(shard) is not None and all(it is None or (it != LOST and it <= self.mark(shard)) for it in marks.values())
+
     def copy_for(self, shard, order):
-        """What a server that has nothing of the shard copies: from the owner of the handover, or from the primary."""
-        if self.slot(shard).cell != Cell.ABSENT or order.call == Call.DROP:
+        """What a server copies that is to have the shard: all that the owner of the handover has, or the primary."""
+        if self.slot(shard).cell != Cell.ABSENT or order.call == Call.DROP or order.role == Role.PRIMARY:
             return None
-        owners = [it for it in self.peers.values() if it.slot(shard).cell == Cell.PRIMARY]
-        return (self.peers[order.party] if order.call == Call.PREPARE_ADD else owners[0]).copy_of(shard) if owners else None
+        source = order.party or self.replicas(shard)[0]
+        offer = self.peers[source].offer(shard, self.number, None) if source else None
+        return offer[0] if offer else None
 
     def seal(self, shard, handover, cut):
         """The old owner has ended its stream of writes at its cut."""
@@ -116,54 +155,49 @@ class Server:
             if self.base().known:
                 self.store_slot(shard, agent.seal(self.slot(shard), handover, cut))
 
+    # -- leave to drop a replica
+
+    def has_leave(self, shard):
+        """Whether it may drop its copy: nobody else is named as a replica, or enough have given leave for the question that is open."""
+        primary, others = self.replicas(shard)
+        if not others:
+            return True
+        number, mark, given = self.questions.setdefault(shard, (secrets.randbits(63), self.mark(shard), set()))
+        for it in [primary] if primary in others else others:
+            self.ask(it, "give_leave", shard, self.number, number, mark)
+        return len(given) >= (1 if primary in others else self.copies) and shard in self.questions
+
+    def give_leave(self, shard, number, question, mark):
+        """Gives a peer leave if enough others have all that is here, or, where it does not serve, if it has all that the peer has."""
+        if shard in self.questions and self.number < number:
+            return
+        self.questions.pop(shard, None)  # (of two that ask each other the one with the higher number answers, and asks anew)
+        mine = self.mark(shard)
+        if self.replicate(shard, but=number) if self.serves(shard) else None not in (mine, mark) and mine >= mark:
+            with self.db:
+                if self.old_owner(shard) == number:
+                    self.put_old_owner(shard, 0)
+            self.ask(number, "take_leave", shard, question, self.number)
+
+    def take_leave(self, shard, question, number):
+        if question == self.questions.get(shard, (None,))[0]:
+            self.questions[shard][2].add(number)
+
     # -- requests
 
     def request(self, shard, request, command, how=Request()):
-        """Answers a client's request, or one that is passed on: its reply, or NOT_HERE or NOT_YET."""
+        """Answers a request, or one that is passed on: its reply, or NOT_HERE or NOT_YET. A reply, a read's too, waits for all that it saw."""
         with self.db:
-            before = self.applied(shard)
-            answer, onward = agent.route(self.base(), self.slot(shard), before, how)
+            answer, onward = agent.route(self.base(), self.slot(shard), self.applied(shard), how)
             if answer == Answer.EXECUTE:
                 if how.is_passed:  # (a passed request may tell the cut before the old owner does)
                     self.store_slot(shard, agent.seal(self.slot(shard), how.handover, how.cut))
                 reply = self.execute(shard, request, command)
         if answer == Answer.PASS_ON:
             return self.peers[onward.party].request(shard, request, command, replace(onward, party=self.number))
-        if answer == Answer.EXECUTE and self.applied(shard) > before:
-            self.replicate(shard, request, command)
-        return reply if answer == Answer.EXECUTE else answer
-
-    def execute(self, shard, request, command):
-        """Executes a request once: a write, as ("append", key, text), or a read, as ("get", key)."""
-        done = self.db.execute("SELECT reply FROM writes WHERE shard = ? AND request = ?", (shard, request)).fetchone()
-        if done:
-            return done[0]
-        if command[0] == "get":
-            return self.value(shard, command[1])
-        self.write(shard, request, command)
-        return self.value(shard, command[1])
-
-    def replicate(self, shard, request, command):
-        """Sends a write that is durable here to each live secondary, and to the other server of a handover, before it is acknowledged."""
-        for peer in self.peers.values():
-            if peer is not self:
-                peer.follow(shard, self.applied(shard), request, command)
-
-    def value(self, shard, key):
-        row = self.db.execute("SELECT value FROM pairs WHERE shard = ? AND key = ?", (shard, key)).fetchone()
-        return row[0] if row else ""
-
-    def write(self, shard, request, command):
-        _, key, text = command
-        value = self.value(shard, key) + text
-        self.db.execute("REPLACE INTO pairs VALUES (?, ?, ?)", (shard, key, value))
-        self.db.execute("INSERT INTO writes VALUES (?, ?, ?, ?)", (shard, self.applied(shard) + 1, request, value))
-
-    def follow(self, shard, place, request, command):
-        """Takes the next write of the shard's stream from the server that has executed it."""
-        with self.db:
-            if self.slot(shard).cell in (Cell.PREPARED, Cell.SECONDARY, Cell.FORWARDING) and place == self.applied(shard) + 1:
-                self.write(shard, request, command)
+        if answer == Answer.EXECUTE:
+            return reply if self.replicate(shard) else Answer.NOT_YET
+        return answer
 
     # -- the server as a whole
 
@@ -194,15 +228,27 @@ class Server:
         return self.take(Settlement(journal, number, nonce), slots) in (Answer.TAKEN, Answer.AGAIN)
 
     def restore(self, journal, fence, number, nonce, slots):
-        """Takes the slots that it asked for under a nonce."""
+        """Takes the slots that it asked for under a nonce; not as the primary of a shard whose data it has lost: an operator reopens."""
+        if not self.is_new and any(slot.cell == Cell.PRIMARY and self.mark(it) is None for it, slot in slots.items()):
+            return False
         return self.take(Restoration(journal, fence, number, nonce), slots) == Answer.TAKEN
 
     def take(self, told, brought):
-        """Takes a settle or a restore as a whole: each slot that it does not bring is absent afterwards, and has no data."""
+        """Takes a settle or a restore as a whole: each slot that it does not bring is absent afterwards, and what is there of it is set aside."""
         with self.db:
-            answer, base, slots = agent.take(self.base(), told, {it: self.slot(it) for it in self.shards()}, brought)
-            if answer == Answer.TAKEN:
-                self.store_base(base)
-                for shard, slot in slots.items():
-                    self.store_slot(shard, slot)
+            before = {it: self.slot(it) for it in self.shards()}
+            answer, base, slots = agent.take(self.base(), told, before, brought)
+            if answer != Answer.TAKEN:
+                return answer
+            self.store_base(base)
+            self.db.execute("REPLACE INTO reopened VALUES (1, ?)", (told.number if isinstance(told, Settlement) else told.fence,))
+            self.questions, self.named = {}, {}
+            for shard, slot in slots.items():
+                self.store_slot(shard, slot)
+                self.put_old_owner(shard, 0)
+                if slot.cell == Cell.ABSENT:
+                    self.store_copy(shard, ([], []))
+                is_chosen = isinstance(told, Settlement) and before.get(shard, Slot()).cell != Cell.PRIMARY
+                if slot.cell == Cell.PRIMARY and (is_chosen or self.mark(shard) is None):
+                    self.begin_view(shard, told.number if is_chosen else 0)
         return answer

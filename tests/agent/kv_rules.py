@@ -1,7 +1,9 @@
-"""The eight rules of docs/YOUR-SERVERS.md, by the server of examples/kv_server.py: each rule's schedule does no harm there, and does harm at a server
+"""The eight rules of docs/YOUR-SERVERS.md, by the server of examples/kv_server.py: each rule's schedules do no harm there, and do harm at a server
 that breaks the rule."""
 import os
 import sys
+from contextlib import contextmanager
+from dataclasses import replace
 
 sys.path.insert(0, os.path.join(os.path.dirname(os.path.abspath(__file__)), "../../examples"))
 from kv_server import Server, agent  # noqa: E402  (the path comes first)
@@ -14,19 +16,38 @@ def order(number, call, party=0, role=0, new_role=0, fence=0, handover=1):
     return Order(JOURNAL, fence, number, 1, 9, handover, call, role, new_role, party)
 
 
+def restore(server, cell, base=0):
+    server.restore(JOURNAL, base, base, server.base().nonce, {SHARD: Slot(cell=cell, load=1)})
+
+
 def pair(kind, second=Cell.ABSENT):
     """Two servers of a kind: the first one is the shard's primary."""
     peers = {}
     a, b = kind(1, peers), kind(2, peers)
     for server, cell in ((a, Cell.PRIMARY), (b, second)):
-        server.restore(JOURNAL, 0, 0, server.base().nonce, {SHARD: Slot(cell=cell, load=1)})
+        restore(server, cell)
     return a, b
+
+
+def three(kind, second=Cell.SECONDARY, copies=1):
+    """Three servers: a primary, a second one, and a secondary."""
+    peers = {}
+    servers = [kind(it, peers, copies=copies) for it in (1, 2, 3)]
+    for server, cell in zip(servers, (Cell.PRIMARY, second, Cell.SECONDARY)):
+        restore(server, cell)
+    return servers
 
 
 def answered(server, it):
     """Sends an order once, and does its work if it is begun. Whether it is answered."""
     verdict = server.order(SHARD, it)
     return verdict in (Answer.AGAIN, Answer.DONE) or (verdict == Answer.BEGIN and server.work(SHARD, it))
+
+
+def is_dropped(server, *replicas):
+    """Sends an order to drop a replica of these, whose first one is the primary, and does its work. Whether it is done."""
+    server.order(SHARD, DROP, replicas[0], replicas)
+    return server.work(SHARD, DROP)
 
 
 def push(server, request, text, how=Request()):
@@ -37,7 +58,34 @@ def read(server):
     return server.request(SHARD, "read", ("get", "k"))
 
 
+@contextmanager
+def lost(server, message):
+    """A message to a server is lost, as often as it is sent."""
+    def nobody(*words):
+        raise OSError("nobody answers")
+    setattr(server, message, nobody)
+    yield
+    delattr(server, message)
+
+
+def choose(server, number=100):
+    """A reopening makes the server the shard's primary; all others are lost."""
+    server.peers.clear()
+    server.peers[server.number] = server
+    server.fence(JOURNAL, number)
+    want(server.settle(JOURNAL, number, None, {SHARD: Slot(cell=Cell.PRIMARY, load=1)}), True)
+
+
+def want_kept(answer, *servers):
+    """What a client was answered is at one of these servers, if it was acknowledged."""
+    if not isinstance(answer, Answer) and answer not in [it.value(SHARD, "k") for it in servers]:
+        raise AssertionError(f"{answer!r} was acknowledged, and is at none of {[it.number for it in servers]}")
+
+
 HANDOVER = (order(1, Call.PREPARE_ADD, 1), order(2, Call.PREPARE_DROP, 2), order(3, Call.ADD, role=Role.PRIMARY), order(4, Call.DROP))
+
+
+DROP = order(9, Call.DROP)
 
 
 def hand_over(a, b, orders=HANDOVER):
@@ -70,7 +118,7 @@ def crash_amid_copy(kind):
     b.order(SHARD, HANDOVER[0])
     b.start()
     want(answered(b, HANDOVER[0]), True)
-    want((len(b.copy_of(SHARD)[0]), b.applied(SHARD)), (1, 1))
+    want((b.value(SHARD, "k"), b.applied(SHARD)), ("x", 1))
 
 
 # -- 1: a settle is taken as a whole
@@ -110,9 +158,9 @@ def late_after_settle(kind):
 
 class ForgetsRequests(Server):
     """Copies the pairs alone, and not which requests have been executed."""
-    def copy_of(self, shard):
-        pairs, writes = super().copy_of(shard)
-        return pairs, [(place, None, reply) for place, _, reply in writes]
+    def copy_of(self, shard, after=0):
+        views, writes = super().copy_of(shard, after)
+        return views, [(place, None, *rest) for place, _, *rest in writes]
 
 
 def repeat_after_handover(kind):
@@ -155,14 +203,225 @@ def write_under_way(kind):
     a, b = pair(kind)
     push(a, "r1", "x")
     want(answered(b, HANDOVER[0]), True)
-    late, b.follow = b.follow, lambda *write: None
-    push(a, "r2", "y")
-    b.follow = late
-    want(answered(a, HANDOVER[1]), True)
+    with lost(b, "pull"):
+        push(a, "r2", "y")
+        want(answered(a, HANDOVER[1]), True)
     if not answered(b, HANDOVER[2]):
-        late(SHARD, 2, "r2", ("append", "k", "y"))
+        b.pull(SHARD, 1)
         want(b.work(SHARD, HANDOVER[2]), True)
     want(read(b), "xy")
+
+
+# -- 4: a new owner that has reached its cut takes nothing more from the old one, and below it gives nothing
+
+class ForgetsTheCut(Server):
+    """Does not know its cut after a crash."""
+    def start(self):
+        super().start()
+        for shard in self.shards():
+            self.store_slot(shard, replace(self.slot(shard), has_cut=0) if self.slot(shard).cell == Cell.PREPARED else self.slot(shard))
+
+
+def crash_behind_the_cut(kind):
+    a, b, c = three(kind, Cell.ABSENT)
+    push(a, "r1", "x")
+    want((answered(b, HANDOVER[0]), answered(a, HANDOVER[1])), (True, True))
+    with lost(a, "pull"):
+        want(push(a, "r2", "y"), Answer.NOT_YET)
+    b.start()
+    b.pull(SHARD, 1)
+    want_kept(push(a, "r3", "z"), c)
+
+
+class GivesBelowItsCut(Server):
+    """Gives others what it has before it has reached its cut."""
+    def serves(self, shard):
+        return super().serves(shard) or self.slot(shard).cell == Cell.PREPARED
+
+
+def new_disk_below_the_cut(kind):
+    a, b, c = three(kind, Cell.ABSENT)
+    push(a, "r1", "x")
+    want(answered(b, HANDOVER[0]), True)
+    with lost(b, "pull"):
+        want((push(a, "r2", "y"), answered(a, HANDOVER[1])), ("xy", True))
+    c = kind(3, a.peers)
+    restore(c, Cell.SECONDARY)
+    c.pull(SHARD, 2)
+    want(c.mark(SHARD), None)
+
+
+# -- 4: a drop has leave
+
+class DropsAtOnce(Server):
+    """Drops its copy without leave."""
+    def has_leave(self, shard):
+        return True
+
+
+def drop_without_its_primary(kind):
+    a, b = pair(kind, Cell.SECONDARY)
+    push(a, "r1", "x")
+    del a.peers[1]
+    want(is_dropped(b, 1, 2), False)
+    choose(b)
+    want(read(b), "x")
+
+
+class TakesAnyLeave(Server):
+    """Takes the answer to an earlier question."""
+    def take_leave(self, shard, question, number):
+        super().take_leave(shard, self.questions.get(shard, (None,))[0], number)
+
+
+def asked(kind):
+    """Two copies are asked for, and a secondary asks for leave. What it is answered is on its way."""
+    a, b, c = three(kind, copies=2)
+    push(a, "r1", "x")
+    late = []
+    b.take_leave = lambda *words: late.append(words)
+    want(is_dropped(b, 1, 2, 3), False)
+    del b.take_leave
+    return a, b, c, late[0]
+
+
+def leave_comes_late(kind):
+    a, b, c, late = asked(kind)
+    b.start()
+    with lost(c, "pull"):
+        answer = push(a, "r2", "y")
+        want(is_dropped(b, 1, 2, 3), False)
+        b.take_leave(*late)
+        is_dropped(b, 1, 2, 3)
+    want_kept(answer, b, c)
+
+
+class TellsWhileItAsks(Server):
+    """Goes on to tell what it has while it asks for leave."""
+    def pull(self, shard, *words):
+        kept, self.questions = self.questions, {}
+        told = super().pull(shard, *words)
+        self.questions = kept
+        return told
+
+
+def written_while_it_asks(kind):
+    a, b, c, late = asked(kind)
+    with lost(c, "pull"):
+        answer = push(a, "r2", "y")
+        b.take_leave(*late)
+        is_dropped(b, 1, 2, 3)
+    want_kept(answer, b, c)
+
+
+class WaitsForever(Server):
+    """Answers nobody while it asks for leave."""
+    def give_leave(self, shard, *words):
+        if shard not in self.questions:
+            super().give_leave(shard, *words)
+
+
+def both_are_dropped(kind):
+    a, b = pair(kind, Cell.SECONDARY)
+    push(a, "r1", "x")
+    with lost(b, "take_leave"), lost(a, "take_leave"):
+        want((is_dropped(b, 1, 2), is_dropped(a, 1, 2)), (False, False))
+    want(any([is_dropped(a, 1, 2), is_dropped(b, 1, 2)]), True)
+
+
+# -- 4: what is left of a dropped replica is a cache
+
+class GoesOnFromItsCache(Server):
+    """Keeps the data of a shard that it drops, and takes them for a copy when it is to have the shard again."""
+    def delete_copy(self, shard):
+        pass
+
+    def copy_for(self, shard, it):
+        return self.copy_of(shard) if self.mark(shard) else super().copy_for(shard, it)
+
+
+def dropped_and_added(kind):
+    a, b = pair(kind, Cell.SECONDARY)
+    push(a, "r1", "x")
+    want(answered(b, DROP), True)
+    answer = push(a, "r2", "y")
+    want(answered(b, order(10, Call.ADD, role=Role.SECONDARY)), True)
+    choose(b)
+    want_kept(answer, b)
+
+
+# -- 4: who becomes primary has the greatest copy, by view and position
+
+def returned(kind):
+    """The first server executes y alone, and is lost. The second one goes on with z in its place; then the first one is back as a secondary."""
+    a, b, c = three(kind)
+    push(a, "r1", "x")
+    with lost(b, "pull"), lost(c, "pull"):
+        push(a, "r2", "y")
+    for server, cell in ((b, Cell.PRIMARY), (c, Cell.SECONDARY)):
+        server.fence(JOURNAL, 100)
+        want(server.settle(JOURNAL, 100, None, {SHARD: Slot(cell=cell, load=1)}), True)
+    with lost(a, "pull"):
+        b.request(SHARD, "r3", ("append", "j", "z"))
+    with a.db:
+        a.heed(JOURNAL, 100)
+    restore(a, Cell.SECONDARY, 100)
+    return a, b, c
+
+
+class ComparesPositions(Server):
+    """Compares copies by their positions, and not by their views."""
+    def mark(self, shard):
+        mark = super().mark(shard)
+        return mark and (0, mark[1])
+
+
+def change_of_a_returned_one(kind):
+    a, b, c = returned(kind)
+    with lost(a, "pull"):
+        want(answered(b, order(101, Call.CHANGE, role=Role.PRIMARY, new_role=Role.SECONDARY, fence=100)), True)
+    answered(a, order(102, Call.CHANGE, role=Role.SECONDARY, new_role=Role.PRIMARY, fence=100))
+    want(a.value(SHARD, "j"), "z")
+
+
+class GoesOnAnywhere(Server):
+    """Goes on from its position, whatever its list."""
+    def begins_with(self, shard, view, position):
+        return position <= self.applied(shard)
+
+
+def follower_of_another_list(kind):
+    a, b, c = returned(kind)
+    push(b, "r4", "w")
+    choose(a, 200)
+    want((a.value(SHARD, "j"), read(a)), ("z", "xw"))
+
+
+class DeletesWhatItBringsBack(Server):
+    """Deletes a copy that another one replaces."""
+    def store_copy(self, shard, copy, after=0):
+        if self.applied(shard) > after:
+            self.db.execute("DELETE FROM writes WHERE shard = ?", (shard,))
+        super().store_copy(shard, copy, after)
+
+
+def only_copy_comes_back(kind):
+    a, b, c = returned(kind)
+    push(b, "r4", "w")
+    want(a.db.execute("SELECT COUNT(*) FROM writes WHERE text = 'y'").fetchone(), (1,))
+
+
+class BeginsBeside(Server):
+    """Begins as the first primary though another server has a copy."""
+    def is_ready(self, shard, it):
+        return it.call == Call.ADD or super().is_ready(shard, it)
+
+
+def first_primary_beside_a_secondary(kind):
+    a, b = pair(kind)
+    push(a, "r1", "x")
+    want(answered(a, order(1, Call.CHANGE, role=Role.PRIMARY, new_role=Role.SECONDARY)), True)
+    want(answered(b, order(2, Call.ADD, role=Role.PRIMARY)), False)
 
 
 # -- 5: work is abandoned at each start
@@ -211,13 +470,12 @@ class ComesBackEmpty(Server):
 
 def lost_state(kind):
     a, b = pair(kind)
-    hand_over(a, b)
-    hand_over(b, a, (order(5, Call.PREPARE_ADD, 2, handover=2), order(6, Call.PREPARE_DROP, 1, handover=2),
-                     order(7, Call.ADD, role=Role.PRIMARY), order(8, Call.DROP)))
+    add = order(1, Call.ADD, role=Role.SECONDARY)
+    want((answered(b, add), answered(b, order(2, Call.DROP))), (True, True))
     with b.db:
         b.forget()
-    answered(b, HANDOVER[2])
-    want([it.request(SHARD, "read", ("get", "k")) for it in (a, b)], ["", Answer.NOT_HERE])
+    answered(b, add)
+    want(b.slot(SHARD).cell, Cell.UNKNOWN)
 
 
 class KeepsItsNonce(Server):
@@ -243,12 +501,27 @@ def given_up(kind):
     want([push(it, "r1", "x") for it in (a, b)], [Answer.NOT_HERE, "x"])
 
 
+class TakesWhatItLost(Server):
+    """Is restored as the primary of a shard whose data it has lost."""
+    def restore(self, *words):
+        self.is_new = True
+        return super().restore(*words)
+
+
+def lost_disk(kind):
+    a, b = pair(kind, Cell.SECONDARY)
+    push(a, "r1", "x")
+    a = kind(1, a.peers, is_new=False)
+    restore(a, Cell.PRIMARY)
+    want((read(a), b.value(SHARD, "k")), (Answer.NOT_HERE, "x"))
+
+
 # -- 8: a write is acknowledged when each live secondary has it
 
 class AcknowledgesAlone(Server):
     """Acknowledges a write as soon as it is executed."""
-    def follow(self, *write):
-        pass
+    def replicate(self, shard, but=0):
+        return True
 
 
 def lost_for_good(kind):
@@ -261,9 +534,110 @@ def lost_for_good(kind):
     want(read(b), "x")
 
 
+class AsksForOne(Server):
+    """Acknowledges a write that nobody else has, though more copies are asked for."""
+    def replicate(self, shard, but=0):
+        wanted, self.copies = self.copies, 1
+        has_all = super().replicate(shard, but)
+        self.copies = wanted
+        return has_all
+
+
+def acknowledged_at_one(kind):
+    a, b, c = three(kind, copies=2)
+    with lost(b, "pull"), lost(c, "pull"):
+        answer = push(a, "r1", "x")
+    want_kept(answer, b, c)
+
+
+class CountsTheGivenUp(Server):
+    """Counts a server that was given up, and goes on to follow."""
+    def reopened(self):
+        return 0
+
+
+def given_up_and_counted(kind):
+    a, b, c = three(kind, copies=2)
+    push(a, "r1", "x")
+    for server, cell in ((a, Cell.PRIMARY), (c, Cell.SECONDARY)):
+        server.fence(JOURNAL, 100)
+        want(server.settle(JOURNAL, 100, None, {SHARD: Slot(cell=cell, load=1)}), True)
+    with lost(c, "pull"):
+        answer = push(a, "r2", "y")
+    want_kept(answer, c)
+
+
+class SendsFirst(Server):
+    """Sends a write to others before it is durable here."""
+    def write(self, shard, request, command):
+        super().write(shard, request, command)
+        self.replicate(shard)
+
+
+class Crash(Exception):
+    """The server that has sent a message crashes."""
+
+
+def crash_with_a_write_sent(kind):
+    a, b = pair(kind, Cell.SECONDARY)
+    push(a, "r1", "x")
+    pull = b.pull
+
+    def pull_and_crash(*words):
+        pull(*words)
+        raise Crash
+    b.pull = pull_and_crash
+    try:
+        push(a, "r2", "y")
+    except Crash:
+        a.start()
+    b.pull = pull
+    answer = push(a, "r3", "z")
+    choose(b)
+    want_kept(answer, b)
+
+
+class ShowsAtOnce(Server):
+    """Answers reads at once, whoever has what they saw."""
+    def request(self, shard, request, command, *how):
+        told = super().request(shard, request, command, *how)
+        return self.value(shard, command[1]) if command[0] == "get" and told == Answer.NOT_YET else told
+
+
+def read_of_what_is_lost(kind):
+    a, b, c = three(kind, copies=2)
+    push(a, "r1", "x")
+    with lost(b, "pull"), lost(c, "pull"):
+        want(push(a, "r2", "y"), Answer.NOT_YET)
+        answer = read(a)
+    want_kept(answer, b, c)
+
+
+class ForgetsTheOldOwner(Server):
+    """Acknowledges without the old owner once it is the primary."""
+    def old_owner(self, shard):
+        return 0
+
+
+def old_owner_is_down(kind):
+    a, b = pair(kind)
+    push(a, "r1", "x")
+    hand_over(a, b, HANDOVER[:3])
+    with lost(a, "pull"):
+        answer = push(b, "r2", "y")
+    choose(a)
+    want_kept(answer, a)
+
+
 RULES = ((CommitsFirst, crash_amid_copy), (KeepsTheRest, late_after_settle), (ForgetsRequests, repeat_after_handover), (AnswersAtOnce, crash_at_work),
-         (IgnoresTheCut, write_under_way), (KeepsWork, crash_and_repeat), (DeletesAtDrop, late_order), (ComesBackEmpty, lost_state),
-         (KeepsItsNonce, given_up), (AcknowledgesAlone, lost_for_good))
+         (IgnoresTheCut, write_under_way), (ForgetsTheCut, crash_behind_the_cut), (GivesBelowItsCut, new_disk_below_the_cut),
+         (DropsAtOnce, drop_without_its_primary), (TakesAnyLeave, leave_comes_late), (TellsWhileItAsks, written_while_it_asks),
+         (WaitsForever, both_are_dropped), (GoesOnFromItsCache, dropped_and_added), (ComparesPositions, change_of_a_returned_one),
+         (GoesOnAnywhere, follower_of_another_list), (DeletesWhatItBringsBack, only_copy_comes_back),
+         (BeginsBeside, first_primary_beside_a_secondary), (KeepsWork, crash_and_repeat), (DeletesAtDrop, late_order), (ComesBackEmpty, lost_state),
+         (KeepsItsNonce, given_up), (TakesWhatItLost, lost_disk), (AcknowledgesAlone, lost_for_good), (AsksForOne, acknowledged_at_one),
+         (CountsTheGivenUp, given_up_and_counted), (SendsFirst, crash_with_a_write_sent), (ShowsAtOnce, read_of_what_is_lost),
+         (ForgetsTheOldOwner, old_owner_is_down))
 
 
 def whole_handover(kind):

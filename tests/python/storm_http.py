@@ -92,6 +92,10 @@ class HttpServer(Server):
         self.db, self.others = Shared(path), {number: it for number, it in self.peers.items() if number != self.number}
         self.sources = {}
 
+    def is_ready(self, shard, order):
+        """Asks nobody for leave: no server is lost for good in a storm."""
+        return True
+
     # -- requests: a write is replicated behind its transaction, so that two servers do not wait for each other
 
     def request(self, shard, request, command, how=Request()):
@@ -133,18 +137,20 @@ class HttpServer(Server):
 
     def follow_from(self, shard, place, source, write):
         """Takes a write, or all that it lacks, from the server that executes. Its position then; none if it does not follow."""
-        if write is not None:
-            self.follow(shard, place, *write)
+        with self.db:
+            if write is not None and self.slot(shard).cell in FOLLOWING and place == self.applied(shard) + 1:
+                self.write(shard, *write)
         if self.slot(shard).cell in FOLLOWING and self.applied(shard) < place:
             self.catch_up(shard, source)
         return self.applied(shard) if self.slot(shard).cell in FOLLOWING else None
 
     def catch_up(self, shard, source):
-        """Copies the shard anew, if the source has more of it."""
-        copy = self.peers[source].copy_of(shard)
+        """Copies what it lacks of the shard, if the source has more of it."""
+        views, writes = self.peers[source].copy_of(shard)
         with self.db:
-            if self.slot(shard).cell in FOLLOWING and len(copy[1]) > self.applied(shard):
-                self.store_copy(shard, copy)
+            has = self.applied(shard)
+            if self.slot(shard).cell in FOLLOWING and len(writes) > has:
+                self.store_copy(shard, (views, writes[has:]), has)
 
     # -- orders
 
