@@ -43,11 +43,11 @@ class Server(Store):
         slot = self.slot(shard)
         return slot.cell == Cell.PRIMARY or (slot.cell == Cell.PREPARED and agent.has_reached_cut(slot, self.applied(shard)))
 
-    def offer(self, shard, number, mark):
-        """What a peer with this mark lacks, and behind which place, if this server serves, is its old owner, or a replica that has more."""
-        slot, mine = self.slot(shard), self.mark(shard)
-        has_more = slot.cell == Cell.SECONDARY and None not in (mark, mine) and mark < mine
-        if not (self.serves(shard) or has_more or (slot.cell == Cell.FORWARDING and slot.party == number)):
+    def offer(self, shard, mark):
+        """What a peer with this mark lacks, and behind which place. Who does not serve offers it only to one that has a copy, and less."""
+        mine = self.mark(shard)
+        has_more = self.slot(shard).cell in (Cell.SECONDARY, Cell.FORWARDING) and None not in (mark, mine) and mark < mine
+        if not self.serves(shard) and not has_more:
             return None
         after = mark[1] if mark and self.begins_with(shard, *mark) else 0
         return self.copy_of(shard, after), after
@@ -59,7 +59,7 @@ class Server(Store):
         if slot.cell not in FOLLOWING or self.reopened() < reopened or shard in self.questions:
             return None
         if slot.cell == Cell.SECONDARY or (slot.party == source and not self.serves(shard)):
-            offer = self.peers[source].offer(shard, self.number, mark)
+            offer = self.peers[source].offer(shard, mark)
             with self.db:
                 if offer and self.mark(shard) == mark:
                     self.store_copy(shard, *offer)
@@ -142,12 +142,16 @@ class Server(Store):
         return self.mark(shard) is not None and all(it is None or (it != LOST and it <= self.mark(shard)) for it in marks.values())
 
     def copy_for(self, shard, order):
-        """What a server copies that is to have the shard: all that the owner of the handover has, or the primary."""
+        """What a server copies that is to have the shard: all that the owner of the handover has, or the primary; if there is none, a replica."""
         if self.slot(shard).cell != Cell.ABSENT or order.call == Call.DROP or order.role == Role.PRIMARY:
             return None
-        source = order.party or self.replicas(shard)[0]
-        offer = self.peers[source].offer(shard, self.number, None) if source else None
-        return offer[0] if offer else None
+        primary, others = self.replicas(shard)
+        if order.party or primary:
+            offer = self.peers[order.party or primary].offer(shard, None)
+            return offer and offer[0]
+        marks = {it: self.ask(it, "mark", shard) for it in others}
+        best = max((it for it in marks if marks[it] not in (None, LOST)), key=marks.get, default=0)
+        return self.peers[best].copy_of(shard) if best else None if others else ([(order.number, 0)], [])
 
     def seal(self, shard, handover, cut):
         """The old owner has ended its stream of writes at its cut."""

@@ -214,12 +214,13 @@ def write_under_way(kind):
 
 # -- 4: a new owner that has reached its cut takes nothing more from the old one, and below it gives nothing
 
-class ForgetsTheCut(Server):
-    """Does not know its cut after a crash."""
-    def start(self):
-        super().start()
-        for shard in self.shards():
-            self.store_slot(shard, replace(self.slot(shard), has_cut=0) if self.slot(shard).cell == Cell.PREPARED else self.slot(shard))
+class TakesBehindTheCut(Server):
+    """Copies from the old owner, whatever it has, also when it has reached its cut."""
+    def pull(self, shard, source, *words):
+        if self.slot(shard).cell == Cell.PREPARED:
+            with self.db:
+                self.store_copy(shard, self.peers[source].copy_of(shard))
+        return super().pull(shard, source, *words)
 
 
 def crash_behind_the_cut(kind):
@@ -422,6 +423,8 @@ def first_primary_beside_a_secondary(kind):
     push(a, "r1", "x")
     want(answered(a, order(1, Call.CHANGE, role=Role.PRIMARY, new_role=Role.SECONDARY)), True)
     want(answered(b, order(2, Call.ADD, role=Role.PRIMARY)), False)
+    b.start()
+    want((answered(b, order(3, Call.ADD, role=Role.SECONDARY)), b.value(SHARD, "k")), (True, "x"))
 
 
 # -- 5: work is abandoned at each start
@@ -630,7 +633,7 @@ def old_owner_is_down(kind):
 
 
 RULES = ((CommitsFirst, crash_amid_copy), (KeepsTheRest, late_after_settle), (ForgetsRequests, repeat_after_handover), (AnswersAtOnce, crash_at_work),
-         (IgnoresTheCut, write_under_way), (ForgetsTheCut, crash_behind_the_cut), (GivesBelowItsCut, new_disk_below_the_cut),
+         (IgnoresTheCut, write_under_way), (TakesBehindTheCut, crash_behind_the_cut), (GivesBelowItsCut, new_disk_below_the_cut),
          (DropsAtOnce, drop_without_its_primary), (TakesAnyLeave, leave_comes_late), (TellsWhileItAsks, written_while_it_asks),
          (WaitsForever, both_are_dropped), (GoesOnFromItsCache, dropped_and_added), (ComparesPositions, change_of_a_returned_one),
          (GoesOnAnywhere, follower_of_another_list), (DeletesWhatItBringsBack, only_copy_comes_back),
