@@ -119,13 +119,17 @@ class Campaign:
         """Runs to the end: 0 if nothing is left, otherwise 1."""
         for number in range(ROUNDS + 1):
             self.choose(number == 0)
-            if not self.wishes or number == ROUNDS:
+            before = self.plans
+            if not self.wishes:
+                break
+            if number == ROUNDS:
+                self.left.append(f"{named(sorted(self.wishes))}: others move them again and again")
                 break
             if not self.fulfil():
                 self.tell(f"stopped after {counted(self.plans, 'plan')}")
                 return 1
-        if self.wishes:
-            self.left.append(f"{named(sorted(self.wishes))}: others move them again and again")
+            if self.wishes and self.plans == before:
+                break  # (nothing more can be done for what is left)
         for line in self.left:
             self.tell(f"left: {line}")
         self.tell(f"{self.name} has ended after {counted(self.plans, 'plan')}")

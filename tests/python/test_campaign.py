@@ -168,6 +168,16 @@ class Campaigns(unittest.TestCase):
         self.assertEqual(1, self.campaign(service, lambda fleet: scale(fleet, {fleet.shard_of["orders"]: 3})).run())
         self.assertEqual([], service.begun)
 
+    def test_what_cannot_be_reached_is_told_with_its_reason(self):
+        document, service = fleet_document(), self.service(fleet_document())
+        service.do({"do": "approve", "server": "v3", "by": "r7"})
+        document["shards"][1]["listed"] = "v2"
+        for cell, role in zip(document["shards"][1]["cells"], ("secondary", "primary", "secondary")):
+            cell["state"] = role
+        self.assertEqual(1, self.campaign(service, lambda fleet: wanted_as_in(fleet, Fleet(document_of(document)))).run())
+        self.assertEqual(["left: s1 stays as it is: its replica at v3 is down, and the primary changes only while all replicas are up"],
+                         [it for it in self.told if it.startswith("left")])
+
     def test_a_reopening_ends_it(self):
         document = fleet_document()
         service = self.service(document)
