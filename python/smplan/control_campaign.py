@@ -266,10 +266,10 @@ def in_words(leg: Leg) -> str:
 
 # ---- the commands
 
-def known_document(told: argparse.Namespace, controllers: Controllers) -> Optional[Line]:
+def known_document(controllers: Controllers, path: Optional[str]) -> Optional[Line]:
     """The document that says in how many regions shards are to lie: the one that is named, or what the controller knows, if it knows any."""
-    if told.document is not None:
-        return document_from(read_value(told.document), told.document).value
+    if path is not None:
+        return document_from(read_value(path), path).value
     try:
         found = controllers.post("/document")
     except Failure:  # (it has no such page)
@@ -289,7 +289,7 @@ def save(path: str, value: Json) -> None:
 def run_campaign(told: argparse.Namespace, name: str, choice: Callable[[Fleet], Wanted]) -> int:
     """Runs a campaign. The first interrupt ends it behind the present plan."""
     controllers = controllers_of(told)
-    known = known_document(told, controllers)
+    known = known_document(controllers, told.document)
     state = controllers.state()
     if state.get("is") == "open" and told.before:
         save(told.before, document_of_state(state, known))

@@ -10,13 +10,14 @@ from fixtures import ROOT, example, load
 from smplan.control_campaign import Campaign, document_of_state, fleet_of_state
 from smplan.control_http import Page, serve
 from smplan.control_leader import Refused
-from smplan.control_rolling import Rolling, in_turn, placement_before
+from smplan.control_restart import Restarts, led_as_before, placement_before, unserved
+from smplan.control_rolling import in_turn, roll
 from smplan.failure import Failure
 from smplan.fleet import Fleet
 from smplan.model import document_of
 from smplan.planning import servers_in, wanted_as_in
 from smplan.reach import Limits
-from smplan.targets import demote, drain, scale
+from smplan.targets import Wanted, demote, drain, scale
 
 MODEL = [sys.executable, str(ROOT / "tools" / "smpland_model.py"), "-"]
 
@@ -26,7 +27,7 @@ class Service:
 
     def __init__(self, document):
         self.process = subprocess.Popen(MODEL, stdin=subprocess.PIPE, stdout=subprocess.PIPE)
-        self.is_slow, self.rests, self.begun = False, [], []
+        self.is_slow, self.rests, self.begun, self.led = False, [], [], []
         self.do({"do": "open", "document": document, "journal": "9f2c", "epoch": 0})
 
     def ask(self, line):
@@ -39,6 +40,7 @@ class Service:
         if "refused" in reply or "bad" in reply:
             raise Refused(reply)
         self.begun += [line["name"]] if line["do"] == "begin" else []
+        self.led += [unserved(self.state(), line["server"])] if "approved" in reply else []
         return reply
 
     def state(self):
@@ -199,51 +201,94 @@ class Campaigns(unittest.TestCase):
         self.assertTrue(any("the plan takes longer than 0 s" in it for it in self.told), self.told)
 
 
-class Rollings(unittest.TestCase):
+def with_lone_shard(document):
+    """The document with a shard that v0 alone has, and may lose."""
+    lone = {"name": "lone", "load": 1, "want": 1, "cap": 1, "spread": 1, "listed": "v0", "cells": [{"server": "v0", "state": "primary"}]}
+    return {**document, "shards": [*document["shards"], lone]}
+
+
+class Restarting(unittest.TestCase):
+    """Servers are restarted by commands. A service notes what each led when it was approved (`led`)."""
+
     def service(self, document):
         service = Service(document)
         self.addCleanup(service.close)
+        self.before, self.fleet, self.told = cells_of(service.state()), fleet_of_state(service.state(), None), []
         return service
 
-    def rolling(self, service, command, **more):
-        found = Rolling(service, command, "r7", None, **more)
-        self.told = []
-        found.tell = self.told.append
-        return found
+    def restarts(self, service, **more):
+        return Restarts(service, tell=self.told.append, **more)
+
+    def roll(self, service, servers, *command, **more):
+        return roll(self.restarts(service, **more), "r7", command or ["true"], servers, self.fleet)
+
+    def meanwhile(self, service, *happenings):
+        """Has something happen whenever somebody waits a second, one after the other."""
+        rest, left = service.sleep, list(happenings)
+
+        def sleep(seconds):
+            if seconds == 1.0 and left:
+                left.pop(0)()
+            rest(seconds)
+        service.sleep = sleep
+
+    def up(self, service, server):
+        permit = next(it["permit"] for it in service.state()["servers"] if it["server"] == server)
+        return service.post("/restarted", {"permit": permit})
 
     def test_each_server_goes_down_once_it_leads_nothing(self):
-        service, led = self.service(fleet_document()), []
-        before = cells_of(service.state())
-        whole = service.do
-
-        def do(line):
-            if line["do"] == "approve":
-                led.append([name for name, cells in cells_of(service.state()).items() if (line["server"], "primary") in cells])
-            return whole(line)
-        service.do = do
-        fleet = fleet_of_state(service.state(), None)
-        servers = in_turn(fleet, set(range(6)))
+        service = self.service(fleet_document())
+        servers = in_turn(self.fleet, set(range(6)))
         self.assertEqual(["v0", "v3", "v1", "v4", "v2", "v5"], servers)
-        self.assertEqual(0, self.rolling(service, ["true", "{}"]).run(servers, fleet), self.told)
-        self.assertEqual([[]] * 6, led)
-        self.assertEqual(before, cells_of(service.state()))
+        self.assertEqual(0, self.roll(service, servers, "sh", "-c", "case {} in v[0-5]) ;; *) false ;; esac"), self.told)
+        self.assertEqual([[]] * 6, service.led)
+        self.assertEqual(self.before, cells_of(service.state()))
         self.assertIn("v5 is up: 6 of 6 servers", self.told)
 
     def test_it_goes_on_where_it_stopped(self):
         service = self.service(fleet_document())
-        fleet = fleet_of_state(service.state(), None)
-        before = cells_of(service.state())
         with self.assertRaisesRegex(Failure, "the command ended with 1; v0 keeps permit"):
-            self.rolling(service, ["false"]).run(["v0", "v1"], fleet)
-        self.assertEqual(0, self.rolling(service, ["true"]).run(["v0", "v1"], fleet))
-        self.assertEqual(before, cells_of(service.state()))
-        self.assertEqual(0, self.rolling(service, ["false"]).run(["v0", "v1"], fleet))  # (both have been restarted)
+            self.roll(service, ["v0", "v1"], "false")
+        self.assertEqual(0, self.roll(service, ["v0", "v1"]))
+        self.assertEqual(self.before, cells_of(service.state()))
+        self.assertEqual(0, self.roll(service, ["v0", "v1"], "false"))  # (both have been restarted)
 
-    def test_a_server_that_still_leads_is_let_alone(self):
-        service = self.service(load(example("placement")))
-        fleet = fleet_of_state(service.state(), None)
-        with self.assertRaisesRegex(Failure, "oslo-1 leads sessions: nobody would serve them; --go-on"):
-            self.rolling(service, ["true"]).run(["oslo-1"], fleet)
+    def test_a_server_whose_shards_others_cannot_lead_is_let_alone(self):
+        service = self.service(with_lone_shard(fleet_document()))
+        with self.assertRaisesRegex(Failure, "v0 is not restarted, since nobody would serve what it leads:\n  lone keeps its primary at v0: it has no other replica"):
+            self.roll(service, ["v0"])
+        self.assertEqual(([], []), (service.begun, service.led))
+        self.assertEqual(0, self.roll(service, ["v0"], goes_on=True), self.told)
+        self.assertEqual((self.before, [["lone"]]), (cells_of(service.state()), service.led))
+
+    def test_leaders_that_come_while_it_waits_leave_again(self):
+        service = self.service(fleet_document())
+        service.do({"do": "approve", "server": "v3", "by": "other"})
+
+        def lead_again():
+            self.assertEqual(0, Campaign(service, "other", lambda fleet: led_as_before(fleet, self.fleet, ["v0"]), Limits(), tell=self.told.append).run())
+        self.meanwhile(service, lead_again, lambda: self.up(service, "v3"))
+        self.restarts(service).restart("v0", "r7", ["true"])
+        self.assertIn("waits: denied 3 GlobalCap", self.told)
+        self.assertEqual((3, [["s3"], []]), (len(service.begun), service.led), self.told)
+
+    def test_it_waits_for_a_replica_that_is_down(self):
+        service = self.service(fleet_document())
+        service.do({"do": "approve", "server": "v1", "by": "other"})
+        self.meanwhile(service, lambda: None, lambda: self.up(service, "v1"))
+        self.assertEqual(0, self.roll(service, ["v0"]), self.told)
+        self.assertEqual(self.before, cells_of(service.state()))
+        self.assertEqual("waits: s0 keeps its primary at v0: its replica at v1 is down, and the primary changes only while all replicas are up", self.told[0])
+        service.do({"do": "approve", "server": "v1", "by": "again"})
+        with self.assertRaisesRegex(Failure, "s0 keeps its primary at v0: its replica at v1 is down"):
+            self.restarts(service, wait=2.0).restart("v0", "r8", ["true"])
+
+    def test_leaders_that_others_moved_stay_where_they_are(self):
+        service = self.service(fleet_document())
+        target = demote(self.fleet, {3}).target
+        self.assertEqual(0, Campaign(service, "other", lambda _: Wanted(target), Limits(), tell=self.told.append).run())
+        self.assertEqual(0, self.roll(service, ["v0"]), self.told)
+        self.assertEqual({"s3"}, {it for it, cells in cells_of(service.state()).items() if cells != self.before[it]})
 
     def test_the_placement_of_before_is_kept(self):
         service = self.service(fleet_document())
@@ -254,7 +299,7 @@ class Rollings(unittest.TestCase):
 
 
 class Failovers(unittest.TestCase):
-    """A campaign that begins while nobody leads. The second controller comes to lead when they have been asked four times."""
+    """Commands that begin while nobody leads. The second controller comes to lead when they have been asked four times."""
 
     def routes(self, service, leading, asked, name):
         """What a controller answers, which leads or follows."""
@@ -271,18 +316,21 @@ class Failovers(unittest.TestCase):
                 return Page.of({"fault": "this controller does not lead"}, 409)
             service.sleep(0)
             return Page.of(service.ask(json.loads(body)))
-        return {"GET /metrics": metrics, "GET /document": document, "POST /ask": line, "POST /do": line}
 
-    def demoted(self, *names):
-        """The status of a demotion, what it printed, and the leaders of all shards."""
+        async def restarted(body):
+            return Page.of(service.post("/restarted", json.loads(body))) if name in leading else await line(body)
+        return {"GET /metrics": metrics, "GET /document": document, "POST /ask": line, "POST /do": line, "POST /restarted": restarted}
+
+    def done(self, words, *names):
+        """The status of a command, what it printed, and the leaders of all shards."""
         service, leading, asked = Service(fleet_document()), set(), []
         self.addCleanup(service.close)
 
         async def play():
             servers = [await serve("127.0.0.1", 0, self.routes(service, leading, asked, it)) for it in names]
-            words = [word for it in servers for word in ("--controller", f"http://127.0.0.1:{it.port}")]
+            urls = [word for it in servers for word in ("--controller", f"http://127.0.0.1:{it.port}")]
             command = await asyncio.create_subprocess_exec(
-                sys.executable, "-m", "smplan.control", "demote", "v0", *words, stdout=subprocess.PIPE, stderr=subprocess.STDOUT, cwd=ROOT / "python")
+                sys.executable, "-m", "smplan.control", words[0], *urls, *words[1:], stdout=subprocess.PIPE, stderr=subprocess.STDOUT, cwd=ROOT / "python")
             text, _ = await command.communicate()
             for it in servers:
                 await asyncio.to_thread(it.close)
@@ -291,13 +339,19 @@ class Failovers(unittest.TestCase):
         status, text = asyncio.run(play())
         return status, text, {server for cells in cells_of(service.state()).values() for server, role in cells if role == "primary"}
 
-    def test_it_waits_for_the_next_leader(self):
-        status, text, leaders = self.demoted("k0", "k1")
+    def test_a_campaign_waits_for_the_next_leader(self):
+        status, text, leaders = self.done(("demote", "v0"), "k0", "k1")
         self.assertEqual((0, {"v1", "v2", "v3", "v4", "v5"}), (status, leaders), text)
         self.assertIn("this controller does not lead; waits for one that leads", text)
 
+    def test_a_restart_waits_for_the_next_leader(self):
+        status, text, leaders = self.done(("restart", "v0", "--by", "r7", "--no-primaries", "--yes", "--", "echo", "it is done"), "k0", "k1")
+        self.assertEqual((0, 6), (status, len(leaders)), text)
+        told = ["waits for one that leads", "nobody is the primary of s0", "v0 may go down", "it is done", "v0 is up", "nobody is the primary of s0", "give-back has ended after 1 plan"]
+        self.assertRegex(text.replace("\n", " "), ".*".join(told))
+
     def test_one_that_follows_is_told_at_once(self):
-        status, text, leaders = self.demoted("k0")
+        status, text, leaders = self.done(("demote", "v0"), "k0")
         self.assertEqual((3, 6), (status, len(leaders)), text)
 
 
