@@ -1,16 +1,16 @@
 """A key-value service over the frame for servers (python/smplan/server.py), driven by `smplan-control run` (docs/CONTROLLER.md).
 
-    python3 examples/kv_http.py NAME http://127.0.0.1:9200 /var/lib/kv/NAME.sqlite [--new]
+    python3 examples/kv_http.py NAME http://127.0.0.1:9200 /var/lib/kv/NAME.sqlite [--new] [--token FILE] [--tls CERT KEY]
 
-Of several controllers name all, with commas. --new: the service is new, and no shard has data yet. A client sends
-{"shard":"s","request":"c1-7","command":["append","k","x"]} to POST /request, or ["get","k"]. ports/go/examples/kv is the same service in Go.
+A client sends {"shard":"s","request":"c1-7","command":["append","k","x"]} to POST /request, or ["get","k"]. ports/go/examples/kv is the same
+service in Go.
 """
 import os
 import sys
 from urllib.parse import quote
 
 sys.path.insert(0, os.path.join(os.path.dirname(os.path.abspath(__file__)), "../python"))
-from smplan.server import Sqlite, run  # noqa: E402  (the path comes first)
+from smplan.server import main  # noqa: E402  (the path comes first)
 
 
 class Texts:
@@ -47,7 +47,4 @@ class Texts:
 
 
 if __name__ == "__main__":
-    words = [it for it in sys.argv[1:] if it != "--new"]
-    if len(words) != 3:
-        sys.exit(__doc__)
-    run(words[0], Texts(), Sqlite(words[2]), words[1].split(","), is_new="--new" in sys.argv)
+    main(Texts(), __doc__)

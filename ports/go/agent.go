@@ -44,7 +44,7 @@ const (
 	PrepareDrop
 )
 
-// Call is what a controller asks for: Add has a role, Change two, PrepareAdd and PrepareDrop another server and a handover's number.
+// Call is what a controller asks for: Add has a role, To; Change has two; PrepareAdd and PrepareDrop have another server and a handover's number.
 type Call struct {
 	Kind     CallKind
 	From, To Role

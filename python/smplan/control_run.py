@@ -3,7 +3,6 @@ from __future__ import annotations
 
 import argparse
 import asyncio
-import ipaddress
 import json
 import logging
 import secrets
@@ -17,6 +16,7 @@ from pathlib import Path
 from typing import TYPE_CHECKING, Any, Dict, List, Optional, Sequence, Set, Tuple
 from urllib.parse import urlsplit
 
+from .access import is_loopback, read_certificate, read_token
 from .control import Controller, Line, Pace, Session, SessionEnded, StoreLost
 from .control_document import Unknown, document_of_state
 from .control_drain import at_least
@@ -333,27 +333,6 @@ def address_of(text: str) -> Tuple[str, int]:
     return found.hostname, found.port
 
 
-def is_loopback(host: str) -> bool:
-    """Whether nobody else reaches this address."""
-    try:
-        return host == "localhost" or ipaddress.ip_address(host).is_loopback
-    except ValueError:
-        return False
-
-
-def read_token(path: Optional[str]) -> Optional[str]:
-    """Reads the token that whoever asks has to show, if a file is named."""
-    if path is None:
-        return None
-    try:
-        token = Path(path).read_text(encoding="utf-8").strip()
-    except (OSError, ValueError) as why:
-        raise Failure(f"{path}: {why}") from None
-    if not token.isascii() or not token.isprintable() or len(token) < 16:
-        raise Failure(f"{path}: a token has at least 16 characters of ASCII")
-    return token
-
-
 def read_document(path: Optional[str]) -> Optional[Line]:
     """Reads the document to open, if one is named. (The session says whether it is one.)"""
     if path is None:
@@ -372,14 +351,7 @@ def settings_of(told: argparse.Namespace) -> Settings:
     token = read_token(told.token)
     if token is None and not is_loopback(host):
         raise Failure(f"whoever reaches {host}:{port} can move everything: name a --token FILE, or a loopback address")
-    tls = None
-    if told.tls:
-        tls = ssl.SSLContext(ssl.PROTOCOL_TLS_SERVER)
-        try:
-            tls.load_cert_chain(*told.tls)
-        except OSError as why:
-            raise Failure(f"{' '.join(told.tls)}: {why}") from None
-    return Settings(told.fleet, tuple(shlex.split(told.session)), host, port, read_document(told.open), token, tls, Pace(timeout=told.timeout))
+    return Settings(told.fleet, tuple(shlex.split(told.session)), host, port, read_document(told.open), token, read_certificate(told.tls), Pace(timeout=told.timeout))
 
 
 def etcd_of(told: argparse.Namespace) -> "Optional[EtcdSettings]":

@@ -2,15 +2,14 @@
 from __future__ import annotations
 
 import argparse
-import ipaddress
 import signal
-import ssl
 import sys
 import threading
 from pathlib import Path
 from typing import Any, Optional, Tuple
 
 from . import program
+from .access import is_loopback, load_certificate, read_certificate
 from .failure import Failure
 from .gate import Gate, Sources, look, world_text
 from .gate_http import Server, handler_for
@@ -31,13 +30,6 @@ def address_of(text: str) -> Tuple[str, int]:
     return host.strip("[]") or "127.0.0.1", int(port)
 
 
-def is_loopback(host: str) -> bool:
-    try:
-        return ipaddress.ip_address(host).is_loopback
-    except ValueError:
-        return host == "localhost"
-
-
 def token_of(path: Optional[str]) -> Optional[str]:
     if path is None:
         return None
@@ -48,21 +40,6 @@ def token_of(path: Optional[str]) -> Optional[str]:
     if not token or "/" in token or " " in token:
         raise Failure(f"{path}: a token is one word without a slash")
     return token
-
-
-def context_of(files: Optional[Tuple[str, str]]) -> Optional[ssl.SSLContext]:
-    if files is None:
-        return None
-    context = ssl.SSLContext(ssl.PROTOCOL_TLS_SERVER)
-    load(context, files)
-    return context
-
-
-def load(context: ssl.SSLContext, files: Tuple[str, str]) -> None:
-    try:
-        context.load_cert_chain(*files)
-    except OSError as why:
-        raise Failure(f"{' and '.join(files)}: {why}") from None
 
 
 def sources_of(told: argparse.Namespace) -> Sources:
@@ -84,7 +61,7 @@ def serve(server: Server, files: Optional[Tuple[str, str]]) -> None:
     def reload(*_: object) -> None:
         if server.tls is not None and files is not None:
             try:
-                load(server.tls, files)
+                load_certificate(server.tls, files)
             except Failure as why:
                 tell(f"the certificate stays as it was: {why}")
 
@@ -102,7 +79,7 @@ def run(told: argparse.Namespace) -> int:
     token, files = token_of(told.token), tuple(told.tls) if told.tls else None
     if not is_loopback(host) and token is None and not told.no_token:
         raise Failure(f"whoever reaches {host} could take all leaves, or give them back: say --token FILE, or --no-token if all who reach it may")
-    context = context_of(files)
+    context = read_certificate(files)
     store = Store.open(told.state)
     gate = Gate(store, lambda: look(sources), program.required(told.program), sources.names, told.settle, told.no_primaries, tell)
     try:

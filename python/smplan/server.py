@@ -3,8 +3,10 @@
 """
 from __future__ import annotations
 
+import argparse
 import json
 import os
+import ssl
 import sys
 import threading
 import time
@@ -12,8 +14,10 @@ from concurrent.futures import ThreadPoolExecutor
 from dataclasses import dataclass
 from typing import Any, Callable, Dict, List, Optional, Sequence
 
+from .access import read_certificate, read_token
 from .failure import Failure
 from .server_http import Caller, listen
+from .server_leave import Leaves
 from .server_offers import Offers
 from .server_orders import Orders
 from .server_records import Records
@@ -23,7 +27,7 @@ from .server_storage import Sqlite, Storage
 from .server_streams import Streams
 from .server_whole import Whole
 
-__all__ = ["Limits", "Server", "Service", "Sqlite", "Storage", "run"]
+__all__ = ["Limits", "Server", "Service", "Sqlite", "Storage", "main", "run"]
 
 Line = Dict[str, Any]
 
@@ -46,12 +50,14 @@ class Server:
     """A server, which takes messages by `answer`, and sends them by `call`."""
 
     def __init__(self, name: str, service: Service, storage: Storage, controllers: Sequence[str], is_new: bool = False,
-                 token: Optional[str] = None, limits: Limits = Limits()) -> None:
-        self.name, self.service, self.storage, self.controllers, self.limits, self.token = name, service, storage, list(controllers), limits, token
+                 token: Optional[str] = None, limits: Limits = Limits(), tls: Optional[ssl.SSLContext] = None) -> None:
+        self.name, self.service, self.storage, self.controllers, self.limits = name, service, storage, list(controllers), limits
+        self.token, self.tls = token, tls
         self.changed, self.pool, self.beside = threading.Condition(), ThreadPoolExecutor(64), ThreadPoolExecutor(16)
         self.shards: Dict[str, Live] = {}
         self.call: Callable[[str, Optional[Line], float], Any] = Caller(token).call
-        self.offers, self.streams, self.orders, self.requests, self.whole = Offers(self), Streams(self), Orders(self), Requests(self), Whole(self)
+        self.offers, self.streams, self.leaves, self.orders = Offers(self), Streams(self), Leaves(self), Orders(self)
+        self.requests, self.whole = Requests(self), Whole(self)
         with storage.transaction() as tx:
             if is_new and tx.get("frame/base") is None:
                 tx.put("frame/new", "1")
@@ -59,7 +65,7 @@ class Server:
         self.routes = {
             "/order": self.orders.take, "/fence": self.whole.fence, "/settle": self.whole.settle, "/restore": self.whole.restore,
             "/notice": self.whole.notice, "/base": self.whole.tell_base, "/slots": self.whole.tell_slots,
-            "/peer/follow": self.offers.taken, "/peer/copy": self.offers.given,
+            "/peer/follow": self.offers.taken, "/peer/copy": self.offers.given, "/peer/leave": self.leaves.given,
             "/peer/pass": self.requests.passed, "/peer/life": self.whole.tell_life, "/request": self.requests.take}
         self.whole.start()
 
@@ -186,9 +192,26 @@ class Server:
         rest = self.limits.resting
         for work, seconds in ((self.streams.keep_up, rest), (self.ask_for_slots, rest), (self.look, 4 * rest)):
             threading.Thread(target=self.repeat, args=(work, seconds), daemon=True).start()
-        listen(self.fleet[self.name]["url"], self.routes, self.token)
+        listen(self.fleet[self.name]["url"], self.routes, self.token, self.tls)
 
 
 def run(name: str, service: Service, storage: Storage, controllers: Sequence[str], **rest: Any) -> None:
     """Runs a server of a service."""
     Server(name, service, storage, controllers, **rest).run()
+
+
+def main(service: Service, text: str) -> None:
+    """Runs a server of a service over a store in SQLite, as the command line says; `text` tells of the service."""
+    parser = argparse.ArgumentParser(description=text, formatter_class=argparse.RawDescriptionHelpFormatter)
+    parser.add_argument("name", metavar="NAME", help="the server's, as the fleet's file has it")
+    parser.add_argument("controllers", metavar="CONTROLLERS", help="their addresses, with commas: http://127.0.0.1:9200")
+    parser.add_argument("store", metavar="STORE", help="the file of its store: /var/lib/kv/NAME.sqlite")
+    parser.add_argument("--new", action="store_true", help="the service is new, and no shard has data yet")
+    parser.add_argument("--token", metavar="FILE", help="the controller's token: all but clients have to show it")
+    parser.add_argument("--tls", nargs=2, metavar=("CERT", "KEY"), help="serve by TLS, at an address with https")
+    told = parser.parse_args()
+    try:
+        token, tls = read_token(told.token), read_certificate(told.tls)
+        run(told.name, service, Sqlite(told.store), told.controllers.split(","), is_new=told.new, token=token, tls=tls)
+    except Failure as why:
+        sys.exit(f"{told.name}: {why}")

@@ -5,13 +5,21 @@ import hmac
 import http.client
 import json
 import sqlite3
+import ssl
 import sys
 import threading
 from http.server import BaseHTTPRequestHandler, ThreadingHTTPServer
 from typing import Any, Callable, Dict, List, Mapping, Optional, Tuple
-from urllib.parse import urlsplit
+from urllib.parse import SplitResult, urlsplit
+
+from .access import is_loopback
+from .failure import Failure
 
 Line = Dict[str, Any]
+Routes = Mapping[str, Callable[[Line], Line]]
+
+# How long a connection may say nothing, in seconds.
+PATIENCE = 120.0
 
 
 class Caller:
@@ -33,7 +41,7 @@ class Caller:
             if connection is not None:
                 try:
                     return self.exchange(connection, place, parts.path, line, seconds)
-                except (http.client.HTTPException, ConnectionError):
+                except (http.client.HTTPException, ConnectionError, ssl.SSLError):
                     connection.close()  # (it had ended meanwhile)
             kind = http.client.HTTPSConnection if parts.scheme == "https" else http.client.HTTPConnection
             return self.exchange(kind(parts.hostname or "", parts.port, timeout=seconds), place, parts.path, line, seconds)
@@ -61,9 +69,9 @@ class Caller:
 class Handler(BaseHTTPRequestHandler):
     """One connection. A kind of it has what a server answers, to which routes, and the token that all but clients tell."""
 
-    protocol_version, disable_nagle_algorithm, wbufsize = "HTTP/1.1", True, -1
+    protocol_version, disable_nagle_algorithm, wbufsize, timeout = "HTTP/1.1", True, -1, PATIENCE
     base, token = "", ""
-    routes: Mapping[str, Callable[[Line], Line]] = {}
+    routes: Routes = {}
 
     def do_POST(self) -> None:
         """Answers one message."""
@@ -98,10 +106,39 @@ class Handler(BaseHTTPRequestHandler):
         """Says nothing of each request."""
 
 
-def listen(url: str, routes: Mapping[str, Callable[[Line], Line]], token: Optional[str]) -> None:
+class Listener(ThreadingHTTPServer):
+    """A server of connections, which speak TLS if there is a certificate; a slow one holds up no other."""
+
+    request_queue_size = 128
+    tls: Optional[ssl.SSLContext] = None
+
+    def get_request(self) -> Any:
+        """Accepts a connection, whose handshake is its own thread's."""
+        connection, address = self.socket.accept()
+        if self.tls is not None:
+            connection = self.tls.wrap_socket(connection, server_side=True, do_handshake_on_connect=False)
+        return connection, address
+
+    def handle_error(self, request: Any, client_address: Any) -> None:
+        """Says nothing of connections that end."""
+        if not isinstance(sys.exc_info()[1], OSError):
+            super().handle_error(request, client_address)
+
+
+def refuse(parts: SplitResult, token: Optional[str], tls: Optional[ssl.SSLContext]) -> None:
+    """Fails if more than this machine would reach a server that asks for no token, or if its address says other things of TLS than it has."""
+    if token is None and not is_loopback(parts.hostname or ""):
+        raise Failure(f"whoever reaches {parts.netloc} can change everything: name a token, or a loopback address")
+    if (parts.scheme == "https") != (tls is not None):
+        raise Failure(f"{parts.geturl()}: an address with https needs a certificate, and only such a one")
+
+
+def listen(url: str, routes: Routes, token: Optional[str], tls: Optional[ssl.SSLContext]) -> None:
     """Answers messages at an address, for ever. With a token, who does not tell it may send requests alone."""
     parts = urlsplit(url)
+    refuse(parts, token, tls)
     kind = type("Handler", (Handler,), {"base": parts.path, "token": token or "", "routes": routes})
+    listener = Listener((parts.hostname or "", parts.port or (443 if tls else 80)), kind)
+    listener.tls = tls
     print(f"listens at {parts.netloc}", flush=True)
-    ThreadingHTTPServer.request_queue_size = 128
-    ThreadingHTTPServer((parts.hostname or "", parts.port or 80), kind).serve_forever()
+    listener.serve_forever()

@@ -93,6 +93,8 @@ class Offers:
         with self.server.storage.transaction() as tx:
             it = Records(tx)
             told = self.refused(it, line)
+            if told is None and self.server.live(shard).leaving:
+                told = {Told.LATER.value: "it leaves"}
             if told is None:
                 has_all = self.take(it, shard, line)
                 if line["cut"] is not None:
@@ -127,6 +129,8 @@ class Offers:
             base, slot, mark = it.base(), it.slot(shard), it.mark(shard)
             if not base.known or int(line["journal"], 16) != base.journal or it.heard() < line["heard"]:
                 return {"said": "it does not know"}
+            if self.server.live(shard).leaving:
+                return {"said": f"it leaves {shard}"}
             if line.get("beside") and slot.cell == Cell.SECONDARY:
                 return self.offer(it, shard, after) if mark.position > after.position else {"less": mark.position}
             if not is_source_for(slot, mark.position, number):

@@ -111,6 +111,8 @@ class Orders:
                 live.rest_until = time.monotonic() + (self.limits.waiting if needs_rest(order, slot) else 0.0)
             if live.worker == order.number:
                 live.worker = 0
+            with self.server.changed:
+                live.stay()
         self.server.wake()
 
     # -- the work before the commit
@@ -136,6 +138,8 @@ class Orders:
                 position = Records(tx).mark(shard).position
             if not self.server.streams.replicate(shard, position, self.server.live(shard).term, others):
                 raise NotYet("not each secondary has all writes")
+        if order.call == Call.DROP:
+            self.server.leaves.take(shard, line, others)
         return None
 
     def copy(self, shard: str, order: Order, line: Line) -> Line:
@@ -180,6 +184,8 @@ class Orders:
             slot = it.slot(shard)
             if needs_rest(order, slot) and live.running:
                 raise NotYet("requests run")
+            if order.call == Call.DROP and not (live.leave and live.leave == live.leaving):
+                raise NotYet("the leave is over")
             if offer is not None and slot.cell == Cell.ABSENT and slot.at_work == order.number:
                 self.server.offers.take(it, shard, offer)
                 if not it.has_copy(shard):

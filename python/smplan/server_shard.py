@@ -33,32 +33,41 @@ class Service(Protocol):
 
 @dataclass
 class Link:
-    """What a source of writes knows of another server: whether it has to be asked, up to which position it has this list, where its own one is said
-    to end, and until when it is taken for dead."""
+    """What a source of writes knows of another server: whether it has to be asked, by which question it got leave to drop the shard, up to which
+    position it has this list, where its own one is said to end, and until when it is taken for dead."""
 
     lock: threading.Lock = field(default_factory=threading.Lock)
     is_asked: bool = True
+    left: str = ""
     joined: int = 0
     has: int = -1
     mark: Optional[Mark] = None
     failures: int = 0
     dead_until: float = 0.0
 
+    @property
+    def counts(self) -> bool:
+        """Whether the other server may follow the shard, and has not left it."""
+        return self.is_asked and not self.left
+
     def ask_anew(self) -> None:
         """Forgets what the other server has; what it was asked before counts no more."""
-        self.joined, self.is_asked, self.has, self.dead_until = self.joined + 1, True, -1, 0.0
+        self.joined, self.is_asked, self.left, self.has, self.dead_until = self.joined + 1, True, "", -1, 0.0
 
 
 @dataclass
 class Live:
     """A shard in memory. Requests that run belong to a term; if it ends, they are not acknowledged. Writes up to `acknowledged` are at all who are
-    alive. No order that holds requests back begins before `rest_until`."""
+    alive. No order that holds requests back begins before `rest_until`. Who is `leaving` asks for leave under this number; `leave` is that of the
+    question that was answered."""
 
     running: int = 0
     term: int = 0
     is_held: bool = False
     worker: int = 0
     caught_up: int = 0
+    leaving: str = ""
+    leave: str = ""
     said: str = ""
     rest_until: float = 0.0
     acknowledged: int = 0
@@ -67,3 +76,8 @@ class Live:
     def begin_anew(self) -> None:
         """Forgets what other servers have, since who executes is another one, or may be."""
         self.acknowledged, self.links = 0, {}
+        self.stay()
+
+    def stay(self) -> None:
+        """Ends the question for leave, and the leave."""
+        self.leaving = self.leave = ""

@@ -43,6 +43,8 @@ class Streams:
             link = self.link(live, number)
         if not link.is_asked:
             return Told.NOTHING
+        if link.left and not is_patient:
+            return Told.LATER
         if time.monotonic() < link.dead_until and not is_patient:
             return Told.DEAD
         with link.lock:
@@ -81,15 +83,15 @@ class Streams:
     def round(self, shard: str, place: int, must: Iterable[int]) -> Dict[int, Told]:
         """Sends all others what they lack, at once."""
         patient = set(must)
-        numbers = [it for it in self.server.others() if it in patient or self.is_asked(shard, it)]
+        numbers = [it for it in self.server.others() if it in patient or self.counts(shard, it)]
         told = {it: self.server.pool.submit(self.push, shard, it, place, it in patient) for it in numbers[1:]}
         first = {it: self.push(shard, it, place, it in patient) for it in numbers[:1]}
         return {**first, **{number: it.result() for number, it in told.items()}}
 
-    def is_asked(self, shard: str, number: int) -> bool:
+    def counts(self, shard: str, number: int) -> bool:
         """Whether another server may follow the shard."""
         with self.server.changed:
-            return self.link(self.server.live(shard), number).is_asked
+            return self.link(self.server.live(shard), number).counts
 
     def must_have(self, shard: str) -> int:
         """The old owner, whom each write of a handover waits for, live or not; 0 if there is none."""
@@ -140,20 +142,22 @@ class Streams:
             self.server.beside.submit(self.look_at, number)
 
     def look_at(self, number: int) -> None:
-        """Asks another server for its life. If it is a new one, nothing is known of what it has."""
+        """Asks another server for its life. If it is a new one, nothing is known of what it has. It has left no shard that it asks no leave for."""
         try:
-            life = self.server.ask(number, "life", {}, self.limits.peer)["life"]
+            told = self.server.ask(number, "life", {}, self.limits.peer)
+            life, leaving = told["life"], told["leaving"]
         except (OSError, ValueError, LookupError):
             return
         with self.server.changed:
             is_new = self.lives.get(number) != life
             self.lives[number] = life
-            for live in self.server.shards.values() if is_new else ():
-                if number in live.links:
-                    live.links[number].ask_anew()
+            for shard, live in self.server.shards.items():
+                link = live.links.get(number)
+                if link is not None and (is_new or (link.left and link.left != leaving.get(shard))):
+                    link.ask_anew()
 
     def is_behind(self, shard: str, number: int, mark: Mark) -> bool:
         """Whether another server lacks something, as far as is known, and is asked by nobody now."""
         with self.server.changed:
             link = self.link(self.server.live(shard), number)
-        return link.is_asked and link.has < mark.position and not link.lock.locked()
+        return link.counts and link.has < mark.position and not link.lock.locked()

@@ -28,8 +28,9 @@ class Whole:
         self.server, self.limits, self.life = server, server.limits, nonce()
 
     def tell_life(self, _: Line) -> Line:
-        """A number that is another one after each start, and whenever its slots were set or lost."""
-        return {"life": f"{self.life:x}"}
+        """A number that is another one after each start, and whenever its slots were set or lost; and the shards that it asks leave to drop."""
+        with self.server.changed:
+            return {"life": f"{self.life:x}", "leaving": {shard: live.leaving for shard, live in self.server.shards.items() if live.leaving}}
 
     def fence(self, line: Line) -> Line:
         """Takes a fence once no request of a handover runs, and answers with all slots, or with the nonce of an Unknown server."""
@@ -191,3 +192,6 @@ class Whole:
         """Gives up all work."""
         for shard, slot in it.slots().items():
             it.put_slot(shard, agent.abandon(slot))
+        with self.server.changed:
+            for live in self.server.shards.values():
+                live.stay()

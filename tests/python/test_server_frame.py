@@ -24,6 +24,7 @@ from smplan import agent
 from smplan.agent import Answer, Call, Cell, Request, Role, Slot
 from smplan.control_agent import told_of
 from smplan.server import Limits, Server, Sqlite
+from smplan.server_offers import Told
 from smplan.server_orders import NotYet
 from smplan.server_records import Records
 
@@ -260,7 +261,7 @@ class Frame(Server):
         self.peers, self.db = peers, nullcontext()
         peers[number] = self
         super().__init__(NAMES[number], kv_http.Texts(), Sqlite(":memory:"), [], is_new=True, limits=FAST)
-        self.pool, self.call = Inline(), self.call_peer
+        self.pool, self.beside, self.call = Inline(), Inline(), self.call_peer
         self.learn({name: {"number": at, "url": f"http://{name}"} for at, name in NAMES.items()})
 
     def call_peer(self, url, line, seconds):
@@ -299,8 +300,9 @@ class Frame(Server):
 
     def line_of(self, shard, it):
         named = {Call.PREPARE_ADD: "from", Call.PREPARE_DROP: "to"}.get(it.call)
+        replicas = [NAMES[at] for at, peer in self.peers.items() if peer.slot(shard).cell not in (Cell.UNKNOWN, Cell.ABSENT)] if it.call != Call.ADD else []
         line = {"journal": f"{it.journal:x}", "fence": it.fence, "number": it.number, "load": it.load, "room": it.room, "call": it.call.name.lower(),
-                "shard": shard, "handover": it.handover, "role": it.role.name.lower() if it.role else None, "replicas": [],
+                "shard": shard, "handover": it.handover, "role": it.role.name.lower() if it.role else None, "replicas": replicas,
                 "primary": next((NAMES[at] for at, peer in self.peers.items() if peer.slot(shard).cell == Cell.PRIMARY), None)}
         return {**line, **({named: NAMES[it.party]} if named else {})}
 
@@ -312,7 +314,7 @@ class Frame(Server):
         line = self.line_of(shard, it)
         try:
             self.orders.commit(shard, it, self.orders.prepare(shard, it, line))
-        except NotYet:
+        except (NotYet, OSError):
             return False
         return self.orders.done(shard, it, line) == {"done": True}
 
@@ -435,6 +437,32 @@ class LosesWithoutAsking(Frame):
         self.whole.lost = lambda line: ""
 
 
+class DropsWithoutLeave(Frame):
+    """Drops a shard without asking anybody."""
+    def __init__(self, number, peers):
+        super().__init__(number, peers)
+        self.leaves.asked = lambda *words: ""
+
+
+class CountsNoMore(Frame):
+    """Does not look whether who got leave still asks for it."""
+    def __init__(self, number, peers):
+        super().__init__(number, peers)
+        self.streams.look_at = lambda number: None
+
+
+class TellsWhileItLeaves(Frame):
+    """Tells what it has while it asks for leave."""
+    def __init__(self, number, peers):
+        super().__init__(number, peers)
+        given, taken = self.offers.given, self.offers.taken
+        self.routes.update({"/peer/copy": lambda line: self.aside(given, line), "/peer/follow": lambda line: self.aside(taken, line)})
+
+    def aside(self, answer, line):
+        with mock.patch.object(self.live(line["shard"]), "leaving", ""):
+            return answer(line)
+
+
 def passed_before_the_cut(kind):
     """The old owner's last write is late, and comes behind a request that it passes on."""
     a, b = kv_rules.pair(kind)
@@ -485,12 +513,48 @@ def roles_change(kind):
     kv_rules.want((kv_rules.push(b, "r2", "y"), a.value(kv_rules.SHARD, "k"), kv_rules.push(a, "r3", "z")), ("xy", "xy", Answer.NOT_HERE))
 
 
+def dropped_by_leave(kind):
+    """A primary is dropped while its secondary lags: what it alone had acknowledged is not lost."""
+    a, b = kv_rules.pair(kind, Cell.SECONDARY)
+    b.follow = lambda line: {"later": "lost"}
+    drop = kv_rules.order(1, Call.DROP)
+    kv_rules.want((kv_rules.push(a, "r1", "x"), kv_rules.answered(a, drop)), ("x", False))
+    del b.follow
+    a.streams.keep_up()
+    kv_rules.want((a.work(kv_rules.SHARD, drop), b.value(kv_rules.SHARD, "k"), a.slot(kv_rules.SHARD).cell), (True, "x", Cell.ABSENT))
+
+
+def leave_is_given_up(kind):
+    """A secondary gets leave, tells nobody what it has, gives its drop up, and counts again."""
+    a, b = kv_rules.pair(kind, Cell.SECONDARY)
+    drop = kv_rules.order(1, Call.DROP)
+    kv_rules.want(b.order(kv_rules.SHARD, drop), Answer.BEGIN)
+    b.orders.prepare(kv_rules.SHARD, drop, b.line_of(kv_rules.SHARD, drop))
+    ask = {"shard": kv_rules.SHARD, "from": 1, "journal": f"{kv_rules.JOURNAL:x}", "heard": 0, "after": [0, ""], "beside": True}
+    kv_rules.want((kv_rules.push(a, "r1", "x"), b.answer("/peer/copy", ask)), ("x", {"said": "it leaves s"}))
+    b.orders.end(kv_rules.SHARD, drop)
+    for _ in range(2):
+        a.streams.keep_up()
+    kv_rules.want((b.value(kv_rules.SHARD, "k"), a.streams.push(kv_rules.SHARD, 2, 1)), ("x", Told.HAS))
+
+
+def leave_ends_at_a_fence(kind):
+    """A leave of before a fence drops nothing behind it."""
+    a, b = kv_rules.pair(kind, Cell.SECONDARY)
+    drop = kv_rules.order(1, Call.DROP)
+    b.order(kv_rules.SHARD, drop)
+    b.orders.prepare(kv_rules.SHARD, drop, b.line_of(kv_rules.SHARD, drop))
+    b.fence(kv_rules.JOURNAL, 100)
+    kv_rules.want((b.live(kv_rules.SHARD).leave, b.whole.tell_life({})["leaving"]), ("", {}))
+
+
 SCHEDULES = (
     (CommitsFirst, kv_rules.crash_amid_copy), (KeepsTheRest, kv_rules.late_after_settle), (ForgetsRequests, kv_rules.repeat_after_handover),
     (AnswersAtOnce, kv_rules.crash_at_work), (KeepsWork, kv_rules.crash_and_repeat), (DeletesAtDrop, kv_rules.late_order),
     (ComesBackEmpty, kv_rules.lost_state),
     (KeepsItsNonce, kv_rules.given_up), (AcknowledgesAlone, kv_rules.lost_for_good), (ExecutesWhileForwarding, kv_rules.whole_handover),
-    (ExecutesBeforeTheCut, passed_before_the_cut), (LosesWithoutAsking, lost_disk), (None, overtaken), (None, roles_change))
+    (ExecutesBeforeTheCut, passed_before_the_cut), (LosesWithoutAsking, lost_disk), (None, overtaken), (None, roles_change),
+    (DropsWithoutLeave, dropped_by_leave), (CountsNoMore, leave_is_given_up), (TellsWhileItLeaves, leave_is_given_up), (None, leave_ends_at_a_fence))
 
 
 class RulesTest(unittest.TestCase):

@@ -8,10 +8,14 @@ import (
 	"fmt"
 	"io"
 	"log"
+	"net"
 	"net/http"
 	"net/url"
 	"time"
 )
+
+// patience is how long a connection may say nothing.
+const patience = 2 * time.Minute
 
 // caller calls other processes.
 type caller struct{ token string }
@@ -67,22 +71,18 @@ func (it *Server) routes() map[string]func([]byte) (any, error) {
 	return map[string]func([]byte) (any, error){
 		"/order": route(it.order), "/fence": route(it.fence), "/settle": route(it.settle), "/restore": route(it.restore), "/notice": route(it.notice),
 		"/base": route(it.tellBase), "/slots": route(it.tellSlots), "/peer/follow": route(it.taken), "/peer/copy": route(it.given),
-		"/peer/pass": route(it.passed), "/peer/life": route(it.tellLife), "/request": route(it.requested),
+		"/peer/leave": route(it.leaveGiven), "/peer/pass": route(it.passed), "/peer/life": route(it.tellLife), "/request": route(it.requested),
 	}
 }
 
-// listen answers messages at an address, for ever. With a token, who does not tell it may send requests alone.
-func (it *Server) listen(address string) error {
-	base, err := url.Parse(address)
-	if err != nil {
-		return err
-	}
+// Handler answers messages below a path, that of the server's address. With a token, who does not tell it may send requests alone.
+func (it *Server) Handler(path string) http.Handler {
 	mux := http.NewServeMux()
-	for path, answer := range it.routes() {
-		path, answer := path, answer
-		mux.HandleFunc(base.Path+path, func(writer http.ResponseWriter, request *http.Request) {
+	for name, answer := range it.routes() {
+		name, answer := name, answer
+		mux.HandleFunc(path+name, func(writer http.ResponseWriter, request *http.Request) {
 			given := []byte(request.Header.Get("Authorization"))
-			if it.Token != "" && path != "/request" && subtle.ConstantTimeCompare(given, []byte("Bearer "+it.Token)) != 1 {
+			if it.Token != "" && name != "/request" && subtle.ConstantTimeCompare(given, []byte("Bearer "+it.Token)) != 1 {
 				respond(writer, http.StatusUnauthorized, map[string]string{"fault": "the token is missing"})
 				return
 			}
@@ -92,8 +92,8 @@ func (it *Server) listen(address string) error {
 				told, err = answer(text)
 			}
 			if err != nil {
-				if path != "/request" {
-					log.Printf("%s: %s: %v", it.Name, path, err)
+				if name != "/request" {
+					log.Printf("%s: %s: %v", it.Name, name, err)
 				}
 				respond(writer, http.StatusBadRequest, map[string]string{"fault": err.Error()})
 				return
@@ -101,8 +101,36 @@ func (it *Server) listen(address string) error {
 			respond(writer, http.StatusOK, told)
 		})
 	}
-	fmt.Printf("listens at %s\n", base.Host)
-	return http.ListenAndServe(base.Host, mux)
+	return mux
+}
+
+// refuse fails if more than this machine would reach a server that asks for no token, or if its address says other things of TLS than it has.
+func (it *Server) refuse(address *url.URL) error {
+	ip := net.ParseIP(address.Hostname())
+	if isLoopback := address.Hostname() == "localhost" || ip != nil && ip.IsLoopback(); it.Token == "" && !isLoopback {
+		return fmt.Errorf("whoever reaches %s can change everything: name a token, or a loopback address", address.Host)
+	}
+	if (address.Scheme == "https") != (it.Cert != "") {
+		return fmt.Errorf("%s: an address with https needs a certificate, and only such a one", address)
+	}
+	return nil
+}
+
+// listen answers messages at an address, for ever.
+func (it *Server) listen(text string) error {
+	address, err := url.Parse(text)
+	if err != nil {
+		return err
+	}
+	if err := it.refuse(address); err != nil {
+		return err
+	}
+	server := http.Server{Addr: address.Host, Handler: it.Handler(address.Path), ReadHeaderTimeout: patience, IdleTimeout: patience}
+	fmt.Printf("listens at %s\n", address.Host)
+	if it.Cert != "" {
+		return server.ListenAndServeTLS(it.Cert, it.Key)
+	}
+	return server.ListenAndServe()
 }
 
 func respond(writer http.ResponseWriter, status int, told any) {

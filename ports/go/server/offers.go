@@ -3,7 +3,6 @@ package server
 import (
 	"encoding/json"
 	"fmt"
-	"time"
 
 	"hammerecru.example/smplan"
 )
@@ -120,7 +119,10 @@ func refused(kept records, line offerLine) *followLine {
 func (it *Server) taken(line offerLine) (any, error) {
 	var answer *followLine
 	err := it.transact(func(kept records) error {
-		if answer = refused(kept, line); answer != nil {
+		if answer = refused(kept, line); answer == nil && it.isLeaving(line.Shard) {
+			answer = &followLine{Later: "it leaves"}
+		}
+		if answer != nil {
 			return nil
 		}
 		has, err := it.takeOffer(kept, line.Shard, line)
@@ -140,6 +142,13 @@ func (it *Server) taken(line offerLine) (any, error) {
 	return answer, err
 }
 
+// isLeaving returns whether this server asks for leave to drop a shard: meanwhile it tells nobody what it has.
+func (it *Server) isLeaving(shard string) bool {
+	it.mutex.Lock()
+	defer it.mutex.Unlock()
+	return it.live(shard).leaving != ""
+}
+
 // given gives another server what it lacks, and sends it each write from then on. Beside that, a secondary gives what it has to one that becomes
 // primary.
 func (it *Server) given(line askLine) (answer any, err error) {
@@ -152,6 +161,8 @@ func (it *Server) given(line askLine) (answer any, err error) {
 		switch {
 		case wrong != nil || !base.Known || journal != base.Journal || kept.heard() < line.Heard:
 			answer = offerLine{Said: "it does not know"}
+		case it.isLeaving(line.Shard):
+			answer = offerLine{Said: "it leaves " + line.Shard}
 		case line.Beside && slot.Cell.Kind == smplan.Secondary && here.Position <= line.After.Position:
 			answer = offerLine{Less: &here.Position}
 		case line.Beside && slot.Cell.Kind == smplan.Secondary:
@@ -161,7 +172,8 @@ func (it *Server) given(line askLine) (answer any, err error) {
 		default:
 			it.with(line.Shard, func(live *live) {
 				link := live.link(line.From)
-				link.joined, link.isNothing, link.has, link.mark, link.deadUntil = link.joined+1, false, -1, &line.After, time.Time{}
+				link.mark = &line.After
+				link.askAnew()
 			})
 			answer, err = it.offer(kept, line.Shard, line.After)
 		}

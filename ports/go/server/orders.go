@@ -123,6 +123,7 @@ func (it *Server) end(shard string, order smplan.Order) {
 			if live.worker == order.Number {
 				live.worker = 0
 			}
+			live.stay()
 		})
 		if slot.AtWork == order.Number {
 			kept.putSlot(shard, smplan.Abandon(slot))
@@ -166,7 +167,12 @@ func (it *Server) prepare(line orderLine, order smplan.Order) (*offerLine, error
 	case call.Kind == smplan.Change && call.To == smplan.PrimaryRole:
 		return nil, it.compare(line.Shard, others)
 	case needsRest(order, slot):
-		return nil, it.rest(line.Shard, order, others)
+		if err := it.rest(line.Shard, order, others); err != nil {
+			return nil, err
+		}
+	}
+	if call.Kind == smplan.Drop {
+		return nil, it.takeLeave(line, others)
 	}
 	return nil, nil
 }
@@ -227,10 +233,13 @@ func (it *Server) compare(shard string, others []uint32) error {
 func (it *Server) commit(shard string, order smplan.Order, offer *offerLine) error {
 	var after smplan.Slot
 	err := it.transact(func(kept records) error {
-		slot, running := kept.slot(shard), 0
-		it.with(shard, func(live *live) { running = live.running })
+		slot, running, hasLeave := kept.slot(shard), 0, false
+		it.with(shard, func(live *live) { running, hasLeave = live.running, live.leave != "" && live.leave == live.leaving })
 		if needsRest(order, slot) && running > 0 {
 			return errors.New("requests run")
+		}
+		if order.Call.Kind == smplan.Drop && !hasLeave {
+			return errors.New("the leave is over")
 		}
 		if offer != nil && slot.Cell.Kind == smplan.Absent && slot.AtWork == order.Number {
 			if _, err := it.takeOffer(kept, shard, *offer); err != nil {

@@ -37,20 +37,23 @@ type Limits struct{ Answering, Working, Waiting, Peer, Fencing, Resting, Keeping
 // DefaultLimits are those that suit most.
 var DefaultLimits = Limits{time.Second, 30 * time.Second, 3 * time.Second, 3 * time.Second, 2 * time.Second, time.Second / 2, time.Hour}
 
-// Settings are what a server is begun with. IsNew: the service is new, so that no shard has data yet.
+// Settings are what a server is begun with. IsNew: the service is new, so that no shard has data yet. Token is the controller's, which all but
+// clients have to show. Cert and Key are files: with them it serves by TLS.
 type Settings struct {
 	Name        string
 	Controllers []string
 	IsNew       bool
 	Token       string
+	Cert, Key   string
 	Limits      Limits
 }
 
-// link is what a source of writes knows of another server: whether it has to be asked, up to which position it has this list, where its own one
-// is said to end, and until when it is taken for dead.
+// link is what a source of writes knows of another server: whether it has to be asked, by which question it got leave to drop the shard, up to
+// which position it has this list, where its own one is said to end, and until when it is taken for dead.
 type link struct {
 	mutex     sync.Mutex
 	isNothing bool
+	left      string
 	joined    int
 	has       int64
 	mark      *mark
@@ -59,13 +62,16 @@ type link struct {
 }
 
 // live is a shard in memory. Requests that run belong to a term; if it ends, they are not acknowledged. Writes up to acknowledged are at all who
-// are alive. No order that holds requests back begins before restUntil.
+// are alive. No order that holds requests back begins before restUntil. Who is leaving asks for leave under this number; leave is that of the
+// question that was answered.
 type live struct {
 	running      int
 	term         int
 	isHeld       bool
 	worker       uint64
 	caughtUp     uint64
+	leaving      string
+	leave        string
 	said         string
 	restUntil    time.Time
 	acknowledged uint64
@@ -73,7 +79,21 @@ type live struct {
 }
 
 // beginAnew forgets what other servers have, since who executes is another one, or may be.
-func (it *live) beginAnew() { it.acknowledged, it.links = 0, map[uint32]*link{} }
+func (it *live) beginAnew() {
+	it.acknowledged, it.links = 0, map[uint32]*link{}
+	it.stay()
+}
+
+// stay ends the question for leave, and the leave.
+func (it *live) stay() { it.leaving, it.leave = "", "" }
+
+// counts returns whether the other server may follow the shard, and has not left it.
+func (it *link) counts() bool { return !it.isNothing && it.left == "" }
+
+// askAnew forgets what the other server has; what it was asked before counts no more.
+func (it *link) askAnew() {
+	it.joined, it.isNothing, it.left, it.has, it.deadUntil = it.joined+1, false, "", -1, time.Time{}
+}
 
 // Server is a server.
 type Server struct {

@@ -28,10 +28,13 @@ func (it *Server) linkTo(shard string, number uint32) *link {
 func (it *Server) push(shard string, number uint32, position uint64, isPatient bool) told {
 	link := it.linkTo(shard, number)
 	it.mutex.Lock()
-	isNothing, deadUntil := link.isNothing, link.deadUntil
+	isNothing, hasLeft, deadUntil := link.isNothing, link.left != "", link.deadUntil
 	it.mutex.Unlock()
 	if isNothing {
 		return nothing
+	}
+	if hasLeft && !isPatient {
+		return later
 	}
 	if time.Now().Before(deadUntil) && !isPatient {
 		return dead
@@ -187,23 +190,19 @@ func (it *Server) release(shard string, old uint32) {
 	})
 }
 
-// lookAt asks another server for its life. If it is a new one, nothing is known of what it has.
+// lookAt asks another server for its life. If it is a new one, nothing is known of what it has. It has left no shard that it asks no leave for.
 func (it *Server) lookAt(number uint32) {
-	var told struct {
-		Life string `json:"life"`
-	}
+	var told lifeLine
 	if it.ask(number, "life", struct{}{}, &told, it.Limits.Peer) != nil {
 		return
 	}
 	it.mutex.Lock()
 	defer it.mutex.Unlock()
-	if it.lives[number] == told.Life {
-		return
-	}
+	isNew := it.lives[number] != told.Life
 	it.lives[number] = told.Life
-	for _, live := range it.shards {
-		if link, ok := live.links[number]; ok {
-			link.joined, link.isNothing, link.has, link.deadUntil = link.joined+1, false, -1, time.Time{}
+	for shard, live := range it.shards {
+		if link, ok := live.links[number]; ok && (isNew || link.left != "" && link.left != told.Leaving[shard]) {
+			link.askAnew()
 		}
 	}
 }
@@ -222,7 +221,7 @@ func (it *Server) pushAll() {
 				}
 				link := it.linkTo(shard, number)
 				it.mutex.Lock()
-				isBehind := !link.isNothing && link.has < int64(position)
+				isBehind := link.counts() && link.has < int64(position)
 				it.mutex.Unlock()
 				if isBehind && link.mutex.TryLock() {
 					link.mutex.Unlock()

@@ -13,11 +13,23 @@ func isInHandover(slot smplan.Slot) bool {
 	return slot.Cell.Kind == smplan.Prepared || slot.Cell.Kind == smplan.Forwarding
 }
 
-// tellLife tells a number that is another one after each start, and whenever the slots were set or lost.
+// lifeLine is a number that is another one after each start, and whenever the slots were set or lost; and the shards that leave is asked for.
+type lifeLine struct {
+	Life    string            `json:"life"`
+	Leaving map[string]string `json:"leaving"`
+}
+
+// tellLife tells its life.
 func (it *Server) tellLife(struct{}) (any, error) {
 	it.mutex.Lock()
 	defer it.mutex.Unlock()
-	return map[string]string{"life": fmt.Sprintf("%x", it.life)}, nil
+	told := lifeLine{fmt.Sprintf("%x", it.life), map[string]string{}}
+	for shard, live := range it.shards {
+		if live.leaving != "" {
+			told.Leaving[shard] = live.leaving
+		}
+	}
+	return told, nil
 }
 
 // fence takes a fence once no request of a handover runs, and answers with all slots, or with the nonce of an Unknown server.
@@ -34,6 +46,7 @@ func (it *Server) fence(line wholeLine) (any, error) {
 			kept.putBase(base, line.Base)
 			for shard, slot := range kept.slots() {
 				kept.putSlot(shard, smplan.Abandon(slot))
+				it.with(shard, func(live *live) { live.stay() })
 			}
 		}
 		if reception != smplan.Ignored {

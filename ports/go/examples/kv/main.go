@@ -1,13 +1,12 @@
 // Command kv is a key-value service over the frame for servers: examples/kv_http.py in Go.
 //
-//	cd ports/go && go run ./examples/kv [-new] NAME http://127.0.0.1:9200 /var/lib/kv/NAME.log
+//	cd ports/go && go build -o /tmp/kv ./examples/kv
+//	/tmp/kv [-new] [-token FILE] [-cert FILE -key FILE] NAME http://127.0.0.1:9200 /var/lib/kv/NAME.log
 package main
 
 import (
 	"encoding/json"
-	"flag"
 	"fmt"
-	"log"
 	"net/url"
 	"strings"
 
@@ -67,17 +66,4 @@ func (texts) Drop(tx server.Tx, shard string) {
 	}
 }
 
-func main() {
-	isNew := flag.Bool("new", false, "the service is new, and no shard has data yet")
-	flag.Parse()
-	store, err := server.OpenFile(flag.Arg(2))
-	if err != nil {
-		log.Fatal(err)
-	}
-	settings := server.Settings{Name: flag.Arg(0), Controllers: strings.Split(flag.Arg(1), ","), IsNew: *isNew}
-	it, err := server.New(settings, texts{}, store)
-	if err != nil {
-		log.Fatal(err)
-	}
-	log.Fatal(it.Run())
-}
+func main() { server.Main(texts{}) }

@@ -1,0 +1,103 @@
+package server
+
+import (
+	"fmt"
+	"strings"
+
+	"hammerecru.example/smplan"
+)
+
+// leaveLine asks for leave to drop a shard. Beside: nobody else executes.
+type leaveLine struct {
+	Shard    string `json:"shard"`
+	From     uint32 `json:"from"`
+	Journal  string `json:"journal"`
+	Heard    uint64 `json:"heard"`
+	Mark     mark   `json:"mark"`
+	Question string `json:"question"`
+	Beside   bool   `json:"beside"`
+}
+
+// leftLine answers it: leave, or why not now.
+type leftLine struct {
+	Leave bool   `json:"leave,omitempty"`
+	Later string `json:"later,omitempty"`
+}
+
+// mayGive returns whether a server with this slot gives leave, if it has all: who executes; if nobody else does, a secondary.
+func mayGive(slot smplan.Slot, position uint64, line leaveLine) bool {
+	switch slot.Cell.Kind {
+	case smplan.Secondary:
+		return line.Beside
+	case smplan.Primary, smplan.Prepared:
+		return isSourceFor(slot, position, line.From)
+	}
+	return false
+}
+
+// leaveGiven answers who asks for leave, and counts it no more until it joins again, or tells that it asks no longer.
+func (it *Server) leaveGiven(line leaveLine) (any, error) {
+	answer := leftLine{Leave: true}
+	err := it.transact(func(kept records) error {
+		base, slot, here := kept.base(), kept.slot(line.Shard), kept.mark(line.Shard)
+		journal, wrong := hexadecimal(line.Journal)
+		switch {
+		case wrong != nil || !base.Known || base.Fenced || journal != base.Journal || kept.heard() != line.Heard:
+			answer = leftLine{Later: "it knows of another reopening"}
+		case !mayGive(slot, here.Position, line):
+			answer = leftLine{Later: "it does not serve " + line.Shard}
+		case !kept.has(line.Shard, line.Mark):
+			answer = leftLine{Later: "it lacks writes"}
+		default:
+			it.with(line.Shard, func(live *live) {
+				link := live.link(line.From)
+				link.left, link.joined = line.Question, link.joined+1
+			})
+		}
+		return nil
+	})
+	return answer, err
+}
+
+// takeLeave gets leave to drop a shard: from its primary, or, if that is this server or nobody, from another one that has all that is here. Who is
+// alone needs none.
+func (it *Server) takeLeave(line orderLine, others []uint32) error {
+	question, givers, isBeside := fmt.Sprintf("%x", nonce()), others, true
+	if line.Primary != nil && *line.Primary != it.Name {
+		givers, isBeside = []uint32{it.numbers()[*line.Primary]}, false
+	}
+	it.with(line.Shard, func(live *live) { live.leaving, live.leave = question, "" })
+	var err error
+	if len(others) > 0 {
+		err = it.askLeave(line.Shard, question, isBeside, givers)
+	}
+	it.with(line.Shard, func(live *live) {
+		if err != nil && live.leaving == question {
+			live.leaving = ""
+		} else if live.leaving == question {
+			live.leave = question
+		}
+	})
+	return err
+}
+
+// askLeave asks for leave until somebody gives it.
+func (it *Server) askLeave(shard, question string, isBeside bool, givers []uint32) error {
+	var line leaveLine
+	it.transact(func(kept records) error {
+		line = leaveLine{shard, it.number(), fmt.Sprintf("%x", kept.base().Journal), kept.heard(), kept.mark(shard), question, isBeside}
+		return nil
+	})
+	said := []string{}
+	for _, number := range givers {
+		var told leftLine
+		if err := it.ask(number, "leave", line, &told, it.Limits.Peer); err != nil {
+			told.Later = err.Error()
+		}
+		if told.Leave {
+			return nil
+		}
+		said = append(said, fmt.Sprintf("no leave from %s: %s", it.nameOf(number), told.Later))
+	}
+	return fmt.Errorf("%s", strings.Join(said, "; "))
+}

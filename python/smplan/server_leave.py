@@ -1,0 +1,80 @@
+"""Leave: who drops a shard asks another server that has all that counts. That one counts it no more from then on."""
+from __future__ import annotations
+
+import secrets
+from dataclasses import astuple
+from typing import TYPE_CHECKING, Any, Dict, List
+
+from .agent import Cell, Slot
+from .server_offers import is_source_for
+from .server_records import Mark, Records
+
+if TYPE_CHECKING:
+    from .server import Server
+
+Line = Dict[str, Any]
+
+
+def may_give(slot: Slot, position: int, line: Line) -> bool:
+    """Whether a server with this slot gives leave, if it has all: who executes; if nobody else does, a secondary."""
+    if slot.cell == Cell.SECONDARY:
+        return bool(line["beside"])
+    return slot.cell in (Cell.PRIMARY, Cell.PREPARED) and is_source_for(slot, position, line["from"])
+
+
+class Leaves:
+    """The leaves that a server asks for and gives. Each question has a number, and is over at a crash, at a fence, and once it is given up."""
+
+    def __init__(self, server: "Server") -> None:
+        self.server = server
+
+    def given(self, line: Line) -> Line:
+        """Answers who asks for leave, and counts it no more until it joins again, or tells that it asks no longer."""
+        shard, number = line["shard"], line["from"]
+        with self.server.storage.transaction() as tx:
+            it = Records(tx)
+            base, slot, mark = it.base(), it.slot(shard), it.mark(shard)
+            if not base.known or base.fenced or int(line["journal"], 16) != base.journal or it.heard() != line["heard"]:
+                return {"later": "it knows of another reopening"}
+            if not may_give(slot, mark.position, line):
+                return {"later": f"it does not serve {shard}"}
+            if not it.has(shard, Mark(*line["mark"])):
+                return {"later": "it lacks writes"}
+            with self.server.changed:
+                link = self.server.streams.link(self.server.live(shard), number)
+                link.left, link.joined = line["question"], link.joined + 1
+        return {"leave": True}
+
+    def take(self, shard: str, line: Line, others: List[int]) -> None:
+        """Gets leave to drop a shard: from its primary, or, if that is this server or nobody, from another one that has all that is here. Who is
+        alone needs none. OSError if nobody gives it."""
+        live, question = self.server.live(shard), secrets.token_hex(8)
+        primary = self.server.numbers.get(line.get("primary") or "", self.server.number)
+        is_beside = primary == self.server.number
+        with self.server.changed:
+            live.leaving, live.leave = question, "" if others else question
+        said = self.asked(shard, question, is_beside, others if is_beside else [primary]) if others else ""
+        with self.server.changed:
+            if said and live.leaving == question:
+                live.leaving = ""
+            elif live.leaving == question:
+                live.leave = question
+        if said:
+            raise OSError(said)
+
+    def asked(self, shard: str, question: str, is_beside: bool, givers: List[int]) -> str:
+        """Asks for leave until somebody gives it; returns why nobody does, if so."""
+        with self.server.storage.transaction() as tx:
+            it = Records(tx)
+            line = {"shard": shard, "from": self.server.number, "journal": f"{it.base().journal:x}", "heard": it.heard(),
+                    "mark": astuple(it.mark(shard)), "question": question, "beside": is_beside}
+        said = []
+        for number in givers:
+            try:
+                told = self.server.ask(number, "leave", line, self.server.limits.peer)
+            except (OSError, ValueError) as why:
+                told = {"later": str(why)}
+            if told.get("leave") is True:
+                return ""
+            said.append(f"no leave from {self.server.name_of(number)}: {told.get('later')}")
+        return "; ".join(said)
