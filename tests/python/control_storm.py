@@ -1,11 +1,12 @@
-"""`smplan-control run` with servers of examples/kv_server.py (storm_http.py), under load, while everything is killed: nothing acknowledged is
+"""`smplan-control run` with servers of examples/kv_http.py and ports/go/examples/kv, under load, while everything is killed: nothing acknowledged is
 lost or doubled, no order has its effect twice, each server ends with what is recorded, and drains end by themselves.
 
-    python3 tests/python/control_storm.py 'build/smpland' [--kills 200] [--servers 5] [--shards 6] [--seed 1] [--etcd 3] [--lease 3] [--keep FOLDER]
+    python3 tests/python/control_storm.py 'build/smpland' [--kills 200] [--servers 5] [--go 2] [--shards 6] [--seed 1] [--etcd 3] [--lease 3] [--keep FOLDER]
 
 Clients append words under identities until each is acknowledged. Meanwhile servers are drained in turn, old orders come again, and at random moments a
 controller, a server, with --etcd (three controllers over so many members of it) also the controller that leads, a member of etcd or its leader, is killed (-9)
-and started anew. With --bug NAME servers have a bug of storm_server.py, which has to be found.
+and started anew. With --bug NAME servers have a bug, which has to be found: they `forget` the number of each last order whenever they are killed, or those in
+Python answer orders too `early`.
 """
 import argparse
 import json
@@ -13,8 +14,8 @@ import os
 import random
 import shutil
 import signal
+import re
 import socket
-import sqlite3
 import subprocess
 import sys
 import tempfile
@@ -23,6 +24,8 @@ import time
 from collections import Counter
 from pathlib import Path
 from urllib.request import urlopen
+
+from storm_effects import HAS_GO, GoServer, PythonServer
 
 ROOT = Path(__file__).resolve().parents[2]
 ENVIRONMENT = {**os.environ, "PYTHONPATH": str(ROOT / "python"), "PYTHONDONTWRITEBYTECODE": "1"}
@@ -44,10 +47,10 @@ def free_ports(count):
 class Fleet:
     """The processes."""
 
-    def __init__(self, folder, session, servers, shards, members, lease=3, bug=""):
-        self.folder, self.session, self.lease, self.running = folder, session, str(lease), {}
-        self.environment = {**ENVIRONMENT, "STORM_BUG": bug}
+    def __init__(self, folder, session, servers, in_go, shards, members, lease=3, bug=""):
+        self.folder, self.session, self.lease, self.bug, self.running = folder, session, str(lease), bug, {}
         names = [f"v{it}" for it in range(servers)]
+        self.servers = {name: GoServer(folder, name) if at % 2 and at < 2 * in_go else PythonServer(folder, name, bug == "early") for at, name in enumerate(names)}
         ports = free_ports(servers + 3 + 2 * members)
         self.urls = {name: f"http://127.0.0.1:{ports.pop()}" for name in names}
         self.controllers = {f"k{it}": f"http://127.0.0.1:{ports.pop()}" for it in range(3 if members else 1)}
@@ -64,7 +67,7 @@ class Fleet:
                 {"server": one, "state": "primary"}, {"server": two, "state": "secondary"}]} for it, (one, two) in cells.items()]}))
 
     def start(self, name):
-        words = [sys.executable, ROOT / "tests/python/storm_server.py", name, ",".join(self.controllers.values()), self.database(name)]
+        words = self.servers[name].words(",".join(self.controllers.values())) if name in self.servers else []
         at = self.folder
         if name in self.members:
             clients, peers = self.members[name]
@@ -78,14 +81,17 @@ class Fleet:
                      "--http", self.controllers[name].removeprefix("http://"), "--open", "../service.json"]
             words += [word for urls in self.members.values() for word in ("--etcd", urls[0])] + (["--name", name, "--lease", self.lease] if self.members else [])
         with open(self.folder / f"{name}.log", "a", encoding="utf-8") as log:
-            self.running[name] = subprocess.Popen(words, stdout=log, stderr=log, cwd=at, env=self.environment)
+            self.running[name] = subprocess.Popen(words, stdout=log, stderr=log, cwd=at, env=ENVIRONMENT)
 
-    def database(self, name):
-        return self.folder / f"{name}.sqlite"
-
-    def kill(self, name, how=signal.SIGKILL):
-        self.running[name].send_signal(how)
+    def kill(self, name):
+        self.running[name].send_signal(signal.SIGKILL)
         self.running[name].wait()
+
+    def end(self):
+        for name in self.running:
+            self.kill(name)
+        for it in self.servers.values():
+            it.close()
 
     def guard(self):
         """Starts again what has ended by itself, as systemd does, and returns its names. (On a very busy machine a session may not answer for a minute.)"""
@@ -108,7 +114,7 @@ class Fleet:
     def control(self, *words):
         """Begins a command of an operator."""
         return subprocess.Popen([sys.executable, "-m", "smplan.control_commands", *words], stdout=subprocess.PIPE, stderr=subprocess.STDOUT, text=True,
-                                env={**self.environment, "SMPLAN_CONTROLLER": ",".join(self.controllers.values())})
+                                env={**ENVIRONMENT, "SMPLAN_CONTROLLER": ",".join(self.controllers.values())})
 
     def leading(self):
         """The controller that leads, none if nobody says so."""
@@ -182,32 +188,24 @@ class Client(threading.Thread):
 
 
 class Repeater(threading.Thread):
-    """Sends old orders again, as a network or an old process may."""
+    """Sends old orders again, as a network or an old process may. It hears of them as a controller tells what is outstanding."""
 
     def __init__(self, fleet, seed):
         super().__init__(daemon=True)
-        self.fleet, self.dice, self.is_over, self.sent = fleet, random.Random(seed), False, 0
+        self.fleet, self.dice, self.is_over, self.sent, self.heard = fleet, random.Random(seed), False, 0, {}
 
     def run(self):
         while not self.is_over:
-            time.sleep(self.dice.uniform(0.05, 0.5))
-            name = self.dice.choice(list(self.fleet.urls))
+            time.sleep(self.dice.uniform(0.0, 0.2))
             try:
-                lines = rows_of(self.fleet.database(name), "SELECT line FROM heard ORDER BY random() LIMIT 3")
-                for (line,) in lines:
-                    ask(f"{self.fleet.urls[name]}/order", json.loads(line), timeout=3.0)
+                for it in ask(self.dice.choice(list(self.fleet.controllers.values())) + "/outgoing"):
+                    if it["kind"] == "order" and it["message"]["server"] in self.fleet.urls:
+                        self.heard[json.dumps(it["message"], sort_keys=True)] = it["message"]
+                for line in self.dice.sample(list(self.heard.values()), min(2, len(self.heard))):
+                    ask(f"{self.fleet.urls[line['server']]}/order", line, timeout=3.0)
                     self.sent += 1
-            except (OSError, ValueError, sqlite3.Error):
+            except (OSError, ValueError):
                 pass
-
-
-def rows_of(path, query):
-    """What a server's database answers, read alone."""
-    db = sqlite3.connect(f"file:{path}?mode=ro", uri=True, timeout=5.0)
-    try:
-        return db.execute(query).fetchall()
-    finally:
-        db.close()
 
 
 class Mover(threading.Thread):
@@ -215,7 +213,7 @@ class Mover(threading.Thread):
 
     def __init__(self, fleet, seed):
         super().__init__(daemon=True)
-        self.fleet, self.dice, self.is_over, self.drains, self.moved, self.faults = fleet, random.Random(seed), False, 0, 0, []
+        self.fleet, self.dice, self.is_over, self.drains, self.moved, self.faults = fleet, random.Random(seed), False, 0, Counter(), []
         self.drain = None
 
     def run(self):
@@ -223,7 +221,8 @@ class Mover(threading.Thread):
             server = self.dice.choice(list(self.fleet.urls))
             self.drain = self.fleet.control("drain", server, "--batch", "3", "--pause", "0.1")
             text, _ = self.drain.communicate()
-            self.moved += text.count(" to ")
+            kinds = {name: it.kind for name, it in self.fleet.servers.items()}
+            self.moved.update(f"{kinds[server]} to {kinds[target]}" for target in re.findall(r"\bto (v\d+)\b", text))
             if self.drain.returncode == 3 and "waits for" not in text:
                 continue  # (it has begun nothing, as nobody was there to ask)
             if self.drain.returncode != 0 or f"{server} is empty" not in text:
@@ -256,6 +255,8 @@ def harm(fleet, dice, kills, most_seconds, only):
             continue
         fleet.kill(name)
         time.sleep(dice.choice([0.0, 0.1, 1.0]))
+        if fleet.bug == "forget" and name in fleet.servers:
+            fleet.servers[name].forget()
         fleet.start(name)
         counts[kind] += 1
         if dice.random() < 0.5:
@@ -292,32 +293,39 @@ def audit(fleet):
     return faults
 
 
+def value_of(fleet, client, shard, seconds=30.0):
+    """What is stored for a client in a shard, none if nobody answers in time."""
+    until, value = time.monotonic() + seconds, None
+    while value is None and time.monotonic() < until:
+        value = client.request(shard, None, ["get", f"k{client.number}"])
+        time.sleep(0.0 if value is not None else 0.1)
+    return value
+
+
 def lost_words(fleet, clients):
     """Compares what was acknowledged with what is there."""
     faults = [it.fault for it in clients if it.fault]
-    for client in clients:
-        for shard in fleet.shards:
-            value = None
-            for _ in range(100):
-                value = client.request(shard, f"get-{client.number}-{shard}-{time.monotonic_ns()}", ["get", f"k{client.number}"])
-                if value is not None:
-                    break
-                time.sleep(0.1)
+    for shard in fleet.shards:
+        for client in clients:
+            value = value_of(fleet, client, shard)
+            if value is None:
+                faults.append(f"{shard}: nobody answers")
+                break
             words = [word for at, word in client.acknowledged if at == shard]
-            faults += [f"{shard}: {word} stands {(value or '').count(word)} times" for word in words if (value or "").count(word) != 1]
+            faults += [f"{shard}: {word} stands {value.count(word)} times" for word in words if value.count(word) != 1]
     return faults
 
 
 def repeated_orders(fleet):
-    """Each order that had its effect twice, or behind a later one of its shard, and how many orders had one."""
+    """Each order that had its effect twice, or behind a later one of its shard, and how many orders had one. The servers are down."""
     faults, count = [], 0
-    for name in fleet.urls:
+    for name, server in fleet.servers.items():
         last = {}
-        for journal, shard, number, call in rows_of(fleet.database(name), "SELECT journal, shard, number, call FROM effects ORDER BY place"):
+        for shard, number in server.effects():
             count += 1
-            if number <= last.get((journal, shard), -1):
-                faults.append(f"{name}: order {number} of {shard} ({call}) has its effect behind {last[journal, shard]}")
-            last[journal, shard] = number
+            if number <= last.get(shard, 0):
+                faults.append(f"{name}: order {number} of {shard} has its effect behind {last[shard]}")
+            last[shard] = number
     return faults, count
 
 
@@ -325,11 +333,11 @@ def arguments():
     """What the command line says."""
     parser = argparse.ArgumentParser(description=__doc__, formatter_class=argparse.RawDescriptionHelpFormatter)
     parser.add_argument("session", help="smpland, without its journal")
-    for name, value in (("--kills", 200), ("--seconds", 3600.0), ("--servers", 5), ("--shards", 6), ("--clients", 3), ("--seed", 1), ("--etcd", 0),
+    for name, value in (("--kills", 200), ("--seconds", 3600.0), ("--servers", 5), ("--go", 2), ("--shards", 6), ("--clients", 3), ("--seed", 1), ("--etcd", 0),
                         ("--lease", 3), ("--patience", 240.0)):
         parser.add_argument(name, type=type(value), default=value)
     parser.add_argument("--only", default="", metavar="TEXT", help="kill only what is told with this text, as 'server'")
-    parser.add_argument("--bug", default="", choices=["", "forgets", "early"])
+    parser.add_argument("--bug", default="", choices=["", "forget", "early"])
     parser.add_argument("--keep", type=Path)
     return parser.parse_args()
 
@@ -352,25 +360,30 @@ def storm(told, fleet):
         it.is_over = True
     for it in [*clients, repeater]:
         it.join(60)
+    faults = [*mover.faults, *wait_for_rest(fleet, told.patience), *audit(fleet), *lost_words(fleet, clients)]
+    fleet.end()
     orders, effects = repeated_orders(fleet)
-    faults = [*mover.faults, *wait_for_rest(fleet, told.patience), *audit(fleet), *orders, *lost_words(fleet, clients)]
     words = sum(len(it.acknowledged) for it in clients)
-    return faults + ([] if words else ["no word was acknowledged"]), (
+    return faults + orders + ([] if words else ["no word was acknowledged"]), (
         f"{sum(value for kind, value in counts.items() if kind != 'ended by itself')} kills in {time.monotonic() - begun:.0f} s: {counts}\n{words} words acknowledged, the longest wait "
-        f"{max(it.longest for it in clients):.1f} s; {effects} orders, {repeater.sent} sent again; {mover.moved} moves in {mover.drains} drains")
+        f"{max(it.longest for it in clients):.1f} s; {effects} orders, {len(repeater.heard)} heard of, {repeater.sent} times sent again; "
+        f"moves in {mover.drains} drains: {dict(mover.moved)}")
 
 
 def main():
     told = arguments()
     folder = told.keep or Path(tempfile.mkdtemp(prefix="control-storm-"))
     folder.mkdir(parents=True, exist_ok=True)
-    fleet = Fleet(folder, told.session, told.servers, told.shards, told.etcd, told.lease, told.bug)
+    in_go = told.go if HAS_GO else 0
+    if in_go < told.go:
+        print("there is no go: all servers are in Python")
+    if in_go:
+        GoServer.build(folder)
+    fleet = Fleet(folder, told.session, told.servers, in_go, told.shards, told.etcd, told.lease, told.bug)
     try:
         faults, text = storm(told, fleet)
     finally:
-        for it in fleet.running.values():
-            it.kill()
-            it.wait()
+        fleet.end()
     print(f"{text}: {len(faults)} faults")
     for it in faults[:20]:
         print(f"  {it}")

@@ -7,6 +7,7 @@ import random
 import shutil
 import signal
 import socket
+import ssl
 import subprocess
 import sys
 import tempfile
@@ -17,13 +18,16 @@ from concurrent.futures import Future
 from contextlib import nullcontext
 from dataclasses import replace
 from unittest import mock
+from urllib.error import HTTPError
 from urllib.parse import urlsplit
-from urllib.request import urlopen
+from urllib.request import Request as Page, urlopen
 
 from smplan import agent
 from smplan.agent import Answer, Call, Cell, Request, Role, Slot
 from smplan.control_agent import told_of
+from smplan.failure import Failure
 from smplan.server import Limits, Server, Sqlite
+from smplan.server_http import refuse
 from smplan.server_offers import Told
 from smplan.server_orders import NotYet
 from smplan.server_records import Records
@@ -45,11 +49,6 @@ def go(*words):
                           env={**os.environ, "GOCACHE": str(ROOT / "build/go-cache"), "GOPROXY": "off"})
     if done.returncode:
         raise AssertionError(done.stdout + done.stderr)
-
-
-def ask(url, line=None, timeout=10.0):
-    with urlopen(url, None if line is None else json.dumps(line).encode(), timeout=timeout) as answer:
-        return json.load(answer)
 
 
 def free_ports(count):
@@ -92,13 +91,17 @@ class Client(threading.Thread):
 
 
 class Fleet:
-    """A controller, and servers a, b and c in Python and g in Go, which are processes."""
+    """A controller, and servers a, b and c in Python and g in Go, which are processes. With a secret they have a token and TLS."""
 
-    def __init__(self, folder, has_go):
+    def __init__(self, folder, has_go, has_secret=False):
         self.folder, self.running, self.has_go = pathlib.Path(folder), {}, has_go
-        self.dice = random.Random(7)
+        self.dice, self.environment = random.Random(7), ENVIRONMENT
+        self.token, self.words, self.go_words, self.context = None, (), (), None
+        if has_secret:
+            self.make_secret()
         port, *ports = free_ports(5)
-        self.controller, self.urls = f"http://127.0.0.1:{port}", {it: f"http://127.0.0.1:{at}" for it, at in zip("abcg", ports)}
+        scheme = "https" if has_secret else "http"
+        self.controller, self.urls = f"{scheme}://127.0.0.1:{port}", {it: f"{scheme}://127.0.0.1:{at}" for it, at in zip("abcg", ports)}
         (self.folder / "fleet.json").write_text(json.dumps({
             "servers": {it: {"number": at + 1, "url": url} for at, (it, url) in enumerate(self.urls.items())}, "map": {"file": "map.json"}}))
         cells = [{"server": "a", "state": "primary"}, {"server": "b", "state": "secondary"}, {"server": "c", "state": "secondary"}]
@@ -106,19 +109,37 @@ class Fleet:
             "limit": 1, "servers": [{"name": it, "region": "r", "room": 10} for it in self.urls],
             "shards": [{"name": "s", "load": 4, "want": 3, "cap": 2, "spread": 1, "listed": "a", "cells": cells}]}))
 
+    def make_secret(self):
+        """Makes a token and a certificate."""
+        token, cert, key = (self.folder / it for it in ("token", "cert", "key"))
+        token.write_text("0123456789abcdef")
+        subprocess.run(["openssl", "req", "-x509", "-newkey", "rsa:2048", "-nodes", "-keyout", key, "-out", cert, "-subj", "/CN=kv",
+                        "-addext", "subjectAltName=IP:127.0.0.1", "-days", "1"], check=True, capture_output=True)
+        self.token, self.context = token.read_text(), ssl.create_default_context(cafile=str(cert))
+        self.words, self.go_words = ("--token", token, "--tls", cert, key), ("-token", token, "-cert", cert, "-key", key)
+        self.environment = {**ENVIRONMENT, "SSL_CERT_FILE": str(cert)}
+
+    def ask(self, url, line=None, token=""):
+        headers = {"Authorization": f"Bearer {self.token if token == '' else token}"} if self.token else {}
+        request = Page(url, None if line is None else json.dumps(line).encode(), headers)
+        with urlopen(request, timeout=10.0, context=self.context) as answer:
+            return json.load(answer)
+
     def start(self, name, *words):
         with open(self.folder / f"{name}.log", "a", encoding="utf-8") as log:
-            self.running[name] = subprocess.Popen([str(it) for it in words], stdout=log, stderr=log, cwd=self.folder, env=ENVIRONMENT)
+            self.running[name] = subprocess.Popen([str(it) for it in words], stdout=log, stderr=log, cwd=self.folder, env=self.environment)
 
     def start_controller(self):
         session = f"{SMPLAND} journal" if SMPLAND.exists() else f"{sys.executable} {ROOT}/tools/smpland_model.py -"
         self.start("run", sys.executable, "-m", "smplan.control_commands", "run", "fleet.json", "--session", session,
-                   "--http", self.controller.removeprefix("http://"), "--open", "service.json")
+                   "--http", self.controller.split("//")[1], "--open", "service.json", *self.words)
 
     def start_server(self, name, *words):
         is_go = name == "g" and self.has_go
-        program = [self.folder / "kv", *words] if is_go else [sys.executable, ROOT / "examples/kv_http.py", *(f"-{it}" for it in words)]
-        self.start(name, *program, name, self.controller, f"{name}.store")
+        if is_go:
+            self.start(name, self.folder / "kv", *words, *self.go_words, name, self.controller, f"{name}.store")
+        else:
+            self.start(name, sys.executable, ROOT / "examples/kv_http.py", *(f"-{it}" for it in words), *self.words, name, self.controller, f"{name}.store")
 
     def kill(self, name):
         self.running[name].send_signal(signal.SIGKILL)
@@ -137,7 +158,7 @@ class Fleet:
             time.sleep(0.05)
 
     def is_up(self, name):
-        return ask(f"{self.urls[name]}/base")["base"] is not None
+        return self.ask(f"{self.urls[name]}/base")["base"] is not None
 
     def listed(self):
         return json.loads((self.folder / "map.json").read_text())["entries"]["s"]["to"]
@@ -146,7 +167,7 @@ class Fleet:
         """Sends a request to the server that the map shows, or to any if that says nothing."""
         for server in [self.listed(), self.dice.choice("abcg")]:
             try:
-                told = ask(f"{self.urls[server]}/request", {"shard": "s", "request": identity, "command": command})
+                told = self.ask(f"{self.urls[server]}/request", {"shard": "s", "request": identity, "command": command})
                 if "reply" in told:
                     return told["reply"]
             except OSError:
@@ -155,7 +176,7 @@ class Fleet:
         return None
 
     def begin(self, name, old, new):
-        told = ask(f"{self.controller}/do", {"do": "begin", "plan": handover("s", 4, old, new), "name": name})
+        told = self.ask(f"{self.controller}/do", {"do": "begin", "plan": handover("s", 4, old, new), "name": name})
         if "begun" not in told:
             raise AssertionError(told)
 
@@ -164,12 +185,12 @@ class Fleet:
         self.until(lambda: self.is_at_rest() and self.listed() == new, name)
 
     def is_at_rest(self):
-        state = ask(f"{self.controller}/ask", {"do": "state"})["state"]
-        return not ask(f"{self.controller}/outgoing") and all(it["is"] != "running" for it in state["plans"])
+        state = self.ask(f"{self.controller}/ask", {"do": "state"})["state"]
+        return not self.ask(f"{self.controller}/outgoing") and all(it["is"] != "running" for it in state["plans"])
 
     def marks(self):
         """How many writes each server has of the shard, by its cell."""
-        return {name: {it["shard"]: (it["cell"], it["position"]) for it in ask(f"{url}/slots")["slots"]} for name, url in self.urls.items()}
+        return {name: {it["shard"]: (it["cell"], it["position"]) for it in self.ask(f"{url}/slots")["slots"]} for name, url in self.urls.items()}
 
     def end(self):
         for it in self.running.values():
@@ -189,24 +210,50 @@ class GoTest(unittest.TestCase):
 class FleetTest(unittest.TestCase):
     """Processes over HTTP."""
 
-    def setUp(self):
+    def begin(self, has_secret=False):
         folder = tempfile.TemporaryDirectory(prefix="server-frame-")
         self.addCleanup(folder.cleanup)
-        self.fleet = Fleet(folder.name, has_go=HAS_GO)
-        self.addCleanup(self.fleet.end)
-        self.fleet.start_controller()
-        if self.fleet.has_go:
+        fleet = Fleet(folder.name, HAS_GO, has_secret)
+        self.addCleanup(fleet.end)
+        fleet.start_controller()
+        if fleet.has_go:
             go("build", "-o", f"{folder.name}/kv", "./examples/kv")
         else:
             subprocess.run([ROOT / "scripts/leave-out", "the frame for servers in Go", "there is no go"], check=True)
-        self.fleet.until(lambda: ask(f"{self.fleet.controller}/healthz")["leads"], "the controller")
+        fleet.until(lambda: fleet.ask(f"{fleet.controller}/healthz")["leads"], "the controller")
         for it in "abcg":
-            self.fleet.start_server(it, "-new")
+            fleet.start_server(it, "-new")
         for it in "abcg":
-            self.fleet.until(lambda it=it: self.fleet.is_up(it), it)
+            fleet.until(lambda it=it: fleet.is_up(it), it)
+        return fleet
+
+    @unittest.skipUnless(shutil.which("openssl"), "there is no openssl")
+    def test_servers_by_tls_ask_for_the_token_but_not_of_clients(self):
+        fleet = self.begin(has_secret=True)
+        fleet.move("there", "a", "g")
+        line = {"shard": "s", "request": "r1", "command": ["append", "k", "x"]}
+        self.assertEqual(fleet.ask(f"{fleet.urls['g']}/request", line, token="none"), {"reply": "x"})
+        fleet.move("back", "g", "a")
+        self.assertEqual(fleet.ask(f"{fleet.urls['a']}/request", line, token="none"), {"reply": "x"})
+        for name in "ag":
+            for path in ("/base", "/slots", "/order", "/peer/life"):
+                with self.assertRaises(HTTPError) as why:
+                    fleet.ask(fleet.urls[name] + path, token="another one")
+                self.assertEqual(why.exception.code, 401)
+                why.exception.close()
+            with self.assertRaises(OSError):
+                urlopen(fleet.urls[name].replace("https", "http") + "/request", b"{}", timeout=5).close()
+
+    def test_addresses_of_others_need_a_token_and_https_a_certificate(self):
+        for url, token, tls, fault in (("http://10.0.0.1:9300", None, None, "can change everything"), ("http://host:9300", None, None, "can change everything"),
+                                       ("https://127.0.0.1:9300", None, None, "needs a certificate"), ("http://127.0.0.1:9300", None, 1, "needs a certificate")):
+            with self.assertRaisesRegex(Failure, fault):
+                refuse(urlsplit(url), token, tls)
+        for url, token, tls in (("http://10.0.0.1:9300", "0123456789abcdef", None), ("http://[::1]:9300", None, None), ("https://localhost", None, 1)):
+            refuse(urlsplit(url), token, tls)
 
     def test_a_shard_moves_between_python_and_go_under_harm(self):
-        fleet = self.fleet
+        fleet = self.begin()
         clients = [Client(fleet, it) for it in range(3)]
         for it in clients:
             it.start()
