@@ -4,7 +4,6 @@ from __future__ import annotations
 import asyncio
 import json
 import logging
-import secrets
 import ssl
 import time
 from dataclasses import dataclass, replace
@@ -46,10 +45,9 @@ class AmongOthers(Running):
     def __init__(self, settings: Settings, etcd: EtcdSettings) -> None:
         super().__init__(settings)
         self.etcd = etcd
-        # (of this life of the process alone: what an earlier one sends late is not taken for this one's)
-        leader, keys = f"{etcd.name} {secrets.token_hex(8)}", Keys(etcd.prefix)
-        self.journal = EtcdJournal(etcd.client(), leader, keys=keys)
-        self.lease = Lease(etcd.client(), leader, etcd.lease, keys)
+        keys = Keys(etcd.prefix)
+        self.lease = Lease(etcd.client(), etcd.name, etcd.lease, keys, is_told=True)
+        self.journal = EtcdJournal(etcd.client(), self.lease.leader, keys=keys)
         self.map = EtcdMap(etcd.client(), f"{etcd.prefix}map-base", f"{etcd.prefix}map/")
         self.fleet.owner = self.map
         self.mirrored = etcd.client()
@@ -116,6 +114,8 @@ class AmongOthers(Running):
         """Leads while the lease lasts."""
         controller = self.controller
         assert controller is not None
+        # (what was sent under an earlier lease, by this process or another of its name, is not stored under this one)
+        self.journal.leader = self.lease.leader
         begun, keeping = time.monotonic(), asyncio.create_task(self.lease.keep())
         why: Optional[BaseException] = None
         try:

@@ -9,6 +9,7 @@ import sys
 import tempfile
 import unittest
 from dataclasses import replace
+from types import SimpleNamespace
 
 ROOT = pathlib.Path(__file__).resolve().parents[2]
 sys.path[:0] = [str(ROOT), str(ROOT / "tests/cluster")]
@@ -16,9 +17,11 @@ from cluster.controllers.etcd import Etcd, EtcdFault  # noqa: E402  (the path co
 from cluster.controllers.journal import LEADER, EtcdJournal, JournalLost, key_of  # noqa: E402
 from cluster.controllers.member import Member, Settings  # noqa: E402
 from cluster.wire import Cluster  # noqa: E402
-from smplan.control import Pace, StoreRefused  # noqa: E402
+from smplan.control import Pace, StoreLost, StoreRefused  # noqa: E402
+from smplan.control_etcd import EtcdRefused  # noqa: E402
 from smplan.control_etcd_journal import Keys  # noqa: E402
 from smplan.control_etcd_map import EtcdMap  # noqa: E402
+from smplan.control_store import Trial, check  # noqa: E402
 from smplan.control_run import Settings as RunSettings  # noqa: E402
 from smplan.control_run_etcd import AmongOthers, EtcdSettings  # noqa: E402
 from test_controllers import FakeEtcd  # noqa: E402
@@ -168,6 +171,74 @@ class LostLinesTest(unittest.IsolatedAsyncioTestCase):
         self.assertEqual([await EtcdJournal(etcd, "k1", keys=it.keys).read() for it in journals], [["x/"], ["y/"]])
 
 
+class MemoryStore:
+    """A controller's handle of a journal in memory, which has a bug if one is named."""
+
+    def __init__(self, journal, bug=""):
+        self.journal, self.bug, self.place = journal, bug, 0
+
+    async def read(self):
+        found, self.place = self.journal.lines[self.place:], len(self.journal.lines)
+        return found[::-1] if self.bug == "turns" else found
+
+    async def append(self, lines):
+        if len(lines[0]) > 100:
+            self.journal.lines += lines if self.bug == "stores what it refuses" else []
+            raise (RuntimeError if self.bug == "fails at long lines" else StoreRefused)("too long")
+        if self.journal.leader is not self and self.bug != "heeds no leader":
+            raise StoreRefused("no") if self.bug == "refuses the deposed" else StoreLost("another one leads")
+        self.journal.lines += lines
+        if self.journal.is_lost:
+            self.journal.is_lost = False
+            if self.bug != "finds nothing":
+                raise StoreRefused("lost") if self.bug == "refuses what it has stored" else StoreLost("no answer")
+            self.journal.lines += lines
+        found = await self.read()
+        return lines if self.bug == "forgets others" else found
+
+
+class StoreTest(unittest.IsolatedAsyncioTestCase):
+    """The test of stores: it passes those that are right, and finds each bug."""
+
+    async def faults_of_memory(self, bug=""):
+        journal = SimpleNamespace(lines=[], leader=None, is_lost=False)
+
+        async def begin(name):
+            return MemoryStore(journal, bug)
+
+        async def lead(handle):
+            journal.leader = handle
+
+        def lose(handle):
+            journal.is_lost = True
+
+        return await check(Trial(begin, lead, lose, "x" * 1000))
+
+    async def test_the_journal_in_etcd_passes(self):
+        class Etcd(FakeEtcd):
+            async def transact(self, guards, writes):
+                if len(str(writes)) > 1000:
+                    raise EtcdRefused("request is too large")
+                return await super().transact(guards, writes)
+
+        etcd = Etcd()
+
+        async def begin(name):
+            return EtcdJournal(etcd, name, tries=2)
+
+        async def lead(handle):
+            etcd.put(LEADER, handle.leader)
+
+        self.assertEqual(await check(Trial(begin, lead, lambda _: etcd.faults.append("unanswered"), "x" * 2000)), [])
+
+    async def test_each_bug_is_found(self):
+        self.assertEqual(await self.faults_of_memory(), [])
+        for bug in ("turns", "stores what it refuses", "fails at long lines", "heeds no leader", "refuses the deposed", "finds nothing",
+                    "refuses what it has stored", "forgets others"):
+            with self.subTest(bug):
+                self.assertNotEqual(await self.faults_of_memory(bug), [])
+
+
 class EtcdMapTest(unittest.IsolatedAsyncioTestCase):
     """What a journal was opened by is shown once."""
 
@@ -238,7 +309,7 @@ class AmongOthersTest(unittest.IsolatedAsyncioTestCase):
         found.listen_to_signals = lambda: None
         return found
 
-    async def until(self, condition, seconds=30):
+    async def until(self, condition, seconds=120):
         async with asyncio.timeout(seconds):
             while not condition():
                 await asyncio.sleep(0.05)
@@ -266,19 +337,20 @@ class AmongOthersTest(unittest.IsolatedAsyncioTestCase):
             await self.until(lambda: "smplan_journal_lines 1" in second.journal_figures())
             self.assertIn(f"smplan_journal_bytes {len(etcd.keys['x/journal/000000000001'].value)}", second.journal_figures())
             self.assertIn("smplan_journal_age_seconds 0", first.journal_figures())
+            self.assertEqual(etcd.keys["x/leader"].value, f"{first.etcd.name} {first.lease.lease}")
             first.stopping.set()
             self.assertEqual(await tasks[both.index(first)], 0)
             await self.until(lambda: second.controller.leads)
             self.assertEqual(json.loads((await second.health(b"")).body)["leads"], True)
             del etcd.keys["x/journal/000000000001"]
-            async with asyncio.timeout(30):
+            async with asyncio.timeout(120):
                 while True:
                     try:
                         await second.controller.do({"do": "new_epoch"})
                     except Exception as why:
                         self.assertIsInstance(why, JournalLost)
                         break
-            self.assertEqual(await asyncio.wait_for(tasks[both.index(second)], 30), 6)
+            self.assertEqual(await asyncio.wait_for(tasks[both.index(second)], 120), 6)
 
 
 if __name__ == "__main__":
