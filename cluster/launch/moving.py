@@ -13,8 +13,10 @@ from smplan.control import Line
 from .operator import NoLeader, Operator
 from .plans import move_stream, plan_of, swap_stream
 
-# How many primaries are handed over at once: few, since clients that never rest use these shards, and each handover is to meet many requests.
-HANDOVERS = 3
+# How many primaries are handed over at once, and one more by a drain: few, since clients that never rest use these shards, and each handover is to meet
+# many requests. These clients come to a shard so many seconds before its handover begins: what is moved is in use then, too.
+HANDOVERS = 2
+BEFORE = 0.3
 
 
 def is_handover(stream: Line) -> bool:
@@ -86,14 +88,14 @@ class Mover:
         self.dice.shuffle(shards)
         chosen: dict[str, Line] = {}
         for shard in shards:
-            stream = self.stream_of(shard, rooms, self.has_room_for_handover(chosen)) if len(chosen) < most else None
+            stream = self.stream_of(shard, rooms, self.has_room_for_handover(chosen, HANDOVERS)) if len(chosen) < most else None
             if stream is not None:
                 chosen[shard["shard"]] = stream
         return chosen
 
-    def has_room_for_handover(self, chosen: dict[str, Line]) -> bool:
+    def has_room_for_handover(self, chosen: dict[str, Line], most: int) -> bool:
         """Whether one primary more may be handed over beside those that are, or are chosen."""
-        return len(self.handed_over) + sum(map(is_handover, chosen.values())) < HANDOVERS
+        return len(self.handed_over) + sum(map(is_handover, chosen.values())) < most
 
     def stream_of(self, shard: Line, rooms: dict[str, int], may_hand_over: bool = True) -> Line | None:
         """Chooses where a replica of a shard goes, or that its primary and a secondary change roles."""
@@ -119,6 +121,8 @@ class Mover:
         self.busy |= shards
         self.passed |= {shard for shard, stream in streams.items() if not is_handover(stream)}
         try:
+            if shards - self.passed:
+                await asyncio.sleep(BEFORE)
             return await self.begin_and_wait(streams)
         finally:
             self.busy -= shards
@@ -175,7 +179,7 @@ class Mover:
             free = [it for it, room in rooms.items() if it not in has and room >= shard["load"]]
             if shard["shard"] in self.busy or not free or not set(has.values()) <= {"primary", "secondary"}:
                 continue
-            if has[server] == "primary" and sum(map(is_handover, chosen.values())) >= HANDOVERS:
+            if has[server] == "primary" and not self.has_room_for_handover(chosen, HANDOVERS + 1):
                 continue
             target = max(free, key=lambda it: rooms[it])
             rooms[target] -= shard["load"]
