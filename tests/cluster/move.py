@@ -41,7 +41,7 @@ async def main(moves: int) -> None:
 def check(path) -> None:
     """Each acknowledged push is in the final list, once."""
     lines = [json.loads(it) for it in open(path, encoding="utf-8")]
-    final = {it["key"]: it["reply"] for it in lines if it.get("final")}
+    final = {it["key"]: it["reply"] for it in lines if it.get("final") and it["op"] == "read"}
     acknowledged = [it for it in lines if it["op"] == "push" and "reply" in it]
     counts = {key: {value: values.count(value) for value in values} for key, values in final.items()}
     wrong = [it for it in acknowledged if counts[it["key"]].get(it["value"]) != 1]
