@@ -67,6 +67,8 @@ class Cluster:
     etcd: tuple[str, ...] = ()
     map_prefix: str = "/map/"
     map_file: str | None = None
+    # For how many seconds a server serves without a controller's answer; 0: for ever.
+    lease: float = 0.0
 
     def name_of(self, number: int) -> str:
         """The server with this number."""
@@ -81,7 +83,7 @@ class Cluster:
             for name, it in told["servers"].items()
         }
         controllers = {name: Address.of(it) for name, it in told.get("controllers", {}).items()}
-        return Cluster(servers, controllers, tuple(told.get("etcd", ())), told.get("map_prefix", "/map/"), told.get("map_file"))
+        return Cluster(servers, controllers, tuple(told.get("etcd", ())), told.get("map_prefix", "/map/"), told.get("map_file"), told.get("lease", 0.0))
 
 
 # Writes JSON as short as it goes.
@@ -139,8 +141,8 @@ class Channel:
     """A connection for requests to one address, made anew when it breaks. What waits for a reply then fails with
     `Lost`."""
 
-    def __init__(self, address: Address) -> None:
-        self.address = address
+    def __init__(self, address: Address, hear: Callable[[Message], None] = lambda reply: None) -> None:
+        self.address, self.hear = address, hear
         self.numbers = itertools.count(1)
         self.waiting: dict[int, asyncio.Future[Message]] = {}
         self.writer: asyncio.StreamWriter | None = None
@@ -180,6 +182,7 @@ class Channel:
     async def read(self, reader: asyncio.StreamReader, writer: asyncio.StreamWriter) -> None:
         """Gives each reply to who waits for it."""
         while (reply := await read_message(reader)) is not None:
+            self.hear(reply)
             future = self.waiting.get(reply.get("id"))
             if future is not None and not future.done():
                 future.set_result(reply)

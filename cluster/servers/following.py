@@ -116,7 +116,7 @@ class Following:
         try:
             position, chain = (-1, "") if self.is_fresh else (self.shard.position, self.shard.chain)
             ask = {"shard": self.shard.name, "from": self.server.name, "position": position, "chain": chain, "takes_over": self.takes_over()}
-            self.writer.write(line_of({"follow": ask}))
+            self.writer.write(line_of({"follow": ask, **self.server.hearsay.told()}))
             first = await self.first_message(reader)
             await self.take_all([first or {"nothere": {}}], source)
             queue: asyncio.Queue[Message | None] = asyncio.Queue()
@@ -172,6 +172,7 @@ class Following:
                 raise EOFError
             writes: list[Entry] = []
             for message in batch:
+                self.server.hearsay.take(message)
                 if "write" in message:
                     (writes if self.copying is None else self.copying.writes).append(Entry.of(message["write"]))
                 elif "tail" in message:

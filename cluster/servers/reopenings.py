@@ -137,12 +137,13 @@ class Reopenings:
         slots = {it.name: it.slot for it in self.store.shards.values()}
         answer, base, after = agent.take(before, assignment, slots, {it["shard"]: self.slot_of(it) for it in told["slots"]})
         if answer == Answer.TAKEN:
-            await self.keep(base, after, kind, told.get("nonce"))
+            await self.keep(base, after, kind, told)
         return answer
 
-    async def keep(self, base: Base, after: dict[str, Slot], kind: str, named: str | None) -> None:
+    async def keep(self, base: Base, after: dict[str, Slot], kind: str, assignment: Message) -> None:
         """Makes the base and each slot what they have become, in one transaction. All locks are held."""
-        commands = [*self.store.base_commands(base), ("DEL", "old_owner")]
+        named, opened = assignment.get("nonce"), assignment.get("fence", assignment["base"])
+        commands = [*self.store.base_commands(base), ("SET", "opened", opened), ("DEL", "old_owner")]
         for name, slot in after.items():
             commands += self.store.slot_commands(name, slot)
             if slot.cell == Cell.ABSENT:
@@ -150,7 +151,7 @@ class Reopenings:
         positions = {it.name: it.position for it in self.store.shards.values()}
         told = {name: [STATES[Cell(it.cell)], positions[name]] for name, it in after.items() if it.cell != Cell.ABSENT}
         await self.store.save(commands, kind, base=base.number, slots=told, nonce=hexadecimal(int(named, 16)) if named else None)
-        self.store.base = base
+        self.store.base, self.store.opened = base, opened
         for shard in self.store.shards.values():
             self.put(shard, after[shard.name])
         self.server.resume()

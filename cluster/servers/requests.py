@@ -129,7 +129,7 @@ class Requests:
                     raise ErrorReply(f"TRYAGAIN {shard.name}")
                 reply = await self.execute(shard, identity, command, how)
             await self.server.sources.replicated(shard, shard.position, term)
-            if shard.term != term:
+            if shard.term != term or self.server.lease.is_over:
                 raise ErrorReply(f"LOST {shard.name}")
             return reply
         except ConnectionError as error:
@@ -149,7 +149,7 @@ class Requests:
     def route(self, shard: Shard, how: Request) -> tuple[Answer, Request]:
         """Where a request is executed."""
         slot, bug = shard.slot, self.server.bug
-        if shard.is_held and shard.is_in_handover:
+        if (shard.is_held and shard.is_in_handover) or (self.server.lease.is_over and slot.cell in (Cell.PREPARED, Cell.PRIMARY)):
             return Answer.NOT_YET, Request()
         if bug == "execute-prepared" and slot.cell == Cell.PREPARED and slot.handover:
             return Answer.EXECUTE, Request()
@@ -204,7 +204,7 @@ class Requests:
         passed = {"shard": shard.name, "identity": identity, "command": command, "handover": onward.handover, "cut": onward.cut,
                   "from": self.server.name}
         try:
-            reply = await self.server.peer(to).ask(limits.PASSING, **{"pass": passed})
+            reply = await self.server.peer(to).ask(limits.PASSING, **{"pass": passed}, **self.server.hearsay.told())
         except Failed as failed:
             raise ErrorReply(f"{'LOST' if failed.kind in ('Lost', 'Late') else failed.kind} {shard.name}") from failed
         return reply["reply"].encode("latin-1")

@@ -13,6 +13,7 @@ from smplan.agent import Base, Cell, Request, Slot
 from ..wire import Channel, Cluster, Failed, Message, read_message, line_of
 from . import agent, limits
 from .following import Following
+from .peers import Hearsay, Lease
 from .reopenings import Reopenings
 from .requests import Requests
 from .shard import AllLocks, Shard, hexadecimal, nonce
@@ -31,7 +32,7 @@ class Server:
         self.changing = asyncio.Lock()
         self.peers: dict[str, Channel] = {}
         self.sources, self.orders, self.requests = Sources(self), Orders(self), Requests(self)
-        self.reopenings = Reopenings(self)
+        self.reopenings, self.hearsay, self.lease = Reopenings(self), Hearsay(self), Lease(self, cluster.lease)
         self.tasks: set[asyncio.Task[Any]] = set()
         self.asking: asyncio.Task[None] | None = None
 
@@ -56,6 +57,8 @@ class Server:
         await self.store.save(commands, "start", server=self.name, loses_slots=loses_slots, known=bool(self.store.base.known),
                               at_work=len(at_work), library=bool(agent.LIBRARY), nonce=hexadecimal(self.store.base.nonce))
         self.begin(self.sources.probe())
+        self.begin(self.hearsay.ask_around())
+        self.begin(self.lease.keep())
         self.begin(self.keep_notes())
         self.resume()
 
@@ -99,13 +102,13 @@ class Server:
     def peer(self, name: str) -> Channel:
         """The connection for requests to another server."""
         if name not in self.peers:
-            self.peers[name] = Channel(self.cluster.servers[name].peers)
+            self.peers[name] = Channel(self.cluster.servers[name].peers, self.hearsay.take)
         return self.peers[name]
 
     async def ask_peer(self, name: str, seconds: float, **request: Any) -> Message | None:
         """Asks another server; None if it does not answer."""
         try:
-            return await self.peer(name).ask(seconds, **request)
+            return await self.peer(name).ask(seconds, **request, **self.hearsay.told())
         except Failed:
             return None
 
@@ -140,6 +143,7 @@ class Server:
         """Serves another server: a connection for one stream of writes, or for requests."""
         try:
             while (message := await read_message(reader)) is not None:
+                await self.hearsay.hear(message)
                 if "follow" in message:
                     await self.sources.serve(reader, writer, message["follow"])
                     return
@@ -154,12 +158,14 @@ class Server:
         try:
             if "pass" in message:
                 reply = await self.requests.take_passed(message["pass"])
+            elif "hello" in message:
+                reply = {"hello": {}}
             else:
                 reply = {"has": self.has(message["probe"]["shard"])}
         except Failed as failed:
             reply = failed.message()
         if not writer.is_closing():
-            writer.write(line_of({"id": message["id"], **reply}))
+            writer.write(line_of({"id": message["id"], **reply, **self.hearsay.told()}))
 
     def has(self, name: str) -> bool | None:
         """Whether it has anything of a shard, None if it does not know."""
@@ -192,22 +198,26 @@ class Server:
         raise Failed("Unknown", "no such message")
 
     async def heed(self, journal: int, number: int) -> None:
-        """Looks at the last reopening that a message names: a server that was not settled at it turns Unknown."""
+        """Looks at the last reopening that a controller names: a server that was not settled at it turns Unknown."""
         async with self.changing:
-            if self.store.base.known and not agent.heed(self.store.base, journal, number, 1).known and self.bug != "heed-nothing":
-                await self.forget()
+            await self.heed_last(journal, number, "a controller")
+
+    async def heed_last(self, journal: int, number: int, teller: str) -> None:
+        """Looks at the last reopening that somebody names. No slot changes meanwhile."""
+        if self.store.base.known and not agent.heed(self.store.base, journal, number, 1).known and self.bug != "heed-nothing":
+            await self.forget(teller)
 
     async def notice(self, told: Message) -> Message:
         """Takes a word about the last reopening: a server that was left behind it turns Unknown."""
         await self.heed(int(told["journal"], 16), told["fence"])
         return {"noticed": {"known": bool(self.store.base.known)}}
 
-    async def forget(self) -> None:
-        """Turns Unknown: slots are deleted, data is kept."""
+    async def forget(self, teller: str) -> None:
+        """Turns Unknown, as somebody told: slots are deleted, data is kept."""
         async with AllLocks(self.store.shards.values()):
             base = agent.forget(nonce())
             commands = [("DEL", "slots", "old_owner"), *self.store.base_commands(base)]
-            await self.store.save(commands, "forget", before=self.store.base.number, nonce=hexadecimal(base.nonce))
+            await self.store.save(commands, "forget", before=self.store.base.number, nonce=hexadecimal(base.nonce), told_by=teller)
             self.store.base = base
             for shard in self.store.shards.values():
                 self.end_term(shard, "it has turned Unknown")

@@ -58,7 +58,7 @@ class Sources:
         stream = await self.begin(shard, writer, ask) if shard is not None else None
         if stream is None:
             following = shard.following if shard is not None else None
-            writer.write(line_of({"nothere": {"hint": following.hint if following is not None else None}}))
+            writer.write(line_of({"nothere": {"hint": following.hint if following is not None else None}, **self.server.hearsay.told()}))
             return
         try:
             while (message := await read_message(reader)) is not None:
@@ -93,9 +93,9 @@ class Sources:
             stream = Stream(name, writer, shard.position, ask["takes_over"])
             if tail is None:
                 stream.copied_at = time.monotonic()
-                stream.send({"copy": {"position": shard.position, "tail": await self.store.last_writes(shard.name)}})
+                stream.send({"copy": {"position": shard.position, "tail": await self.store.last_writes(shard.name)}, **self.server.hearsay.told()})
             else:
-                stream.send({"tail": [it.text() for it in tail]})
+                stream.send({"tail": [it.text() for it in tail], **self.server.hearsay.told()})
             before = shard.streams.get(name)
             if before is not None:
                 before.close()

@@ -1,6 +1,7 @@
 """What a server keeps in its redis-server. All that belongs together changes in one MULTI, with a line of history.
 
     base          the base, as JSON            slots, mark, members, old_owner    by shard
+    opened        the number of the reopening by which it has its slots
     keys:S        the keys of shard S          d:S:key                 their values
     done:S        by identity, the reply       tail:S                  the last writes, which who follows may lack
     copied:S, new:S:key, answered:S            a copy that is on its way: its keys, their values, and the replies by identity
@@ -110,6 +111,8 @@ class Store:
     def __init__(self, redis: Redis) -> None:
         self.redis = redis
         self.base = Base()
+        # The number of the reopening by which it has its slots.
+        self.opened = 0
         self.shards: dict[str, Shard] = {}
         self.unwritten: list[Event] = []
         # (what memory says would be wrong from then on: the process has to end)
@@ -119,6 +122,7 @@ class Store:
         """Reads what is stored."""
         base = await self.redis.call("GET", "base")
         self.base = Base(*json.loads(base)) if base else Base()
+        self.opened = int(await self.redis.call("GET", "opened") or 0)
         for name, text in await self.hash("slots"):
             self.shard(name).slot = Slot(*json.loads(text))
         for name, text in await self.hash("mark"):
