@@ -3,11 +3,13 @@ from __future__ import annotations
 
 import argparse
 import asyncio
+import json
 import shlex
 import time
 
 from smplan.control import Pace
 from smplan.control_http import Page, Route, serve
+from smplan.control_metrics import metric, metrics_of
 from smplan.control_serve import routes_of
 
 from cluster.wire import Address, Cluster, listen
@@ -39,11 +41,26 @@ def routes(member: Member) -> dict[str, Route]:
     async def leads(_: bytes) -> Page:
         return Page.of({"name": member.settings.name, "leads": member.leads})
 
+    async def off(body: bytes) -> Page:
+        try:
+            names = json.loads(body)["servers"]
+        except (ValueError, KeyError, TypeError) as why:
+            return Page.of({"fault": f"these are no servers: {why}"}, 400)
+        if not member.leads:
+            return Page.of({"fault": "this controller does not lead"}, 409)
+        member.controller.given_up.off |= set(names)
+        return Page.of({"off": sorted(member.controller.given_up.off)})
+
+    async def metrics(_: bytes) -> Page:
+        samples = [({"about": it.about, "what": it.what}, time.monotonic() - it.since) for it in member.alarms.now()]
+        alarms = metric("alarm_seconds", "gauge", "for how long something is wrong", samples)
+        return Page(("\n".join(alarms) + "\n" + await metrics_of(member.controller)).encode(), "text/plain; version=0.0.4; charset=utf-8")
+
     async def front(_: bytes) -> Page:
         return Page(page().encode(), "text/html; charset=utf-8")
 
     assert member.controller is not None
-    return {**routes_of(member.controller), "GET /state": state, "GET /leads": leads, "GET /": front}
+    return {**routes_of(member.controller), "GET /state": state, "GET /leads": leads, "GET /metrics": metrics, "POST /off": off, "GET /": front}
 
 
 async def run(told: argparse.Namespace) -> None:

@@ -85,6 +85,13 @@ class Fleet:
         reply = await self.ask(notice["server"], notice={"journal": notice["journal"], "fence": notice["fence"]})
         return DONE if "noticed" in reply else reply.get("said", "no answer")
 
+    async def slots(self, server: str) -> Line | None:
+        """Asks a server for all its slots; none if it does not answer, or has none."""
+        told = (await self.ask(server, audit={})).get("audit", {})
+        if not told.get("known") or told["fenced"]:
+            return None
+        return {"slots": [from_wire(it) for it in told["slots"]], "lacks": [it for it in told["slots"] if "lacks" in it]}
+
     async def base(self, server: str) -> int | None:
         """Asks a server for the number of its base."""
         told = (await self.ask(server, audit={})).get("audit", {})

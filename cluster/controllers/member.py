@@ -11,12 +11,18 @@ from smplan.control import Controller, Line, Pace, Session, SessionEnded, StoreL
 
 from cluster.wire import Cluster, Failed, Message
 
+from .alarms import Alarms, Auditor
 from .bugs import move_primaries
 from .etcd import Etcd, EtcdFault, members_of
 from .fleet import Fleet, to_wire
-from .journal import MOST_BYTES, EtcdJournal
+from .journal import MOST_BYTES, EtcdJournal, JournalLost
 from .lease import Lease
+from .leader import Leader
 from .map_owner import MapOwner
+
+
+# How many seconds a controller that leads rests between two audits.
+AUDITING = 0.7
 
 
 @dataclass(frozen=True)
@@ -57,7 +63,9 @@ class Member:
         self.owner = MapOwner(Etcd(members, first=first), settings.cluster.map_prefix, settings.bugs)
         self.owner.leads = lambda: self.lease.is_leader
         self.fleet = Fleet(settings.cluster, self.owner)
-        self.controller: Controller | None = None
+        self.controller: Leader | None = None
+        self.alarms = Alarms(settings.log)
+        self.auditor = Auditor(self.alarms, self.ask, self.fleet.slots)
 
     @property
     def leads(self) -> bool:
@@ -67,7 +75,7 @@ class Member:
     async def start(self) -> None:
         """Starts the session."""
         session = await Session.start(self.settings.program)
-        self.controller = Controller(session, self.fleet, self.store, replace(self.settings.pace, batch_bytes=MOST_BYTES))
+        self.controller = Leader(session, self.fleet, self.store, replace(self.settings.pace, batch_bytes=MOST_BYTES), self.settings.cluster.lease)
         if "confirm-moves-primary" in self.settings.bugs:
             move_primaries(self.controller)
 
@@ -91,10 +99,20 @@ class Member:
         try:
             while True:
                 await self.follow()
-                if await self.lease.campaign():
+                if not self.is_lost and await self.lease.campaign():
                     await self.lead()
         finally:
             await self.controller.session.close()
+
+    @property
+    def is_lost(self) -> bool:
+        """Whether the journal has lost lines that this process knows."""
+        return ("the journal", "lost") in self.alarms.present
+
+    async def ask(self, line: Line) -> Line:
+        """Asks the session."""
+        assert self.controller is not None
+        return await self.controller.ask(line)
 
     async def follow(self) -> None:
         """Feeds what is new in the journal, until the leader may be gone."""
@@ -105,6 +123,8 @@ class Member:
                 await self.controller.follow(await self.journal.read(may_lag=True))
             except EtcdFault:
                 pass
+            except JournalLost as why:
+                self.alarms.give("the journal", "lost", f"{why}; adopt the service under a new journal")
             await asyncio.sleep(self.settings.follow)
 
     async def lead(self) -> None:
@@ -113,11 +133,13 @@ class Member:
         assert controller is not None
         self.past.terms += 1
         self.past.led_since = time.monotonic()
-        keeping = asyncio.create_task(self.lease.keep())
+        keeping, auditing = asyncio.create_task(self.lease.keep()), None
         try:
             await controller.follow(await self.journal.read())
+            controller.led_since = time.monotonic()
             await controller.lead()
             self.settings.log(f"leads at place {self.journal.place}")
+            auditing = asyncio.create_task(self.look_for_faults())
             while not keeping.done() and controller.lost is None:
                 await asyncio.wait([keeping], timeout=0.5)
                 await controller.refresh()
@@ -126,10 +148,25 @@ class Member:
             pass
         finally:
             keeping.cancel()
+            if auditing is not None:
+                auditing.cancel()
             self.past.led_since = None
             self.settings.log(f"rests at place {self.journal.place}: {controller.lost or 'the lease has ended'}")
             await controller.rest()
             await self.lease.leave()
+
+    async def look_for_faults(self) -> None:
+        """Looks at orders that their servers turned away, and audits one server after the other."""
+        assert self.controller is not None
+        while True:
+            await asyncio.sleep(AUDITING)
+            try:
+                for key, outgoing in list(self.controller.outgoing.items()):
+                    if key[0] == "order":
+                        await self.auditor.look_at(outgoing.message, outgoing.said)
+                await self.auditor.audit_next()
+            except SessionEnded:
+                return
 
     async def confirm(self) -> None:
         """Confirms a proposal as it stands, if this is left to the controllers. One that loses shards is an operator's to confirm."""
@@ -158,14 +195,31 @@ class Member:
             pass
 
     async def answer(self, message: Message) -> Message:
-        """Answers a server that asks for its slots."""
-        if not self.leads or "restore" not in message:
+        """Answers a server that asks for its slots, or whether it may serve."""
+        if self.controller is None or not self.leads or not self.lease.is_leader:
             raise Failed("NotLeader")
+        if "serve" in message:
+            return await self.let_serve(message["serve"]["server"])
         reply = await self.command({"do": "restore", **message["restore"]})
         if "restore" not in reply:
+            await self.look_at_asker(message["restore"]["server"])
             told = reply.get("refused") or reply.get("fault") or {}
             raise Failed("Refused", told.get("kind", "") if isinstance(told, dict) else str(told))
         return {"restore": to_wire(reply["restore"])}
+
+    async def let_serve(self, server: str) -> Message:
+        """Lets a server serve that is recorded and not given up, and tells it the last reopening in force."""
+        assert self.controller is not None
+        state = (await self.ask({"do": "state"})).get("state", {})
+        if not self.controller.given_up.may_serve(server, state) or not self.lease.is_leader:
+            raise Failed("GivenUp")
+        return {"serves": {}, "heard": {"journal": state["journal"], "base": state["fence"]}}
+
+    async def look_at_asker(self, server: str) -> None:
+        """Gives the alarm if a server asks for slots that is not recorded: it was given up, and is there again."""
+        state = (await self.ask({"do": "state"})).get("state", {})
+        if state.get("is") == "open" and all(it["server"] != server for it in state["servers"]):
+            self.alarms.give(server, "given up", "it was given up, and is there again: it asks for slots. End it, or take it in by a reopening")
 
     async def command(self, line: Line) -> Line:
         """Stores and feeds an operator's command, or tells that this one does not lead."""

@@ -1,6 +1,7 @@
 """What a controller's page shows."""
 from __future__ import annotations
 
+import time
 from pathlib import Path
 from typing import Any
 
@@ -64,6 +65,19 @@ def reopening_rows(state: Line) -> list[Line]:
     return [{"what": what, "names": ", ".join(names) or "none"} for what, names in rows]
 
 
+def waiting_rows(member: Member, state: Line) -> list[Line]:
+    """What the page tells of servers that are given up, and may serve yet."""
+    if member.controller is None:
+        return []
+    names, seconds = member.controller.may_still_serve(state)
+    return [{"what": f"Are given up, and may serve for {seconds:.1f} s yet unless they are off", "names": ", ".join(sorted(names))}] if names else []
+
+
+def alarm_rows(member: Member) -> list[Line]:
+    """What the page tells of what is wrong."""
+    return [{"about": it.about, "what": it.what, "text": it.text, "age": time.monotonic() - it.since} for it in member.alarms.now()]
+
+
 async def leader_of(member: Member) -> str | None:
     """Who leads, as etcd tells."""
     if member.leads:
@@ -85,7 +99,7 @@ async def figures_of(member: Member) -> Line:
         "terms": member.past.terms, "servers": server_rows(state), "shards": shard_rows(state), "plans": plan_rows(state),
         "restarts": restart_rows(state), "is": state.get("is", "new"),
         "counts": {} if controller is None else {**controller.counts, **member.journal.counts, **member.owner.counts},
-        "reopening": reopening_rows(state), "epoch": state.get("epoch"),
+        "reopening": reopening_rows(state) + waiting_rows(member, state), "epoch": state.get("epoch"), "alarms": alarm_rows(member), "given": member.alarms.given,
     }
     if leads:
         figures["orders"] = sorted(orders, key=lambda it: -it["age"])

@@ -82,6 +82,7 @@ class LossStory(ReopeningStory):
         """Kills a server at rest, and notes that it is given up."""
         if not await self.kill_at_rest(server, seconds):
             return False
+        self.off.add(server)
         self.note_lost(server)
         return True
 
@@ -160,6 +161,7 @@ class LossStory(ReopeningStory):
         self.give_up(server, await self.state())
         self.note_lost(server)
         await self.cluster.processes[server].kill()
+        self.off.add(server)
         self.counts["servers lost under load"] += 1
 
     def most_primaries(self, state: Line) -> str | None:

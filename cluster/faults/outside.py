@@ -1,28 +1,43 @@
-"""What the rules as they stand do not survive: a given-up server that goes on, a server or the journal that is rolled back, a disk that is replaced under a permit. The
-story tells what an audit says of it; the checkers count what it did."""
+"""What the rules do not survive: a given-up server that goes on, a server or the journal that is rolled back, a disk that is replaced under a permit. The story tells
+who gives the alarm, and after how long; the checkers count what was lost."""
 from __future__ import annotations
 
 import asyncio
 import shutil
 import signal
+import time
 
 from cluster.controllers.etcd import Etcd, end_of
-from cluster.controllers.fleet import from_wire
 from cluster.controllers.journal import PREFIX
 
 from .absences import AbsenceStory
 from .leaders import LeaderStory
 from .reopenings import without
 
-# How many lines of the journal are lost.
-LOST_LINES = 6
+# For how many seconds an alarm is waited for.
+TELLING = 10.0
 
 
 class OutsideStory(LeaderStory, AbsenceStory):
     """What happens outside the premises."""
 
+    async def wait_until_told(self, what: str, about: set[str]) -> None:
+        """Waits until some controller's page gives an alarm about one of these; tells which one, and after how long."""
+        begun = time.monotonic()
+        self.counts["faults outside the rules"] += 1
+        while time.monotonic() - begun < TELLING:
+            for name in self.operator.pages:
+                page = await self.operator.post(name, "/state", None) or {}
+                for alarm in page.get("alarms", []):
+                    if alarm["about"] in about:
+                        self.tell(f"{what}: told after {time.monotonic() - begun:.1f} s, by {name}: {alarm['about']} {alarm['what']}: {alarm['text']}")
+                        self.counts["faults that a page told"] += 1
+                        return
+            await asyncio.sleep(0.1)
+        self.tell(f"{what}: nobody told in {TELLING:.0f} s")
+
     async def return_given_up(self) -> None:
-        """Stops a server, gives it up, reopens without it, and lets it go on: it serves whoever comes to it."""
+        """Stops a server, gives it up, reopens without it, and lets it go on, as it was: it does not know."""
         async with self.restarting, self.reopening:
             if not await self.may_lose():
                 return
@@ -39,13 +54,33 @@ class OutsideStory(LeaderStory, AbsenceStory):
             self.cluster.processes[name].signal_group(signal.SIGCONT)
             self.tell(f"{name}, which was given up, goes on")
             self.counts["given-up servers that went on"] += 1
-            await asyncio.sleep(5.0)
+            await self.wait_until_told(f"{name} was given up, and goes on", {name})
+            await self.cluster.processes[name].kill()
+
+    async def give_up_isolated(self, seconds: float = 4.0) -> None:
+        """Cuts a server off from all but clients, gives it up, reopens without it, and then lets it speak with the others again."""
+        async with self.restarting, self.reopening:
+            if not await self.may_lose():
+                return
+            state = await self.state()
+            name = self.most_primaries(state)
+            if name is None:
+                return
+            self.tell(f"{name} is cut off from all but clients, and given up")
+            self.give_up(name, state)
+            self.note_lost(name)
+            async with self.cut(f"peer {name} ", f"ask {name} ", *self.orders_to(name), *(f"peer {it} {name}" for it in self.alive)):
+                await self.reopen(without(state, self.document, self.lost), [name], f"{name} does not answer")
+                await asyncio.sleep(seconds)
+            self.tell(f"{name}, which was given up, is in reach again")
+            self.counts["given-up servers that went on"] += 1
+            await self.wait_until_told(f"{name} was given up, and is in reach again", {name})
             await self.cluster.processes[name].kill()
 
     async def roll_back(self, seconds: float = 4.0) -> None:
         """Puts an older copy of a server's disk in place of what it has."""
         async with self.restarting:
-            name = self.dice.choice(self.alive)
+            name = self.most_primaries(await self.state()) or self.dice.choice(self.alive)
             folder = self.cluster.directory / name
             copy = self.cluster.directory / "copies" / name
             shutil.copytree(folder, copy, ignore=shutil.ignore_patterns("*.sock"))
@@ -57,7 +92,7 @@ class OutsideStory(LeaderStory, AbsenceStory):
             self.tell(f"{name} is rolled back by {seconds:g} s")
             await self.cluster.processes[name].start()
             self.counts["servers rolled back"] += 1
-            await self.tell_audit(name)
+            await self.wait_until_told(f"{name} is rolled back", {name})
 
     async def replace_disk_under_permit(self) -> None:
         """Replaces the disk of a server that is down under a permit: it gets its slots back, and has no data."""
@@ -74,29 +109,53 @@ class OutsideStory(LeaderStory, AbsenceStory):
             self.counts["disks replaced under a permit"] += 1
             if await self.is_up(name, permit):
                 self.note_permit(name, False)
-            await self.tell_audit(name)
+            await self.wait_until_told(f"{name} has its slots, and no data", {name})
 
-    async def lose_tail_of_journal(self) -> None:
-        """Deletes the last lines of the journal, as a backup of etcd that is put back does, and kills the leader."""
+    # The journal.
+
+    async def restore_etcd(self) -> None:
+        """Puts a backup of etcd in place of what it has, while controllers run."""
+        lines = await self.roll_back_etcd()
+        await self.wait_until_told(f"{lines} lines of the journal are lost", {"the journal", *self.alive})
+
+    async def restore_etcd_alone(self) -> None:
+        """Puts a backup of etcd in place of what it has, and starts all controllers anew: none knows the lines that are lost."""
+        names = self.cluster.shape.controller_names
+        lines = await self.roll_back_etcd(tuple(names))
+        await self.wait_until_told(f"{lines} lines of the journal are lost, which no controller knows", {"the journal", *self.alive})
+
+    async def roll_back_etcd(self, controllers: tuple[str, ...] = (), seconds: float = 3.0) -> int:
+        """Makes a backup of etcd, and puts it back after some seconds, while these controllers are down; how many lines of the journal are lost."""
+        members = [name for name, _ in self.cluster.members]
+        backups = self.cluster.directory / "backups"
+        await self.stop_etcd(members)
+        for name in members:
+            shutil.copytree(self.cluster.directory / name, backups / name)
+        await self.cluster.processes.start(*members)
+        await asyncio.sleep(seconds)
+        before = await self.count_lines()
+        await asyncio.gather(*(self.cluster.processes[it].kill() for it in controllers))
+        await self.stop_etcd(members)
+        for name in members:
+            shutil.rmtree(self.cluster.directory / name)
+            (backups / name).rename(self.cluster.directory / name)
+        await self.cluster.processes.start(*members)
+        lines = before - await self.count_lines()
+        self.tell(f"a backup of etcd is put back: {lines} lines of the journal are lost")
+        await self.cluster.processes.start(*controllers)
+        self.counts["backups of etcd put back"] += 1
+        self.counts["lines of the journal lost"] += lines
+        return lines
+
+    async def stop_etcd(self, members: list[str]) -> None:
+        """Ends all members of etcd."""
+        await asyncio.gather(*(self.cluster.processes[it].kill() for it in members))
+
+    async def count_lines(self) -> int:
+        """How many lines the journal has in etcd."""
         etcd = Etcd([("127.0.0.1", port) for _, port in self.cluster.members], timeout=3.0)
-        keys, after = [], PREFIX
+        count, after = 0, PREFIX
         while found := await etcd.range(after, end_of(PREFIX), limit=500):
-            keys += [it.key for it in found]
-            after = found[-1].key + "0"
-        await etcd.delete(keys[-LOST_LINES], keys[-1] + "0")
+            count, after = count + len(found), found[-1].key + "0"
         await etcd.close()
-        self.tell(f"the last {LOST_LINES} of {len(keys)} lines of the journal are lost")
-        self.counts["times the journal lost its tail"] += 1
-        await self.kill_at_once()
-        for name in self.alive:
-            await self.tell_audit(name)
-
-    async def tell_audit(self, name: str) -> None:
-        """Tells what the record says to the slots of a server."""
-        told = (await self.tell_server(name, audit={})).get("audit")
-        place = (await self.operator.ask({"do": "state"})).get("state", {}).get("place")
-        if told is None or place is None:
-            return
-        slots = [from_wire(it) for it in told["slots"]]
-        audit = (await self.operator.ask({"do": "audit", "server": name, "place": place, "slots": slots})).get("audit", {})
-        self.tell(f"the audit of {name} says that it {audit.get('is')}: {str(audit)[:160]}")
+        return count

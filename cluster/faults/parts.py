@@ -20,7 +20,7 @@ OTHERS = ("break_following", "hand_over_unheard", "forget_twice")
 # A server, or its disk, is given up. Before that each shard has all its replicas, with all writes: the rules keep what was acknowledged.
 LOSSES = ("lose_server", "lose_lagging", "lose_behind_cut", "lose_beside_restart", "replace_disk")
 # What the rules as they stand do not survive: never drawn. A run has them if they are named.
-OUTSIDE = ("return_given_up", "roll_back", "replace_disk_under_permit", "lose_tail_of_journal")
+OUTSIDE = ("return_given_up", "give_up_isolated", "roll_back", "replace_disk_under_permit", "restore_etcd", "restore_etcd_alone")
 EVERY = (*(name for name, _ in USUAL), *AWAY, *REOPENINGS, *OTHERS, *LOSSES)
 
 

@@ -48,6 +48,8 @@ class ReopeningStory(Story):
             base = await self.begin_reopening(line) or base
         if base is None:
             return False
+        if self.cluster.lease and self.off.intersection(lost):
+            await self.operator.tell_off(sorted(self.off.intersection(lost)))
         begun = time.monotonic()
         while time.monotonic() - begun < self.operator.patience:
             state = (await self.operator.ask({"do": "state"})).get("state", {})
@@ -68,9 +70,10 @@ class ReopeningStory(Story):
         reopening = state.get("reopening") or {}
         if reopening.get("is") == "confirm":
             told = {"still down": reopening["waiting"], "lost": reopening["proposal"]["lost"]}
-            self.tell("confirmed by hand" + "".join(f"; {what}: {', '.join(names)}" for what, names in told.items() if names))
-            await self.operator.do({"do": "confirm", "base": reopening["base"]})
-            self.counts["reopenings confirmed by hand"] += 1
+            reply = await self.operator.do({"do": "confirm", "base": reopening["base"]})
+            if "fault" not in reply:
+                self.tell("confirmed by hand" + "".join(f"; {what}: {', '.join(names)}" for what, names in told.items() if names))
+                self.counts["reopenings confirmed by hand"] += 1
 
     async def wait_until_fenced(self, server: str | None, seconds: float = 8.0) -> bool:
         """Waits until a server, or the map's owner, has told what it has in a reopening."""

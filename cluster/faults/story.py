@@ -28,6 +28,8 @@ class Story:
         # When leaders were killed.
         self.deaths: list[int] = []
         self.lost: set[str] = set()
+        # Those of them that were killed: the operator knows that they are off.
+        self.off: set[str] = set()
         # The shards that a server had, or was to take, which was lost, and since when.
         self.forsaken: dict[str, int] = {}
         # When servers went down under a permit, came up or were given up, for the checkers.

@@ -63,8 +63,8 @@ class LocalCluster:
     """All processes of a cluster but the clients, by their names: servers `a`, `b`, .., controllers `k0`, .., members `etcd-0`, ..."""
 
     def __init__(self, directory: Path, shape: Shape, program: str, rates: dict = CALM, bugs: tuple[str, ...] = (),
-                 servers: str = "cluster.servers", pause: float = 0.01) -> None:
-        self.directory, self.shape, self.program, self.bugs, self.server_module, self.pause = directory, shape, program, bugs, servers, pause
+                 servers: str = "cluster.servers", pause: float = 0.01, lease: float = 0.0) -> None:
+        self.directory, self.shape, self.program, self.bugs, self.server_module, self.pause, self.lease = directory, shape, program, bugs, servers, pause, lease
         # The file that names the shards that are being moved.
         self.moving = directory / "moving"
         self.processes = Processes(directory / "logs", Nursery([*PYTHON, "cluster.launch.nursery"], ENVIRONMENT))
@@ -98,7 +98,7 @@ class LocalCluster:
         asks = {name: f"127.0.0.1:{port}" if direct else link(f"ask {who} {name}", "lines", port) for name, port in self.asks.items()}
         etcd = [f"http://127.0.0.1:{port}" if direct else "http://" + link(f"etcd {who} {name}", "http", port) for name, port in self.members]
         file = self.directory / f"cluster-{who}.json"
-        file.write_text(json.dumps({"servers": servers, "controllers": asks, "etcd": etcd, "map_prefix": "/map/", "map_file": None}, indent=1))
+        file.write_text(json.dumps({"servers": servers, "controllers": asks, "etcd": etcd, "map_prefix": "/map/", "map_file": None, "lease": self.lease}, indent=1))
         return file
 
     def add_server(self, name: str) -> None:

@@ -79,6 +79,10 @@ class Operator:
             return None if leader is None else await self.post(leader, "/do", line, self.patience / 4)
         return await self.until_answered(post, "reopen")
 
+    async def tell_off(self, servers: list[str]) -> None:
+        """Tells the leader that servers are off."""
+        await self.do({"servers": servers}, path="/off")
+
     async def ask(self, line: Line) -> Line:
         """Asks the controller that led last, or any that answers."""
         for _ in range(2 * len(self.pages)):

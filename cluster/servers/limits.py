@@ -17,6 +17,8 @@ STEP = 3.0
 # How often an Unknown server asks for its slots, and a source looks after followers that are gone.
 ASKING = 0.7
 PROBING = 2.0
+# For how long a source tells that a follower had more writes than it has.
+TELLING = 30.0
 # After a copy that broke off or was refused, a follower rests so long before it asks for another one, doubled each time up to the second.
 RESTING = 0.25
 RESTING_AT_MOST = 16.0

@@ -125,7 +125,7 @@ class Requests:
             if thinking := self.server.think(shard, how):
                 await asyncio.sleep(thinking)
             async with shard.lock:
-                if shard.term != term:
+                if shard.term != term or self.server.lease.is_over:
                     raise ErrorReply(f"TRYAGAIN {shard.name}")
                 reply = await self.execute(shard, identity, command, how)
             await self.server.sources.replicated(shard, shard.position, term)
@@ -192,9 +192,8 @@ class Requests:
     async def read(self, shard: Shard, command: tuple[str, ...], how: Request) -> bytes:
         """Executes a read; history has it with the next change."""
         word, key, *rest = command
-        reply = await self.redis.call(word, data_key(shard.name, key), *rest)
         self.store.note("read", shard=shard.name, position=shard.position, command=command, passed=bool(how.is_passed))
-        return encode_reply(reply)
+        return encode_reply(await self.redis.call(word, data_key(shard.name, key), *rest))
 
     # -- passing on
 

@@ -240,9 +240,15 @@ class Server:
         base, slots = self.store.base, []
         for shard in self.store.shards.values():
             if base.known and (shard.slot.cell != Cell.ABSENT or shard.slot.last > base.number):
-                slots.append(self.reopenings.slot_told(shard) | {"last": shard.slot.last, "chain": shard.chain})
+                slots.append(self.reopenings.slot_told(shard) | {"last": shard.slot.last, "chain": shard.chain} | self.lacking(shard))
         return {"audit": {"server": self.name, "journal": hexadecimal(base.journal), "base": base.number, "known": bool(base.known),
                           "fenced": bool(base.fenced), "slots": slots}}
+
+    @staticmethod
+    def lacking(shard: Shard) -> Message:
+        """How many writes more another server had that came to follow it a moment ago, if it had more."""
+        count, name, at = shard.lacking
+        return {"lacks": count, "of": name} if count and time.monotonic() - at < limits.TELLING else {}
 
     async def status(self, _: Message) -> Message:
         """Tells what is going on."""

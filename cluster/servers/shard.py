@@ -87,6 +87,8 @@ class Shard:
     copies_failed: int = 0
     refusal: str = ""
     next_copy: float = 0.0
+    # (at the source: how many writes more a follower had, whose these are, and when it came)
+    lacking: tuple[int, str, float] = (0, "", 0.0)
     # (at the source: the bytes of a value that was too large, and until when no copy is made)
     too_large: tuple[int, float] = (0, 0.0)
 

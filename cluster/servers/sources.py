@@ -86,6 +86,8 @@ class Sources:
             if shard.slot.cell == Cell.FORWARDING and name != party:
                 writer.write(line_of({"moved": {"to": party}}))
                 return None
+            if ask["position"] > shard.position:
+                shard.lacking = (ask["position"] - shard.position, name, time.monotonic())
             tail = await self.store.tail_after(shard, ask["position"], ask["chain"])
             if tail is None and time.monotonic() < shard.too_large[1]:
                 writer.write(line_of(self.too_large(shard)))
