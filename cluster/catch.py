@@ -76,7 +76,7 @@ async def first_violation(bug: str, seed: int, told: argparse.Namespace) -> str 
     parts = storm_of(seed) if told.storm else of_rule(RULE_OF[bug], seed) if bug in RULE_OF else PARTS_OF.get(bug, PARTS)
     settings = Settings(directory, shape, program_of(told.program), told.seconds, RATES_OF.get(recipe, ROUGH), parts, () if told.sound else (bug,),
                         WORKERS_OF.get(recipe, 3), MOVES_OF.get(recipe, 4), pause=told.pause, is_quiet=True, swaps=SWAPS_OF.get(recipe, 0.2), is_busy=told.busy,
-                        ending=25.0, patience=40.0, lease=told.lease)
+                        ending=25.0, patience=40.0, lease=told.lease, store=told.store)
     try:
         result = await Run(settings).run()
         found = most_telling(result.verdict.faults)

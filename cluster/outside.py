@@ -40,7 +40,7 @@ def run_once(part: str, told: argparse.Namespace) -> Told:
     directory = new_directory(f"outside-{part}-", told.dir)
     lease = told.lease if part in LEASED else 0.0
     settings = Settings(directory, shape_of(told, told.seed), program_of(told.program), told.seconds, ROUGH, ((0.2, part),), pause=told.pause, is_busy=True,
-                        ending=ENDING, patience=PATIENCE, lease=lease)
+                        ending=ENDING, patience=PATIENCE, lease=lease, store=told.store)
     print(f"-- {part}{f', with a lease of {lease:g} s' if lease else ''}", flush=True)
     try:
         result = asyncio.run(Run(settings).run())

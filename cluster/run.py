@@ -79,6 +79,8 @@ class Settings:
     patience: float | None = None
     # For how many seconds a server serves without a controller's answer; 0: for ever.
     lease: float = 0.0
+    # What servers keep their data in.
+    store: str = "redis"
 
 
 @dataclass
@@ -109,7 +111,7 @@ class Run:
         self.settings = settings
         self.begun = time.monotonic()
         self.cluster = LocalCluster(settings.directory, settings.shape, settings.program, settings.rates, settings.bugs, pause=settings.pause,
-                                    lease=settings.lease)
+                                    lease=settings.lease, store=settings.store)
         self.operator = Operator(self.cluster.pages, settings.patience or (240.0 if settings.is_busy else 90.0))
         self.mover = Mover(self.operator, settings.shape.seed, settings.swaps)
         self.story = HandoverStory(self.cluster, self.operator, self.mover, settings.shape.seed, self.tell)
@@ -303,6 +305,7 @@ def add_load(parser: argparse.ArgumentParser) -> None:
                         help="how many clients ask for these at times of their own, answered or not (default %(default)s)")
     parser.add_argument("--largest", type=int, default=200_000, metavar="BYTES",
                         help="how many bytes the largest shard has, the next one a third of that, and so on (default %(default)s)")
+    parser.add_argument("--store", choices=("redis", "sqlite"), default="redis", help="what servers keep their data in (default %(default)s)")
     parser.add_argument("--lease", type=float, default=0.0, metavar="SECONDS",
                         help="have a server serve nobody once no controller has answered it for so long (default: it serves on)")
     parser.add_argument("--busy", action="store_true", help="the machine has other work: waits are longer, and slow requests are no violations")
@@ -358,7 +361,7 @@ def main() -> int:
     directory = new_directory("cluster-", told.dir)
     shape = shape_of(told, told.seed)
     settings = Settings(directory, shape, program_of(told.program), told.seconds, CALM if told.calm else ROUGH, told.parts, tuple(told.bug),
-                        pause=told.pause, is_busy=told.busy, lease=told.lease)
+                        pause=told.pause, is_busy=told.busy, lease=told.lease, store=told.store)
     try:
         result = asyncio.run(Run(settings).run())
         print(report(result, told.details))

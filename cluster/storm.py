@@ -80,7 +80,7 @@ class Storm:
         shape = shape_of(told, seed)
         rates = CALM if told.calm else ROUGH
         settings = Settings(directory, shape, program_of(told.program), told.seconds, rates, storm_of(seed), tuple(told.bug), pause=told.pause,
-                            is_quiet=True, is_busy=told.busy, lease=told.lease)
+                            is_quiet=True, is_busy=told.busy, lease=told.lease, store=told.store)
         try:
             async with asyncio.timeout(LONGEST + told.seconds):
                 result = await Run(settings).run()

@@ -22,7 +22,7 @@ from .map_owner import MapOwner
 
 
 # How many seconds a controller that leads rests between two audits.
-AUDITING = 0.7
+AUDITING = 0.5
 
 
 @dataclass(frozen=True)

@@ -77,10 +77,10 @@ class AbsenceStory(ServerStory, LossStory):
             os.kill(pid, number)
 
     def stores(self, name: str) -> list[int]:
-        """The process ids of a server's store."""
+        """The process ids of a server's store: SQLite is in its own process."""
         running = self.cluster.processes[name].running
-        if running is None:
-            return []
+        if running is None or self.cluster.store == "sqlite":
+            return [] if running is None else [running.pid]
         listed = subprocess.run(["ps", "-o", "pid=", "--ppid", str(running.pid)], stdout=subprocess.PIPE, text=True, check=False)
         return [int(it) for it in listed.stdout.split()]
 
@@ -108,8 +108,7 @@ class AbsenceStory(ServerStory, LossStory):
         """Lets the files of a server's store grow no more. The store ends, and the server with it; then it starts again with what it has."""
         async with self.restarting:
             name = self.dice.choice(self.alive)
-            folder = self.cluster.directory / name / "appendonlydir"
-            largest = max(it.stat().st_size for it in folder.iterdir())
+            largest = max(it.stat().st_size for it in (self.cluster.directory / name).rglob("*"))
             self.tell(f"the disk of {name} is full")
             for pid in self.stores(name):
                 subprocess.run(["prlimit", "--pid", str(pid), f"--fsize={largest + LAST_BYTES}:"], check=False)

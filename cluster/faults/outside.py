@@ -16,6 +16,8 @@ from .reopenings import without
 
 # For how many seconds an alarm is waited for.
 TELLING = 10.0
+# How many lines of the journal are lost at least.
+LINES = 6
 
 
 class OutsideStory(LeaderStory, AbsenceStory):
@@ -83,7 +85,9 @@ class OutsideStory(LeaderStory, AbsenceStory):
             name = self.most_primaries(await self.state()) or self.dice.choice(self.alive)
             folder = self.cluster.directory / name
             copy = self.cluster.directory / "copies" / name
+            self.cluster.processes[name].signal_group(signal.SIGSTOP)
             shutil.copytree(folder, copy, ignore=shutil.ignore_patterns("*.sock"))
+            self.cluster.processes[name].signal_group(signal.SIGCONT)
             await asyncio.sleep(seconds)
             await self.cluster.processes[name].kill()
             self.keep_old(name)
@@ -124,16 +128,17 @@ class OutsideStory(LeaderStory, AbsenceStory):
         lines = await self.roll_back_etcd(tuple(names))
         await self.wait_until_told(f"{lines} lines of the journal are lost, which no controller knows", {"the journal", *self.alive})
 
-    async def roll_back_etcd(self, controllers: tuple[str, ...] = (), seconds: float = 3.0) -> int:
-        """Makes a backup of etcd, and puts it back after some seconds, while these controllers are down; how many lines of the journal are lost."""
+    async def roll_back_etcd(self, controllers: tuple[str, ...] = ()) -> int:
+        """Makes a backup of etcd, and puts it back once there are some lines more, while these controllers are down; how many lines of the journal are lost."""
         members = [name for name, _ in self.cluster.members]
         backups = self.cluster.directory / "backups"
         await self.stop_etcd(members)
         for name in members:
             shutil.copytree(self.cluster.directory / name, backups / name)
         await self.cluster.processes.start(*members)
-        await asyncio.sleep(seconds)
-        before = await self.count_lines()
+        first, until = await self.count_lines(), time.monotonic() + self.operator.patience
+        while (before := await self.count_lines()) < first + LINES and time.monotonic() < until:
+            await asyncio.sleep(0.2)
         await asyncio.gather(*(self.cluster.processes[it].kill() for it in controllers))
         await self.stop_etcd(members)
         for name in members:
@@ -154,8 +159,10 @@ class OutsideStory(LeaderStory, AbsenceStory):
     async def count_lines(self) -> int:
         """How many lines the journal has in etcd."""
         etcd = Etcd([("127.0.0.1", port) for _, port in self.cluster.members], timeout=3.0)
-        count, after = 0, PREFIX
-        while found := await etcd.range(after, end_of(PREFIX), limit=500):
-            count, after = count + len(found), found[-1].key + "0"
-        await etcd.close()
-        return count
+        try:
+            count, after = 0, PREFIX
+            while found := await etcd.range(after, end_of(PREFIX), limit=500):
+                count, after = count + len(found), found[-1].key + "0"
+            return count
+        finally:
+            await etcd.close()

@@ -8,7 +8,8 @@ from pathlib import Path
 from ..wire import LONGEST_LINE, Cluster, listen
 from .bugs import BUGS
 from .server import Server
-from .store import Store, open_redis, start_redis
+from .engines import REDIS, SQLITE, open_store
+from .store import Store
 
 
 def arguments() -> argparse.Namespace:
@@ -16,7 +17,8 @@ def arguments() -> argparse.Namespace:
     parser = argparse.ArgumentParser(prog="cluster.servers", description="A server of the cluster.")
     parser.add_argument("--name", required=True)
     parser.add_argument("--cluster", required=True, help="where everybody is")
-    parser.add_argument("--dir", required=True, type=Path, help="where its redis-server keeps its data")
+    parser.add_argument("--dir", required=True, type=Path, help="where its store keeps its data")
+    parser.add_argument("--store", choices=(REDIS, SQLITE), default=REDIS, help="a redis-server of its own (the default), or SQLite")
     for port in ("control", "clients", "peers"):
         parser.add_argument(f"--listen-{port}", type=int, help="a port instead of that of the cluster's file")
     parser.add_argument("--lose-slots", action="store_true", help="begin as Unknown, with the data")
@@ -30,8 +32,8 @@ async def main() -> None:
     """Starts the server and serves until the process is ended."""
     told = arguments()
     told.dir.mkdir(parents=True, exist_ok=True)
-    child = start_redis(told.dir)
-    store = Store(await open_redis(told.dir))
+    engine, end = await open_store(told.store, told.dir)
+    store = Store(engine)
     await store.load()
     cluster = Cluster.read(told.cluster)
     server = Server(told.name, cluster, store, told.bug, told.think, told.lag)
@@ -43,7 +45,7 @@ async def main() -> None:
     await asyncio.start_server(server.requests.serve, host, ports["clients"], limit=1 << 26)
     await asyncio.start_server(server.serve_peer, host, ports["peers"], limit=LONGEST_LINE)
     print("ready", flush=True)
-    server.fail(ConnectionError(f"redis-server ended: {await asyncio.to_thread(child.wait)}"))
+    server.fail(ConnectionError(await end))
 
 
 if __name__ == "__main__":

@@ -47,7 +47,7 @@ class Requests:
     """The clients' side of a server."""
 
     def __init__(self, server: "Server") -> None:
-        self.server, self.store, self.redis = server, server.store, server.store.redis
+        self.server, self.store, self.engine = server, server.store, server.store.engine
 
     # -- connections
 
@@ -161,8 +161,8 @@ class Requests:
         """Executes a request once. The shard's lock is held."""
         if command[0] in READS:
             return await self.read(shard, command, how)
-        known = self.redis.send("HGET", f"done:{shard.name}", identity) if identity is not None else None
-        before = None if command[0] == "SET" else self.redis.send(WRITES[command[0]], data_key(shard.name, command[1]))
+        known = self.engine.send("HGET", f"done:{shard.name}", identity) if identity is not None else None
+        before = None if command[0] == "SET" else self.engine.send(WRITES[command[0]], data_key(shard.name, command[1]))
         done = None if known is None else answered(await known)
         if done is not None:
             return done
@@ -193,7 +193,7 @@ class Requests:
         """Executes a read; history has it with the next change."""
         word, key, *rest = command
         self.store.note("read", shard=shard.name, position=shard.position, command=command, passed=bool(how.is_passed))
-        return encode_reply(await self.redis.call(word, data_key(shard.name, key), *rest))
+        return encode_reply(await self.engine.call(word, data_key(shard.name, key), *rest))
 
     # -- passing on
 

@@ -1,4 +1,4 @@
-"""What a server keeps in its redis-server. All that belongs together changes in one MULTI, with a line of history.
+"""What a server keeps in its store (engines.py). All that belongs together changes in one transaction, with a line of history.
 
     base          the base, as JSON            slots, mark, members, old_owner    by shard
     opened        the number of the reopening by which it has its slots
@@ -11,65 +11,22 @@ from __future__ import annotations
 
 import asyncio
 import base64
-import ctypes
-import fcntl
 import json
-import os
-import signal
-import subprocess
 import time
 from dataclasses import astuple, dataclass, field
-from pathlib import Path
 from typing import AsyncIterator, Callable, Iterable
 
 from smplan.agent import Base, Slot
 
-from ..resp import ErrorReply, Part, Redis
+from ..resp import ErrorReply, Part
 from ..wire import text_of
 from . import agent, limits
+from .engines import Engine
 from .shard import Entry, Event, Shard
 
 Command = tuple[Part, ...]
 # How many of a shard's writes are kept for servers that follow it; who lacks more copies the shard.
 LONGEST_TAIL = 2000
-
-
-def die_with_parent() -> None:
-    """In the child: ends it when its parent ends (PR_SET_PDEATHSIG)."""
-    ctypes.CDLL(None).prctl(1, signal.SIGKILL)
-
-
-def start_redis(folder: Path) -> "subprocess.Popen[bytes]":
-    """Starts the redis-server of a folder, once nobody else has it. It ends with this process, however this process
-    ends."""
-    lock = os.open(folder / "lock", os.O_RDWR | os.O_CREAT)
-    fcntl.flock(lock, fcntl.LOCK_EX)
-    (folder / "redis.sock").unlink(missing_ok=True)
-    command = ["redis-server", "--port", "0", "--unixsocket", "redis.sock", "--appendonly", "yes", "--appendfsync", "always",
-               "--save", "", "--auto-aof-rewrite-percentage", "0", "--logfile", "redis.log"]
-    # (the child keeps the lock: who starts next waits until it has ended)
-    child = subprocess.Popen(command, cwd=folder, preexec_fn=die_with_parent, stdout=subprocess.DEVNULL, pass_fds=(lock,))
-    os.close(lock)
-    return child
-
-
-async def open_redis(folder: Path, seconds: float = 20) -> Redis:
-    """Connects to the redis-server of a folder once it has read its data."""
-    deadline = time.monotonic() + seconds
-    # (a unix socket's path is short, and a folder's may not be)
-    path = os.path.relpath(folder / "redis.sock")
-    while True:
-        redis = None
-        try:
-            redis = await Redis.open(path)
-            await redis.call("PING")
-            return redis
-        except (OSError, ErrorReply):  # (refused, or the data is being read)
-            if redis is not None:
-                redis.close()
-            if time.monotonic() > deadline:
-                raise
-            await asyncio.sleep(0.05)
 
 
 def data_key(shard: str, key: str) -> bytes:
@@ -108,8 +65,8 @@ class TooLarge(Exception):
 class Store:
     """The stored state, and a copy of it in memory that is changed when it is stored."""
 
-    def __init__(self, redis: Redis) -> None:
-        self.redis = redis
+    def __init__(self, engine: Engine) -> None:
+        self.engine = engine
         self.base = Base()
         # The number of the reopening by which it has its slots.
         self.opened = 0
@@ -120,9 +77,9 @@ class Store:
 
     async def load(self) -> None:
         """Reads what is stored."""
-        base = await self.redis.call("GET", "base")
+        base = await self.engine.call("GET", "base")
         self.base = Base(*json.loads(base)) if base else Base()
-        self.opened = int(await self.redis.call("GET", "opened") or 0)
+        self.opened = int(await self.engine.call("GET", "opened") or 0)
         for name, text in await self.hash("slots"):
             self.shard(name).slot = Slot(*json.loads(text))
         for name, text in await self.hash("mark"):
@@ -134,7 +91,7 @@ class Store:
 
     async def hash(self, key: str) -> list[tuple[str, bytes]]:
         """The pairs of a hash."""
-        flat = await self.redis.call("HGETALL", key)
+        flat = await self.engine.call("HGETALL", key)
         return [(flat[it].decode("latin-1"), flat[it + 1]) for it in range(0, len(flat), 2)]
 
     def shard(self, name: str) -> Shard:
@@ -159,7 +116,7 @@ class Store:
         lines = [text_of(it) for it in noted]
         history = [("RPUSH", "history", *lines)] if lines else []
         try:
-            await self.redis.transaction([*commands, *history])
+            await self.engine.transaction([*commands, *history])
         except (OSError, ErrorReply) as error:
             self.fail(error)
             raise
@@ -210,7 +167,7 @@ class Store:
 
     async def data_keys(self, shard: str) -> list[str]:
         """The keys of a shard."""
-        return [it.decode("latin-1") for it in await self.redis.call("SMEMBERS", f"keys:{shard}")]
+        return [it.decode("latin-1") for it in await self.engine.call("SMEMBERS", f"keys:{shard}")]
 
     async def delete_commands(self, shard: str) -> list[Command]:
         """Deletes a shard's data; the slot stays."""
@@ -222,7 +179,7 @@ class Store:
 
     async def last_writes(self, shard: str) -> list[str]:
         """Some of the last writes, which go with a copy: who follows the copy's owner later may lack them."""
-        texts = [it.decode() for it in await self.redis.call("LRANGE", f"tail:{shard}", -limits.KEPT, -1)]
+        texts = [it.decode() for it in await self.engine.call("LRANGE", f"tail:{shard}", -limits.KEPT, -1)]
         size, first = 0, len(texts)
         while first and (size := size + len(texts[first - 1])) <= limits.KEPT_BYTES:
             first -= 1
@@ -233,10 +190,10 @@ class Store:
         replies. Raises EOFError if the shard is deleted meanwhile, and TooLarge if a value is."""
         piece, size = {}, 0
         for key in await self.data_keys(shard):
-            used = await self.redis.call("MEMORY", "USAGE", data_key(shard, key))
+            used = await self.engine.call("MEMORY", "USAGE", data_key(shard, key))
             if (used or 0) > limits.LARGEST_VALUE:
                 raise TooLarge(used)
-            mark, dump = await self.redis.transaction([("HGET", "mark", shard), ("DUMP", data_key(shard, key))])
+            mark, dump = await self.engine.transaction([("HGET", "mark", shard), ("DUMP", data_key(shard, key))])
             if mark is None:
                 raise EOFError
             piece[key] = [json.loads(mark)[0], None if dump is None else base64.b64encode(dump).decode()]
@@ -247,14 +204,14 @@ class Store:
         yield {"keys": piece}
         cursor: bytes | None = None
         while cursor != b"0":
-            cursor, flat = await self.redis.call("HSCAN", f"done:{shard}", cursor or 0, "COUNT", 1000)
+            cursor, flat = await self.engine.call("HSCAN", f"done:{shard}", cursor or 0, "COUNT", 1000)
             yield {"done": {flat[it].decode("latin-1"): flat[it + 1].decode("latin-1") for it in range(0, len(flat), 2)}}
 
     # -- copies: at the follower
 
     async def forget_copy_commands(self, shard: str) -> list[Command]:
         """Deletes what has come of a copy."""
-        keys = [it.decode("latin-1") for it in await self.redis.call("SMEMBERS", f"copied:{shard}")]
+        keys = [it.decode("latin-1") for it in await self.engine.call("SMEMBERS", f"copied:{shard}")]
         return [("UNLINK", f"copied:{shard}", f"answered:{shard}", *(new_key(shard, it) for it in keys))]
 
     async def keep_piece(self, shard: str, piece: dict, copying: Copying) -> None:
@@ -289,7 +246,7 @@ class Store:
             return None
         if position >= shard.position:
             return [] if (position, chain) == (shard.position, shard.chain) else None
-        texts = await self.redis.call("LRANGE", f"tail:{shard.name}", -(shard.position - position) - 1, -1)
+        texts = await self.engine.call("LRANGE", f"tail:{shard.name}", -(shard.position - position) - 1, -1)
         entries = [Entry.of(it.decode()) for it in texts]
         if not entries or entries[-1].position != shard.position:
             return None

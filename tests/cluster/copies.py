@@ -13,7 +13,7 @@ import time
 from scripted import Scripted
 
 from cluster.resp import ErrorReply, Redis
-from cluster.servers.store import open_redis
+from cluster.servers.engines import open_redis
 from cluster.wire import Failed
 
 # How many bytes each text of the shard has, and how many there are; and the end of a value that no line takes.

@@ -37,8 +37,8 @@ def free_ports(count: int) -> list[int]:
 class Scripted:
     """Some servers, and who tells them what to do."""
 
-    def __init__(self, names: str, bug: str | None = None, think: float = 0.0, lag: float = 0.0) -> None:
-        self.names, self.bug, self.think, self.lag = list(names), bug, think, lag
+    def __init__(self, names: str, bug: str | None = None, think: float = 0.0, lag: float = 0.0, store: str = "redis") -> None:
+        self.names, self.bug, self.think, self.lag, self.store = list(names), bug, think, lag, store
         self.dir = Path(tempfile.mkdtemp(prefix="cluster-"))
         ports = iter(free_ports(3 * len(self.names) + 1))
         servers = {
@@ -76,7 +76,7 @@ class Scripted:
         for name in names or self.names:
             command = [sys.executable, "-m", "cluster.servers", "--name", name, "--cluster", str(self.file), "--dir", str(self.dir / name)]
             command += ["--bug", self.bug] if self.bug else []
-            command += ["--think", str(self.think)] if self.think else []
+            command += ["--store", self.store, *(["--think", str(self.think)] if self.think else [])]
             command += ["--lag", str(self.lag)] if self.lag else []
             command += ["--lose-slots"] if loses_slots else []
             environment = os.environ | {"PYTHONPATH": f"{ROOT / 'python'}:{ROOT}"}

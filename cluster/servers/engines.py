@@ -1,0 +1,73 @@
+"""The stores that a server may have: a redis-server of its own, or SQLite in its own process. Both take the commands of Redis."""
+from __future__ import annotations
+
+import asyncio
+import ctypes
+import fcntl
+import os
+import signal
+import subprocess
+import time
+from collections.abc import Awaitable
+from pathlib import Path
+
+from ..resp import ErrorReply, Redis
+from .sqlite import FILE, Sqlite
+
+Engine = Redis | Sqlite
+REDIS, SQLITE = "redis", "sqlite"
+
+
+async def open_store(kind: str, folder: Path) -> tuple[Engine, Awaitable[str]]:
+    """Opens the store of a folder; with it comes why it has ended, once it has."""
+    if kind == SQLITE:
+        return Sqlite(folder), asyncio.get_running_loop().create_future()
+    child = start_redis(folder)
+
+    async def end() -> str:
+        return f"redis-server ended: {await asyncio.to_thread(child.wait)}"
+
+    return await open_redis(folder), end()
+
+
+def kind_of(folder: Path) -> str:
+    """Which store a folder has."""
+    return SQLITE if (folder / FILE).exists() else REDIS
+
+
+def die_with_parent() -> None:
+    """In the child: ends it when its parent ends (PR_SET_PDEATHSIG)."""
+    ctypes.CDLL(None).prctl(1, signal.SIGKILL)
+
+
+def start_redis(folder: Path) -> "subprocess.Popen[bytes]":
+    """Starts the redis-server of a folder, once nobody else has it. It ends with this process, however this process
+    ends."""
+    lock = os.open(folder / "lock", os.O_RDWR | os.O_CREAT)
+    fcntl.flock(lock, fcntl.LOCK_EX)
+    (folder / "redis.sock").unlink(missing_ok=True)
+    command = ["redis-server", "--port", "0", "--unixsocket", "redis.sock", "--appendonly", "yes", "--appendfsync", "always",
+               "--save", "", "--auto-aof-rewrite-percentage", "0", "--logfile", "redis.log"]
+    # (the child keeps the lock: who starts next waits until it has ended)
+    child = subprocess.Popen(command, cwd=folder, preexec_fn=die_with_parent, stdout=subprocess.DEVNULL, pass_fds=(lock,))
+    os.close(lock)
+    return child
+
+
+async def open_redis(folder: Path, seconds: float = 20) -> Redis:
+    """Connects to the redis-server of a folder once it has read its data."""
+    deadline = time.monotonic() + seconds
+    # (a unix socket's path is short, and a folder's may not be)
+    path = os.path.relpath(folder / "redis.sock")
+    while True:
+        redis = None
+        try:
+            redis = await Redis.open(path)
+            await redis.call("PING")
+            return redis
+        except (OSError, ErrorReply):  # (refused, or the data is being read)
+            if redis is not None:
+                redis.close()
+            if time.monotonic() > deadline:
+                raise
+            await asyncio.sleep(0.05)
