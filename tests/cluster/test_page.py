@@ -2,6 +2,7 @@
 import unittest
 from types import SimpleNamespace
 
+from cluster.controllers.alarms import Alarms
 from cluster.controllers.page import figures_of, reopening_rows, shard_rows
 
 
@@ -22,8 +23,10 @@ class PageTest(unittest.IsolatedAsyncioTestCase):
             return SimpleNamespace(value="k1")
 
         order = SimpleNamespace(message={"call": "drop", "shard": "s", "server": "a", "number": 5}, age=1.0, tries=2, said="")
-        controller = SimpleNamespace(ask=ask, outgoing={("order", 5): order} if leads else {}, counts={})
-        member = SimpleNamespace(controller=controller, leads=leads, etcd=SimpleNamespace(get=get), settings=SimpleNamespace(name="k1" if leads else "k0"),
+        controller = SimpleNamespace(ask=ask, outgoing={("order", 5): order} if leads else {}, counts={}, may_still_serve=lambda state: ({"c"}, 1.5))
+        alarms = Alarms(lambda text: None)
+        alarms.give("b", "ahead", "it has done more")
+        member = SimpleNamespace(controller=controller, alarms=alarms, leads=leads, etcd=SimpleNamespace(get=get), settings=SimpleNamespace(name="k1" if leads else "k0"),
                                  journal=SimpleNamespace(place=9, counts={}), owner=SimpleNamespace(counts={}), past=SimpleNamespace(terms=1))
         return await figures_of(member)
 
@@ -31,6 +34,8 @@ class PageTest(unittest.IsolatedAsyncioTestCase):
         figures = await self.figures(True)
         self.assertEqual([(it["to"], it["what"]) for it in figures["orders"]], [("a", "drop s")])
         self.assertEqual(figures["summary"], "Epoch 3, line 9 of the journal, 1 message outstanding.")
+        self.assertEqual([(it["about"], it["what"]) for it in figures["alarms"]], [("b", "ahead")])
+        self.assertIn("may serve for 1.5 s", figures["reopening"][0]["what"])
 
     async def test_who_follows_does_not_say_that_nothing_is(self):
         figures = await self.figures(False)

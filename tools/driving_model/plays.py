@@ -8,6 +8,7 @@ from . import commands
 from .cells import ABSENT, GONE, Kind, Lead, PRIMARY, SECONDARY, Stage
 from .clients import Write
 from .laws import Violation
+from .leases import answer_that_comes_late, given_up_while_it_serves
 from .messages import Fence, MAP, Order, Restore, Settle
 from .plans import CellRight, Crown, CrownRight, RoomRight, add, change, drop, unlist
 from .play import Play
@@ -425,6 +426,9 @@ PLAYS = (
     Worked(server_of_a_replaced_document, "replaced_fenced"),
     Worked(crash_at_work, "work_abandoned"),
     Worked(restore_by_a_deposed_controller, "restore_whole_journal"),
+    Worked(given_up_while_it_serves, "lease_ends"),
+    Worked(given_up_while_it_serves, "lease_waited"),
+    Worked(answer_that_comes_late, "lease_from_asking"),
 )
 
 

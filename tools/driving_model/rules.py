@@ -103,6 +103,14 @@ class Rules:
     )
     carried_unsettled: bool = rule("A server is carried over only if no replaced reopening has sent it a settle.")
     carried_copy: bool = rule("A silent secondary that is carried over ranks as a secondary.")
+    # Leases, if a server that is given up may go on.
+    lease_ends: bool = rule(
+        "A server that no controller has answered for the time of a lease, by its own clock, serves nobody."
+    )
+    lease_waited: bool = rule(
+        "A reopening that gives a server up is confirmed once its lease is over by the slowest clock, or it is off."
+    )
+    lease_from_asking: bool = rule("A lease counts from when the server asked, and not from when the answer came.")
 
     def without(self, *names: str) -> "Rules":
         """The same rules without these."""

@@ -20,12 +20,15 @@ from .server import Commit, Judgement, Pass, Route, Server, Shown
 
 @dataclass(slots=True)
 class Host:
-    """A server with its service: data, requests that run, and orders at work. A lost one is lost for good."""
+    """A server with its service: data, requests that run, and orders at work. A lost one is lost for good. One that is apart is reached by clients alone, and
+    serves nobody once its lease is over."""
 
     server: Server
     data: list[list[int]]
     is_alive: bool = True
     is_lost: bool = False
+    is_apart: bool = False
+    is_over: bool = False
     running: list[Write] = field(default_factory=list)
     workers: list[Order] = field(default_factory=list)
 
@@ -37,16 +40,16 @@ class Host:
     @property
     def is_up(self) -> bool:
         """It has its slots."""
-        return self.server.is_known and not self.is_lost
+        return self.server.is_known and not self.is_lost and not self.is_over
 
     @property
     def answers(self) -> bool:
         """Messages come to it."""
-        return self.is_alive and not self.is_lost
+        return self.is_alive and not self.is_lost and not self.is_apart
 
     def cell(self, shard: int) -> Cell:
-        """What it has of a shard; nothing if it is lost or Unknown."""
-        return ABSENT if self.is_lost else self.server.cell(shard)
+        """What it has of a shard; nothing if it is lost, Unknown, or serves nobody."""
+        return ABSENT if self.is_lost or self.is_over else self.server.cell(shard)
 
     def stop(self) -> None:
         """Its work and its requests end; its slots stay."""
@@ -222,10 +225,10 @@ class World:
         owners = serving(row) + [it for it, cell in enumerate(row) if cell.kind is Kind.FORWARDING]
         for host in self.hosts:
             cell = row[host.number]
-            if not host.is_alive or cell.kind in (Kind.ABSENT, Kind.PRIMARY):
+            if not host.is_alive or host.is_apart or cell.kind in (Kind.ABSENT, Kind.PRIMARY):
                 continue
             sources = owners if cell.kind is Kind.SECONDARY else self.source_of(row, host.number)
-            data = [self.hosts[it].data[shard] for it in sources if it != host.number]
+            data = [self.hosts[it].data[shard] for it in sources if it != host.number and not self.hosts[it].is_apart]
             if data:
                 self.follow_one(host, shard, max(data, key=len))
 
@@ -282,7 +285,7 @@ class World:
 
     def request(self, host: Host, write: Write, passed: Pass | None = None) -> None:
         """A request comes to a server: it is executed, passed on, or neither."""
-        if not host.answers:
+        if not (host.answers or host.is_apart) or host.is_over:
             return
         route = host.server.route(write.shard, len(host.data[write.shard]), passed)
         if isinstance(route, Pass):
