@@ -147,7 +147,8 @@ class Run:
             is_whole = await self.story.wait_for_replicas(self.story.alive, 60.0 if self.settings.is_busy else 20.0)
             self.watcher.end()
             story = self.story
-            evidence = Evidence(story.alive, floors, story.permits, self.watcher.seen, story.shown, story.compacted_at)
+            is_outside = story.counts["faults outside the rules"] > 0
+            evidence = Evidence(story.alive, floors, story.permits, self.watcher.seen, story.shown, story.compacted_at, is_outside)
             self.verdict = await judge(self.cluster, self.operator, program, reference, evidence)
             self.verdict.need(is_whole, "secondaries do not come to have all writes")
             return self.result(counts)
@@ -251,7 +252,7 @@ def report(result: Result, details: bool = False) -> str:
     """Writes the figures and the verdict."""
     verdict, counts, waits = result.verdict, result.counts, result.waits
     harm = {it: count for it, count in counts.items() if it.split(" ")[-1] in ("dropped", "repeated", "delayed")}
-    harmed = {it: count for it, count in counts.items() if any(word in it for word in ("killed", "stopped", "lost", "replaced", "crash", "restarts", "full", "went on", "rolled back", "cut off"))}
+    harmed = {it: count for it, count in counts.items() if any(word in it for word in ("killed", "stopped", "lost", "replaced", "crash", "restarts", "full", "went on", "rolled back", "cut off", "hole", "put back"))}
     compared = {it: verdict.counts[f"servers: {it}"] for it in ("answers compared", "replicas compared")} | {"audits": verdict.counts["servers audited"]}
     lines = [
         f"requests     {result.clients.get('requests', 0):,}; {', '.join(f'{rate:.0f} a second {name}' for name, rate in result.rates.items())}",

@@ -47,6 +47,8 @@ async def run(told: dict) -> None:
                     link.is_cut = bool(message["cut"])
                 elif "mute" in message:
                     link.is_mute = bool(message["mute"])
+                elif "hole" in message:
+                    link.is_hole = bool(message["hole"])
                 elif "hold" in message:
                     link.held = tuple(it.encode() for it in message["hold"])
                 elif message.get("copies"):

@@ -102,6 +102,15 @@ class AbsenceStory(ServerStory, LossStory):
                 await asyncio.sleep(self.dice.uniform(2.0, 5.0))
             self.counts["servers cut off from all but clients"] += 1
 
+    async def black_hole(self) -> None:
+        """Lets nothing through between a server and all but clients, while its connections stand: nobody hears that it is gone."""
+        async with self.restarting:
+            name = self.dice.choice(self.alive)
+            self.tell(f"{name} is in a black hole")
+            async with self.holed(f"peer {name} ", f"ask {name} ", *self.orders_to(name), *(f"peer {it} {name}" for it in self.alive if it != name)):
+                await asyncio.sleep(self.dice.uniform(2.0, 5.0))
+            self.counts["servers in a black hole"] += 1
+
     # Disks.
 
     async def fill_disk(self) -> None:

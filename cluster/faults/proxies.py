@@ -16,7 +16,8 @@ Relay = Callable[[Reader, Writer, Reader, Writer, "Link"], Awaitable[None]]
 
 @dataclass
 class Link:
-    """A way through a proxy. Nothing gets through if it is cut, and nothing comes back if it is mute. A message that has all texts of `held` does not
+    """A way through a proxy. Nothing gets through if it is cut, and nothing comes back if it is mute. If it is a hole nothing comes through either way, and its
+    connections stand. A message that has all texts of `held` does not
     get through (a line) or waits (a request of HTTP). If there are `copies`, each message that is seldom sent is kept among them, to come again."""
 
     name: str
@@ -25,6 +26,7 @@ class Link:
     port: int
     is_cut: bool = False
     is_mute: bool = False
+    is_hole: bool = False
     held: tuple[bytes, ...] = ()
     copies: list[bytes] | None = None
 
@@ -75,7 +77,7 @@ async def relay_lines(reader: Reader, writer: Writer, link: Link, outlives: bool
         task.add_done_callback(late.discard)
 
     while line := await reader.readline():
-        if link.is_cut or (is_back and link.is_mute) or link.holds(line[:40]) or link.dice.drops():
+        if link.is_cut or link.is_hole or (is_back and link.is_mute) or link.holds(line[:40]) or link.dice.drops():
             continue
         send(line, link.dice.lateness())
         if outlives and link.copies is not None and is_rare(line):
@@ -137,6 +139,8 @@ async def relay_http(reader: Reader, writer: Writer, far: Reader, far_writer: Wr
         request = await read_http(reader)
         await come_late(link)
         was_held = await wait_while_held(request, link)
+        while link.is_hole:
+            await asyncio.sleep(0.05)
         if link.is_cut or link.dice.drops():
             return
         answer = b""
@@ -192,8 +196,9 @@ class Side(asyncio.Protocol):
             self.end()
 
     def data_received(self, data: bytes) -> None:
-        """Hands bytes on, at once or late, or loses them. What comes back on a mute link waits until it is that no more, as it is sent again and again."""
-        if self.is_far and self.link.is_mute:
+        """Hands bytes on, at once or late, or loses them. What comes back on a mute link, or goes into a hole, waits until it is that no more, as it is sent
+        again and again."""
+        if self.is_held:
             self.is_late = True
             self.read_on()
             asyncio.get_running_loop().call_later(0.1, self.wait_while_mute, data)
@@ -209,9 +214,14 @@ class Side(asyncio.Protocol):
         else:
             self.hand_on(data)
 
+    @property
+    def is_held(self) -> bool:
+        """Whether bytes of this side wait."""
+        return self.link.is_hole or (self.is_far and self.link.is_mute)
+
     def wait_while_mute(self, data: bytes) -> None:
-        """Hands bytes on once the link is no longer mute."""
-        if self.link.is_mute:
+        """Hands bytes on once nothing holds them."""
+        if self.is_held:
             asyncio.get_running_loop().call_later(0.1, self.wait_while_mute, data)
         else:
             self.come_late(data)

@@ -109,6 +109,15 @@ class Story:
             await self.cluster.tell_proxies(links=links, mute=False)
 
     @asynccontextmanager
+    async def holed(self, *links: str) -> AsyncIterator[None]:
+        """Lets nothing through links either way while something is done; their connections stand."""
+        await self.cluster.tell_proxies(links=links, hole=True)
+        try:
+            yield
+        finally:
+            await self.cluster.tell_proxies(links=links, hole=False)
+
+    @asynccontextmanager
     async def held(self, texts: list[str], *links: str) -> AsyncIterator[None]:
         """Holds messages that have these texts on links while something is done."""
         await self.cluster.tell_proxies(links=links, hold=texts)

@@ -15,7 +15,7 @@ SITUATIONS = (
     "a late settle", "a second reopening in place of one under way", "a server lost between fence and settle", "a late publication after a reopening", "a failover",
     "a restart amid a reopening", "a server carried over a reopening", "a server left behind a reopening", "a primary lost while replicas lag",
     "a primary lost while a restarted replica catches up", "a new owner lost behind the cut", "a disk replaced", "a full disk", "a slow disk", "a server stopped",
-    "answers of a server lost", "a server cut off from all but clients", "two servers at once", "all servers at once", "all controllers at once", "all of etcd at once",
+    "answers of a server lost", "a server cut off from all but clients", "a server in a black hole", "two servers at once", "all servers at once", "all controllers at once", "all of etcd at once",
     "no quorum of etcd", "etcd's leader killed", "etcd's leader stopped", "etcd's answers to a leader lost", "etcd's history compacted",
     "a line that is too large", "a handover that clients did not hear of", "a write acknowledged while a member was away",
 )
@@ -25,6 +25,7 @@ TOLD = {
     "a primary lost while a restarted replica catches up": "primaries lost while a restarted replica catches up", "a disk replaced": "disks replaced",
     "a full disk": "servers whose disk was full", "a slow disk": "stores stopped", "a server stopped": "servers stopped",
     "answers of a server lost": "servers whose answers were lost", "a server cut off from all but clients": "servers cut off from all but clients",
+    "a server in a black hole": "servers in a black hole",
     "two servers at once": "crashes of two servers at once", "all servers at once": "crashes of all servers at once",
     "all controllers at once": "crashes of all controllers at once", "all of etcd at once": "crashes of all of etcd at once",
     "no quorum of etcd": "times without a quorum of etcd", "etcd's leader killed": "leaders of etcd killed", "etcd's leader stopped": "leaders of etcd stopped",

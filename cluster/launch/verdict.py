@@ -61,6 +61,8 @@ class Evidence:
     # What the map had shown when etcd's history was compacted last, and at which revision that was.
     shown: Shown = field(default_factory=dict)
     compacted_at: int = 0
+    # Whether something happened that the rules do not survive, of which controllers give the alarm.
+    is_outside: bool = False
 
 
 @dataclass
@@ -183,10 +185,16 @@ def entries_said(told: list[Line]) -> set[tuple[str, str | None, int]]:
     return {(it["shard"], it["to"], it["version"]) for it in (*orders, *settled)}
 
 
-async def look_at_replicas(verdict: Verdict, operator: Operator, journal: Journal) -> None:
-    """The controllers' sessions say the same as one that is fed the journal anew."""
+def false_alarms(page: Line) -> list[str]:
+    """The alarms that a controller gave, if nothing was wrong. (After a loss a replica may have writes that were never acknowledged, and that its source lacks.)"""
+    return [it for it in page.get("given", []) if " lacks writes: " not in it]
+
+
+async def look_at_replicas(verdict: Verdict, operator: Operator, journal: Journal, is_outside: bool) -> None:
+    """The controllers' sessions say the same as one that is fed the journal anew, and no controller gave a false alarm."""
     for name in operator.pages:
         page = await operator.post(name, "/state", None) or {}
+        verdict.need(is_outside or not false_alarms(page), f"{name} gave a false alarm: {'; '.join(false_alarms(page))}")
         verdict.counts.update({it: count for it, count in page.get("counts", {}).items() if " " in it})
         reply = await operator.post(name, "/ask", {"do": "state"})
         state = (reply or {}).get("state", {})
@@ -242,7 +250,7 @@ async def judge(cluster: LocalCluster, operator: Operator, program: list[str], r
     shown = await map_of(cluster, evidence.shown, evidence.compacted_at)
     look_at_servers(verdict, journal, audits)
     look_at_map(verdict, journal, shown)
-    await look_at_replicas(verdict, operator, journal)
+    await look_at_replicas(verdict, operator, journal, evidence.is_outside)
     verdict.replies = journal.replies
     verdict.counts["reopenings replaced"] = journal.replies["reopen: fence"] - journal.replies["settled: opened"]
     verdict.counts["lines of the journal"] = len(entries)
