@@ -8,7 +8,7 @@ import sys
 import time
 
 from cluster.controllers.bugs import BUGS as CONTROLLER_BUGS
-from cluster.faults.parts import COPIES, MAP, MEMBERS, of_rule, storm_of
+from cluster.faults.parts import COPIES, HANDOVERS, LATE, LEADERS, LEASED, MAP, MEMBERS, REOPENING_AT_WORK, of_rule, storm_of
 from cluster.faults.reopenings import NotOpened
 from cluster.launch.cluster import ROUGH, program_of
 from cluster.launch.directory import add_directory, new_directory
@@ -18,7 +18,7 @@ from cluster.run import Run, Settings, add_load, add_session, shape_of
 from cluster.servers.bugs import BUGS as SERVER_BUGS
 from cluster.wire import Failed
 
-# What happens in a run, by the share of it: everything that some bug needs to do harm.
+# Recipes, which are made for bugs that `--recipe` names. What happens in a run, by the share of it: everything that some bug needs to do harm.
 PARTS = (
     (0.05, "restart_server"), (0.15, "kill_leader"), (0.3, "restart_server"), (0.4, "crash_server"), (0.5, "freeze_leader"), (0.55, "restart_server"),
     (0.7, "lose_server"),
@@ -39,6 +39,14 @@ PARTS_OF = {
 }
 # For a bug that breaks a rule, the parts that this rule is about. A run draws from them, and nothing else is made for the bug.
 RULE_OF = {
+    "feed-before-store": LEADERS, "map-write-without-compare": ("freeze_leader", "reopen_behind_leader", "reopen_before_write"),
+    "map-not-fenced": ("reopen_before_write", "reopen_behind_leader"), "confirm-moves-primary": ("reopen_amid_passing", "reopen_behind_cut", "lose_server"),
+    "restart-without-approval": ("restart_server", "forget", "drain"), "new-journal-without-reopening": ("open_anew",),
+    "no-numbers": LATE, "slot-deleted": LATE, "execute-prepared": HANDOVERS, "commit-before-copy": COPIES, "drop-while-writing": HANDOVERS, "tail-not-copied": COPIES,
+    "no-identities": ("hand_over_unheard", "stop_server", "isolate_server", "crash_server"), "restore-without-nonce": ("forget_twice",),
+    "commit-after-fence": REOPENING_AT_WORK, "settle-twice": REOPENING_AT_WORK, "fence-while-passed": ("reopen_amid_passing",),
+    "add-without-cut": HANDOVERS, "cut-unheeded": ("break_following",), "change-while-writing": ("kill_leader", "crash_server", "stop_store"),
+    "lease-unheeded": LEASED, "confirm-before-lease-ends": LEASED,
     "acknowledge-alone": ("lose_lagging",), "impatient": ("lose_lagging",), "newcomers-not-waited-for": ("lose_lagging",),
     "who-ends-leaves": ("lose_beside_restart",), "old-owner-not-waited-for": ("lose_behind_cut",), "dead-at-once": MEMBERS, "answer-before-done": MEMBERS, "any-reply-counts": MEMBERS,
     "copy-without-identities": ("hand_over_unheard",), "copy-counts-twice": COPIES, "copy-without-meanwhile": COPIES,
@@ -59,6 +67,10 @@ WORKERS_OF = {"fence-while-passed": 1, "cut-unheeded": 1, "commit-after-fence": 
 MOVES_OF = {"commit-after-fence": 1}
 
 
+# The time of a lease, if a bug is about that.
+LEASE_OF = {"lease-unheeded": 2.0, "confirm-before-lease-ends": 2.0}
+
+
 # The words for a run that gave no verdict, and for one that did not come to what is harmful.
 NO_END, LEFT_OUT = "the run did not come to its end", "nothing, and a loss was left out"
 
@@ -73,10 +85,11 @@ async def first_violation(bug: str, seed: int, told: argparse.Namespace) -> str 
     directory = new_directory(f"catch-{bug}-", told.dir)
     shape = shape_of(told, seed)
     recipe = "a storm" if told.storm else bug
-    parts = storm_of(seed) if told.storm else of_rule(RULE_OF[bug], seed) if bug in RULE_OF else PARTS_OF.get(bug, PARTS)
+    parts = storm_of(seed) if told.storm else PARTS_OF.get(bug, PARTS) if told.recipe else of_rule(RULE_OF[bug], seed)
+    recipe = recipe if told.recipe else ""
     settings = Settings(directory, shape, program_of(told.program), told.seconds, RATES_OF.get(recipe, ROUGH), parts, () if told.sound else (bug,),
                         WORKERS_OF.get(recipe, 3), MOVES_OF.get(recipe, 4), pause=told.pause, is_quiet=True, swaps=SWAPS_OF.get(recipe, 0.2), is_busy=told.busy,
-                        ending=25.0, patience=40.0, lease=told.lease, store=told.store)
+                        ending=25.0, patience=40.0, lease=told.lease or LEASE_OF.get(bug, 0.0), store=told.store, is_slow=told.recipe)
     try:
         result = await Run(settings).run()
         found = most_telling(result.verdict.faults)
@@ -113,6 +126,7 @@ def main() -> int:
     parser.add_argument("--clients", type=int, default=8)
     add_load(parser)
     add_directory(parser)
+    parser.add_argument("--recipe", action="store_true", help="have the parts, rates, waits and moves that are made for the bug, if there are some")
     parser.add_argument("--storm", action="store_true", help="have the parts of a run of a storm, and nothing that is made for the bug")
     parser.add_argument("--sound", action="store_true", help="plant no bug: nothing is to be found then")
     add_session(parser)

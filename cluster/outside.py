@@ -8,14 +8,12 @@ import shutil
 import sys
 from dataclasses import dataclass
 
-from cluster.faults.parts import OUTSIDE
+from cluster.faults.parts import LEASED, OUTSIDE
 from cluster.launch.cluster import ROUGH, program_of
 from cluster.launch.directory import add_directory, new_directory
 from cluster.launch.report import listed, trust_lines
 from cluster.run import Result, Run, Settings, add_load, add_session, shape_of
 
-# The parts that a lease makes harmless.
-LEASED = ("return_given_up", "give_up_isolated")
 # For how many seconds the end of plans is waited for, and the operator tries something: some of them never end.
 ENDING, PATIENCE = 8.0, 25.0
 

@@ -81,6 +81,8 @@ class Settings:
     lease: float = 0.0
     # What servers keep their data in.
     store: str = "redis"
+    # What a planted bug is about takes longer.
+    is_slow: bool = False
 
 
 @dataclass
@@ -111,7 +113,7 @@ class Run:
         self.settings = settings
         self.begun = time.monotonic()
         self.cluster = LocalCluster(settings.directory, settings.shape, settings.program, settings.rates, settings.bugs, pause=settings.pause,
-                                    lease=settings.lease, store=settings.store)
+                                    lease=settings.lease, store=settings.store, is_slow=settings.is_slow)
         self.operator = Operator(self.cluster.pages, settings.patience or (240.0 if settings.is_busy else 90.0))
         self.mover = Mover(self.operator, settings.shape.seed, settings.swaps)
         self.story = HandoverStory(self.cluster, self.operator, self.mover, settings.shape.seed, self.tell)

@@ -12,6 +12,7 @@ BUGS = {
     "any-reply-counts": "an order counts as answered by any reply, or by none",
     "map-not-fenced": "a reopening passes the map's owner by",
     "confirm-moves-primary": "a settle makes another replica the primary than the one that told it is",
+    "confirm-before-lease-ends": "a reopening is confirmed while a server may serve that it gives up",
     "restart-without-approval": "servers are restarted without leave",
     "new-journal-without-reopening": "a new journal is opened over servers of an old one, under its name, without a reopening",
 }

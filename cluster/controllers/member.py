@@ -68,6 +68,11 @@ class Member:
         self.auditor = Auditor(self.alarms, self.ask, self.fleet.slots)
 
     @property
+    def lease_waited_for(self) -> float:
+        """The time of a server's lease. A planted bug: there is none."""
+        return 0.0 if "confirm-before-lease-ends" in self.settings.bugs else self.settings.cluster.lease
+
+    @property
     def leads(self) -> bool:
         """Whether this process acts."""
         return self.controller is not None and self.controller.leads
@@ -75,7 +80,7 @@ class Member:
     async def start(self) -> None:
         """Starts the session."""
         session = await Session.start(self.settings.program)
-        self.controller = Leader(session, self.fleet, self.store, replace(self.settings.pace, batch_bytes=MOST_BYTES), self.settings.cluster.lease)
+        self.controller = Leader(session, self.fleet, self.store, replace(self.settings.pace, batch_bytes=MOST_BYTES), self.lease_waited_for)
         if "confirm-moves-primary" in self.settings.bugs:
             move_primaries(self.controller)
 

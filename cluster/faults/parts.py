@@ -27,13 +27,20 @@ EVERY = (*(name for name, _ in USUAL), *AWAY, *REOPENINGS, *OTHERS, *LOSSES)
 # The parts that are about copies, about members that are away or late, and about the map.
 COPIES = ("drain", "restart_server", "crash_two", "hand_over_unheard")
 MEMBERS = ("crash_server", "crash_two", "restart_server", "stop_store", "isolate_server")
+# Those about who leads, about messages that come late or again, about handovers, and about reopenings while orders are at work.
+LEADERS = ("kill_leader", "freeze_leader", "kill_controllers", "lose_answers_of_etcd")
+LATE = ("drain", "crash_server", "restart_server", "kill_leader")
+HANDOVERS = ("drain", "break_following", "hand_over_unheard")
+REOPENING_AT_WORK = ("reopen_amid_passing", "reopen_behind_cut", "reopen_before_write")
+# What a lease makes harmless.
+LEASED = ("return_given_up", "give_up_isolated")
 MAP = ("drain", "kill_leader", "freeze_leader", "restart_server", "lose_answers_of_etcd")
 
 
 def of_rule(names: tuple[str, ...], seed: int) -> Parts:
     """Parts drawn by a seed from those that a rule names: four, or two if a server is given up."""
     dice = random.Random(f"rule {seed}")
-    return evenly(dice.choices(names, k=2 if set(names) & set(LOSSES) else 4))
+    return evenly(dice.choices(names, k=2 if set(names) & {*LOSSES, *LEASED} else 4))
 
 
 def storm_of(seed: int) -> Parts:

@@ -63,8 +63,8 @@ class LocalCluster:
     """All processes of a cluster but the clients, by their names: servers `a`, `b`, .., controllers `k0`, .., members `etcd-0`, ..."""
 
     def __init__(self, directory: Path, shape: Shape, program: str, rates: dict = CALM, bugs: tuple[str, ...] = (),
-                 servers: str = "cluster.servers", pause: float = 0.01, lease: float = 0.0, store: str = "redis") -> None:
-        self.store = store
+                 servers: str = "cluster.servers", pause: float = 0.01, lease: float = 0.0, store: str = "redis", is_slow: bool = False) -> None:
+        self.store, self.is_slow = store, is_slow
         self.directory, self.shape, self.program, self.bugs, self.server_module, self.pause, self.lease = directory, shape, program, bugs, servers, pause, lease
         # The file that names the shards that are being moved.
         self.moving = directory / "moving"
@@ -108,7 +108,7 @@ class LocalCluster:
         self.processes.add_copy(
             name, self.server_module, "--name", name, "--cluster", str(self.cluster_file(name)), "--dir", str(self.directory / name), "--store", self.store,
             "--listen-control", str(ports.control), "--listen-clients", str(ports.clients), "--listen-peers", str(ports.peers),
-            *(it for bug in self.bugs if bug in SERVER_BUGS for it in ("--bug", bug)),
+            *(it for bug in self.bugs if bug in SERVER_BUGS for it in ("--bug", bug, *(("--slow",) if self.is_slow else ()))),
         )
 
     def add_controller(self, name: str) -> None:

@@ -7,8 +7,8 @@ from pathlib import Path
 
 from ..wire import LONGEST_LINE, Cluster, listen
 from .bugs import BUGS
-from .server import Server
 from .engines import REDIS, SQLITE, open_store
+from .planted import kind_of_server
 from .store import Store
 
 
@@ -25,6 +25,7 @@ def arguments() -> argparse.Namespace:
     parser.add_argument("--think", type=float, default=0, help="seconds that a request runs at most before it changes anything")
     parser.add_argument("--lag", type=float, default=0, help="seconds by which it is late, at most, with the writes that it follows")
     parser.add_argument("--bug", choices=sorted(BUGS), help="plant a bug")
+    parser.add_argument("--slow", action="store_true", help="have what the bug is about take longer")
     return parser.parse_args()
 
 
@@ -36,7 +37,7 @@ async def main() -> None:
     store = Store(engine)
     await store.load()
     cluster = Cluster.read(told.cluster)
-    server = Server(told.name, cluster, store, told.bug, told.think, told.lag)
+    server = kind_of_server(told.bug, told.slow)(told.name, cluster, store, told.think, told.lag)
     await server.start(told.lose_slots)
     entry = cluster.servers[told.name]
     ports = {it: getattr(told, f"listen_{it}") or getattr(entry, it).port for it in ("control", "clients", "peers")}

@@ -29,5 +29,6 @@ BUGS = {
     "old-owner-not-waited-for": "a new owner does not wait until the old one has what it executes",
     "dead-at-once": "no write waits for a member whose connection has ended",
     "who-ends-leaves": "a member whose connection ends is one no longer",
+    "lease-unheeded": "a server serves on when no controller has answered it for the time of its lease",
     "forgets-and-rests": "a server that was left behind a reopening forgets its slots, and asks for none",
 }

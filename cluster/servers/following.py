@@ -228,19 +228,25 @@ class Following:
         if shard.slot.cell == Cell.PREPARED and shard.old_owner:  # (the cut came meanwhile)
             members.add(shard.old_owner)
             commands.append(("HSET", "old_owner", shard.name, shard.old_owner))
-        for entry in copying.writes if self.server.bug != "copy-without-meanwhile" else ():
-            has_it = entry.position <= copying.positions.get(entry.command[1], -1) and self.server.bug != "copy-counts-twice"
-            commands += self.commands_of(entry, has_it)
+        for entry in self.meanwhile(copying):
+            commands += self.commands_of(entry, self.has(entry, copying))
         commands += store.member_commands(shard.name, members) + store.mark_commands(shard.name, position, chain)
         await store.save(commands, "copy", shard=shard.name, source=source, position=position, bytes=copying.bytes, meanwhile=len(copying.writes))
         shard.position, shard.chain, shard.members, shard.away = position, chain, members, {}
         self.copying, self.is_fresh = None, False
         shard.copy_came()
 
+    def meanwhile(self, copying: Copying) -> list[Entry]:
+        """The writes that came while a copy was on its way."""
+        return copying.writes
+
+    def has(self, entry: Entry, copying: Copying) -> bool:
+        """Whether a copy has a write: its value was read behind it."""
+        return entry.position <= copying.positions.get(entry.command[1], -1)
+
     def commands_of(self, entry: Entry, is_there: bool = False) -> list[Command]:
         """Executes a write of the source, whose data may be there."""
-        is_left_out = self.server.bug == "tail-not-copied" and self.shard.slot.cell != Cell.SECONDARY
-        return [] if is_left_out else self.store.entry_commands(self.shard.name, entry, is_there)
+        return self.store.entry_commands(self.shard.name, entry, is_there)
 
     async def apply(self, entries: list[Entry]) -> None:
         """Executes writes of the source, all in one transaction."""

@@ -2,7 +2,6 @@
 from __future__ import annotations
 
 import time
-from dataclasses import replace
 from typing import TYPE_CHECKING
 
 from smplan.agent import Answer, Base, Cell, Restoration, Settlement, Slot
@@ -42,8 +41,6 @@ class Reopenings:
 
     async def end_handovers(self) -> None:
         """Lets running requests of handovers end, and none begin; who waits for too long gets no acknowledgement."""
-        if self.server.bug == "fence-while-passed":
-            return
         self.hold(True)
         deadline = time.monotonic() + limits.FENCING
         for shard in self.store.shards.values():
@@ -62,20 +59,20 @@ class Reopenings:
 
     async def take_fence(self, base: Base) -> None:
         """Stores a fence, and ends all work. All locks are held."""
-        commands, slots = self.store.base_commands(base), {}
-        keeps_work = self.server.bug == "commit-after-fence"
-        for shard in self.store.shards.values():
-            if shard.slot.at_work and not keeps_work:
-                slots[shard.name] = agent.abandon(shard.slot)
-                commands += self.store.slot_commands(shard.name, slots[shard.name])
+        commands, slots = self.store.base_commands(base), self.abandoned()
+        for name, slot in slots.items():
+            commands += self.store.slot_commands(name, slot)
         await self.store.save(commands, "fence", base=base.number, slots=self.short_slots(), at_work=len(slots), nonce=hexadecimal(base.nonce))
         self.store.base = base
         for shard in self.store.shards.values():
             if shard.name in slots:
                 shard.slot = slots[shard.name]
-            if not keeps_work:
-                self.server.orders.drop_work(shard, "a fence has come")
+            self.server.orders.drop_work(shard, "a fence has come")
             shard.wake()
+
+    def abandoned(self) -> dict[str, Slot]:
+        """The slots whose work a fence ends, as they are then."""
+        return {it.name: agent.abandon(it.slot) for it in self.store.shards.values() if it.slot.at_work}
 
     def short_slots(self) -> dict[str, list]:
         """Cells and positions, for history."""
@@ -100,11 +97,8 @@ class Reopenings:
         """Takes the slots that end a reopening."""
         name = told.get("nonce")
         async with self.server.changing, AllLocks(self.shards_with(told)):
-            before = self.store.base
-            if self.server.bug == "settle-twice" and before.number == told["base"] and before.known:
-                before, name = replace(before, fenced=1), None
             settlement = Settlement(int(told["journal"], 16), told["base"], None if name is None else int(name, 16))
-            answer = await self.take(before, settlement, told, "settle")
+            answer = await self.take(self.store.base, settlement, told, "settle")
             if answer != Answer.TAKEN:
                 self.store.note("settle-" + answer.name.lower(), base=told["base"])
         if answer not in (Answer.TAKEN, Answer.AGAIN):
@@ -114,12 +108,8 @@ class Reopenings:
     async def restore(self, told: Message) -> Message:
         """Takes the slots that it asked for under a nonce."""
         async with self.server.changing, AllLocks(self.shards_with(told)):
-            before, named = self.store.base, int(told["nonce"], 16)
-            if self.server.bug == "restore-without-nonce":
-                named = before.nonce or 1
-                before = agent.forget(named)
-            restoration = Restoration(int(told["journal"], 16), told["fence"], told["base"], named or 1)
-            answer = await self.take(before, restoration, told, "restore")
+            restoration = Restoration(int(told["journal"], 16), told["fence"], told["base"], int(told["nonce"], 16) or 1)
+            answer = await self.take(self.store.base, restoration, told, "restore")
             if answer != Answer.TAKEN:
                 self.store.note("restore-ignored", nonce=told["nonce"], known=bool(self.store.base.known))
         if answer != Answer.TAKEN:

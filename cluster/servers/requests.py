@@ -103,7 +103,7 @@ class Requests:
         deadline = time.monotonic() + limits.WAITING
         while True:
             async with shard.lock:
-                if how.is_passed and self.server.bug != "cut-unheeded":
+                if how.is_passed:
                     await self.heed_cut(shard, how)
                 answer, onward = self.route(shard, how)
                 if answer == Answer.EXECUTE:
@@ -125,11 +125,11 @@ class Requests:
             if thinking := self.server.think(shard, how):
                 await asyncio.sleep(thinking)
             async with shard.lock:
-                if shard.term != term or self.server.lease.is_over:
+                if shard.term != term or self.may_not_serve():
                     raise ErrorReply(f"TRYAGAIN {shard.name}")
                 reply = await self.execute(shard, identity, command, how)
             await self.server.sources.replicated(shard, shard.position, term)
-            if shard.term != term or self.server.lease.is_over:
+            if shard.term != term or self.may_not_serve():
                 raise ErrorReply(f"LOST {shard.name}")
             return reply
         except ConnectionError as error:
@@ -138,6 +138,10 @@ class Requests:
         finally:
             shard.running -= 1
             shard.wake()
+
+    def may_not_serve(self) -> bool:
+        """Whether it may serve nobody now, as no controller has answered it for long."""
+        return self.server.lease.is_over
 
     async def heed_cut(self, shard: Shard, how: Request) -> None:
         """A request that is passed on tells the cut, which may not have come with the old owner's writes yet. Who
@@ -148,11 +152,9 @@ class Requests:
 
     def route(self, shard: Shard, how: Request) -> tuple[Answer, Request]:
         """Where a request is executed."""
-        slot, bug = shard.slot, self.server.bug
-        if (shard.is_held and shard.is_in_handover) or (self.server.lease.is_over and slot.cell in (Cell.PREPARED, Cell.PRIMARY)):
+        slot = shard.slot
+        if (shard.is_held and shard.is_in_handover) or (slot.cell in (Cell.PREPARED, Cell.PRIMARY) and self.may_not_serve()):
             return Answer.NOT_YET, Request()
-        if bug == "execute-prepared" and slot.cell == Cell.PREPARED and slot.handover:
-            return Answer.EXECUTE, Request()
         return agent.route(self.store.base, slot, shard.position, how)
 
     # -- execution
@@ -178,8 +180,7 @@ class Requests:
     async def write(self, shard: Shard, identity: str | None, command: tuple[str, ...], how: Request, reply: bytes) -> bytes:
         """Executes a write with all that belongs to it in one transaction, and sends it to all who follow."""
         position = shard.position + 1
-        kept = None if self.server.bug == "no-identities" else identity
-        entry = Entry(position, kept, command, reply.decode("latin-1"), chained(shard.chain, identity, command))
+        entry = Entry(position, self.kept(identity), command, reply.decode("latin-1"), chained(shard.chain, identity, command))
         commands = self.store.entry_commands(shard.name, entry) + self.store.trim_commands(shard.name, position)
         commands += self.store.mark_commands(shard.name, position, entry.chain)
         await self.store.save(
@@ -188,6 +189,10 @@ class Requests:
         shard.position, shard.chain = position, entry.chain
         self.server.sources.send(shard, entry)
         return reply
+
+    def kept(self, identity: str | None) -> str | None:
+        """The identity that is stored with a write."""
+        return identity
 
     async def read(self, shard: Shard, command: tuple[str, ...], how: Request) -> bytes:
         """Executes a read; history has it with the next change."""

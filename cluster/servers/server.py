@@ -25,14 +25,17 @@ from .work import Orders
 class Server:
     """One server of the cluster."""
 
-    def __init__(self, name: str, cluster: Cluster, store: Store, bug: str | None = None, think: float = 0, lag: float = 0) -> None:
-        self.name, self.cluster, self.store, self.bug = name, cluster, store, bug
+    # What it is made of. (A planted bug is another class in place of one of these: planted.py.)
+    following_type, sources_type, orders_type, requests_type, reopenings_type = Following, Sources, Orders, Requests, Reopenings
+
+    def __init__(self, name: str, cluster: Cluster, store: Store, think: float = 0, lag: float = 0) -> None:
+        self.name, self.cluster, self.store = name, cluster, store
         store.fail = self.fail
         self.longest_think, self.longest_lag = think, lag
         self.changing = asyncio.Lock()
         self.peers: dict[str, Channel] = {}
-        self.sources, self.orders, self.requests = Sources(self), Orders(self), Requests(self)
-        self.reopenings, self.hearsay, self.lease = Reopenings(self), Hearsay(self), Lease(self, cluster.lease)
+        self.sources, self.orders, self.requests = self.sources_type(self), self.orders_type(self), self.requests_type(self)
+        self.reopenings, self.hearsay, self.lease = self.reopenings_type(self), Hearsay(self), Lease(self, cluster.lease)
         self.tasks: set[asyncio.Task[Any]] = set()
         self.asking: asyncio.Task[None] | None = None
 
@@ -112,10 +115,14 @@ class Server:
         except Failed:
             return None
 
+    def following(self, shard: Shard, hint: str | None, is_fresh: bool) -> Following:
+        """Begins to follow a shard's writes."""
+        return self.following_type(self, shard, hint, is_fresh)
+
     def start_following(self, shard: Shard) -> None:
         """Follows the shard's writes."""
         if shard.following is None:
-            shard.following = Following(self, shard, None, is_fresh=False)
+            shard.following = self.following(shard, None, is_fresh=False)
 
     def stop_following(self, shard: Shard, leaves: bool = False) -> None:
         """Follows the shard's writes no longer."""
@@ -129,15 +136,17 @@ class Server:
         after = agent.seal(shard.slot, handover, cut)
         if after == shard.slot:
             return
-        old_owner = self.party(shard)
-        members = (shard.members | {old_owner}) - {self.name}
-        if self.bug == "old-owner-not-waited-for":
-            members, old_owner = members - {old_owner}, ""
+        old_owner = self.waited_for(shard)
+        members = (shard.members | {old_owner}) - {self.name, ""}
         commands = self.store.slot_commands(shard.name, after) + self.store.member_commands(shard.name, members)
         commands.append(("HSET", "old_owner", shard.name, old_owner))
         await self.store.save(commands, "seal", shard=shard.name, handover=handover, cut=cut, position=shard.position)
         shard.slot, shard.members, shard.old_owner, shard.away = after, members, old_owner, away
         shard.expect(members)
+
+    def waited_for(self, shard: Shard) -> str:
+        """Who has to have all that a new owner executes: the old one."""
+        return self.party(shard)
 
     async def serve_peer(self, reader: asyncio.StreamReader, writer: asyncio.StreamWriter) -> None:
         """Serves another server: a connection for one stream of writes, or for requests."""
@@ -175,15 +184,12 @@ class Server:
         return shard is not None and (shard.slot.cell != Cell.ABSENT or shard.slot.at_work != 0)
 
     def think(self, shard: Shard, how: Request) -> float:
-        """How long a request runs before it changes anything. With some bugs it takes long enough to see them."""
-        slow = {"drop-while-writing": 0.3, "change-while-writing": 0.1, "fence-while-passed": how.is_passed and 0.6}
-        longest = self.longest_think or slow.get(self.bug, 0)
-        return random.random() * longest if longest else 0
+        """How long a request runs before it changes anything."""
+        return random.random() * self.longest_think if self.longest_think else 0
 
     def lag(self, shard: Shard) -> float:
         """How late it is, at most, with the writes that it follows."""
-        slow = {"add-without-cut": 1.5 if shard.slot.cell == Cell.PREPARED else 0}
-        return self.longest_lag or slow.get(self.bug, 0)
+        return self.longest_lag
 
     # -- messages of the controller
 
@@ -204,7 +210,7 @@ class Server:
 
     async def heed_last(self, journal: int, number: int, teller: str) -> None:
         """Looks at the last reopening that somebody names. No slot changes meanwhile."""
-        if self.store.base.known and not agent.heed(self.store.base, journal, number, 1).known and self.bug != "heed-nothing":
+        if self.store.base.known and not agent.heed(self.store.base, journal, number, 1).known:
             await self.forget(teller)
 
     async def notice(self, told: Message) -> Message:
@@ -224,13 +230,11 @@ class Server:
                 shard.slot, shard.old_owner = Slot(), None
                 self.stop_following(shard)
                 self.sources.close(shard)
-        if self.bug != "forgets-and-rests":
-            self.resume()
+        self.resume()
 
     def end_term(self, shard: Shard, why: str) -> None:
         """Work and running requests of the shard come to nothing."""
-        if self.bug != "commit-after-fence":
-            self.orders.drop_work(shard, why)
+        self.orders.drop_work(shard, why)
         shard.term += 1
         shard.away = {}
         shard.wake()

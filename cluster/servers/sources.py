@@ -4,6 +4,7 @@ from __future__ import annotations
 
 import asyncio
 import time
+from collections.abc import AsyncIterator
 from typing import TYPE_CHECKING
 
 from smplan.agent import Cell
@@ -46,6 +47,9 @@ class Stream:
 class Sources:
     """All streams of a server."""
 
+    # For how many seconds a member that is gone is waited for.
+    dead_after = limits.DEAD_AFTER
+
     def __init__(self, server: "Server") -> None:
         self.server, self.store = server, server.store
         self.start = time.monotonic()
@@ -73,8 +77,6 @@ class Sources:
             if shard.streams.get(stream.name) is stream:
                 del shard.streams[stream.name]
                 shard.seen[stream.name] = time.monotonic()
-                if self.server.bug == "who-ends-leaves":
-                    await self.leave(shard, stream.name)
             shard.wake()
 
     async def begin(self, shard: Shard, writer: asyncio.StreamWriter, ask: Message) -> Stream | None:
@@ -106,19 +108,15 @@ class Sources:
                 stream.send(self.seal(shard))
             if tail is None:
                 self.server.begin(self.send_copy(shard, stream))
-        if self.server.bug == "joined-at-once":
-            await self.join(shard, stream)
         return stream
 
     async def send_copy(self, shard: Shard, stream: Stream) -> None:
         """Sends a shard piece by piece while it is used: writes go out between the pieces."""
         try:
-            async for piece in self.store.pieces(shard.name):
+            async for piece in self.pieces(shard):
                 if shard.streams.get(stream.name) is not stream:
                     return
-                left_out = {"copy-without-identities": "done", "copy-without-values": "keys"}.get(self.server.bug or "")
-                if left_out not in piece:
-                    await self.send_piece(shard, stream, line_of({"piece": piece}))
+                await self.send_piece(shard, stream, line_of({"piece": piece}))
         except TooLarge as error:
             shard.too_large = (error.size, time.monotonic() + limits.TOO_LARGE_FOR)
             self.store.note("value-too-large", shard=shard.name, bytes=error.size)
@@ -132,6 +130,10 @@ class Sources:
                 # (all writes up to this position were sent: no piece has a later one)
                 stream.send({"copied": {"position": shard.position, "chain": shard.chain, "members": sorted(shard.members)}})
                 stream.copied_at = None
+
+    def pieces(self, shard: Shard) -> AsyncIterator[dict]:
+        """A shard's data piece by piece."""
+        return self.store.pieces(shard.name)
 
     async def send_piece(self, shard: Shard, stream: Stream, line: bytes) -> None:
         """Sends a piece once there is room for it, and then rests as long as that took: requests go on. Raises EOFError if nobody follows."""
@@ -156,14 +158,9 @@ class Sources:
             if shard.streams.get(stream.name) is not stream or not shard.is_source:
                 return
             stream.has_joined = True
-            if stream.name not in shard.members and not stream.takes_over and not self.leaves_out(shard):
+            if stream.name not in shard.members and not stream.takes_over:
                 await self.set_members(shard, shard.members | {stream.name})
             stream.send({"joined": {"members": sorted(shard.members)}})
-
-    def leaves_out(self, shard: Shard) -> bool:
-        """A planted bug: who joins is no member."""
-        bug, is_prepared = self.server.bug, shard.slot.cell == Cell.PREPARED
-        return bug == "newcomers-not-waited-for" or (bug == "old-owner-not-waited-for" and is_prepared)
 
     async def leave(self, shard: Shard, name: str) -> None:
         """The follower has nothing of the shard any more."""
@@ -219,13 +216,12 @@ class Sources:
     def lacking(self, shard: Shard, position: int) -> list[str]:
         """Who is alive, as far as it is known, and has not acknowledged the writes up to a position."""
         now, lacking = time.monotonic(), []
-        dead_after = 0 if self.server.bug == "dead-at-once" else limits.DEAD_AFTER
         for name in shard.members - {self.server.name}:
             stream = shard.streams.get(name)
             if stream is not None and stream.acked >= position:
                 continue
             is_firm = name == shard.old_owner or (stream is not None and stream.has_joined)
-            if is_firm or now - shard.seen.get(name, self.start) < dead_after:
+            if is_firm or now - shard.seen.get(name, self.start) < self.dead_after:
                 lacking.append(name)
         return lacking
 
@@ -242,15 +238,16 @@ class Sources:
 
     async def replicated(self, shard: Shard, position: int, term: int) -> None:
         """Waits until all who are alive have the writes up to a position, or the term has ended."""
-        if self.server.bug == "acknowledge-alone":
-            return
         silent_at = time.monotonic() + limits.SILENT_AFTER
-        impatient_at = time.monotonic() + (0.2 if self.server.bug == "impatient" else 3600)
-        while shard.term == term and (lacking := self.lacking(shard, position)) and time.monotonic() < impatient_at:
+        while shard.term == term and (lacking := self.lacking(shard, position)):
             if time.monotonic() > silent_at:
                 self.give_up(shard, lacking)
                 silent_at += limits.SILENT_AFTER
             await shard.look_again(time.monotonic() + 1)
+        self.note_alone(shard, position, term)
+
+    def note_alone(self, shard: Shard, position: int, term: int) -> None:
+        """Notes who lacks writes that are acknowledged now."""
         missing = self.without(shard, position)
         if missing and shard.term == term:
             self.store.note("alone", shard=shard.name, position=position, without=missing)

@@ -2,17 +2,16 @@
 from __future__ import annotations
 
 import asyncio
-import random
 import time
-from dataclasses import dataclass, replace
+from dataclasses import dataclass
 from typing import TYPE_CHECKING
 
-from smplan.agent import Answer, Call, Cell, Order, Role
+from smplan.agent import Answer, Base, Call, Cell, Order, Role, Slot
 
 from ..wire import Failed, Message
 from . import agent, limits
-from .following import Following
 from .shard import STATES, Shard
+from .store import Command
 
 if TYPE_CHECKING:
     from .server import Server
@@ -71,8 +70,7 @@ class Orders:
         if verdict in (Answer.BEGIN, Answer.WORKING):
             if work is None:
                 raise Failed("GivenUp", "nobody works")
-            if self.server.bug != "answer-before-done":
-                await asyncio.shield(work.done)
+            await self.wait_until_done(work)
         elif verdict != Answer.AGAIN:
             self.store.note("order-" + verdict.name.lower().replace("_", "-"), shard=shard.name, number=order.number, last=shard.slot.last)
             raise Failed(TURNED_AWAY.get(verdict, "Refused"), REFUSALS.get(verdict, ""))
@@ -80,13 +78,13 @@ class Orders:
             self.store.note("order-again", shard=shard.name, number=order.number)
         return {"answered": {"plan": told["plan"], "stream": told["stream"], "number": told["number"]}}
 
+    async def wait_until_done(self, work: Work) -> None:
+        """Waits for the end of work; raises Failed if it is given up."""
+        await asyncio.shield(work.done)
+
     def judge(self, shard: Shard, order: Order) -> Answer:
         """What the server makes of an order."""
-        slot, bug = shard.slot, self.server.bug
-        if bug == "no-numbers" and self.store.base.known and slot.at_work != order.number:
-            verdict = agent.judge(replace(self.store.base, number=order.fence), replace(slot, last=0), self.store.used(), order)
-            return Answer.AGAIN if verdict in REFUSALS else verdict
-        return agent.judge(self.store.base, slot, self.store.used(), order)
+        return agent.judge(self.store.base, shard.slot, self.store.used(), order)
 
     async def begin(self, shard: Shard, order: Order, told: Message) -> None:
         """Begins an order's work. The shard's lock is held."""
@@ -117,7 +115,6 @@ class Orders:
         """Does the work, and commits it; if it takes too long it is given up, and the order comes again."""
         try:
             await self.prepare(shard, work)
-            await asyncio.sleep(self.slowness(shard, work.order))
             committed = await self.commit(shard, work)
         except Failed as failed:
             committed, why = False, failed.why
@@ -128,12 +125,6 @@ class Orders:
             why = "thrown away"
         if not committed:
             await self.give_up(shard, work, why)
-
-    def slowness(self, shard: Shard, order: Order) -> float:
-        """With some bugs work takes long enough to see them."""
-        takes_over = order.call == Call.ADD and shard.slot.cell == Cell.PREPARED
-        is_slow = self.server.bug == "commit-after-fence" or (self.server.bug == "fence-while-passed" and takes_over)
-        return random.random() * 1.5 if is_slow else 0
 
     async def give_up(self, shard: Shard, work: Work, why: str) -> None:
         """Abandons work that is still at work."""
@@ -153,18 +144,14 @@ class Orders:
 
     async def prepare(self, shard: Shard, work: Work) -> None:
         """Returns when the order may be committed."""
-        order, cell, bug = work.order, shard.slot.cell, self.server.bug
+        order, cell = work.order, shard.slot.cell
         if order.call == Call.PREPARE_ADD or (order.call == Call.ADD and order.role == Role.SECONDARY):
-            if bug != "commit-before-copy" or order.call == Call.ADD:
-                await self.copy(shard, work)
+            await self.copy(shard, work)
         elif order.call == Call.ADD and cell == Cell.PREPARED:
-            if bug not in ("add-without-cut", "tail-not-copied"):
-                await self.wait(shard, work, limits.COPYING, lambda: shard.has_reached_cut)
-        elif order.call == Call.PREPARE_DROP and bug != "drop-while-writing":
+            await self.wait_for_cut(shard, work)
+        elif order.call == Call.PREPARE_DROP or (order.call == Call.DROP and cell == Cell.PRIMARY):
             await self.wait(shard, work, limits.HOLDING, lambda: shard.running == 0)
-        elif order.call == Call.DROP and cell == Cell.PRIMARY:
-            await self.wait(shard, work, limits.HOLDING, lambda: shard.running == 0)
-        elif order.call == Call.CHANGE and order.new_role == Role.SECONDARY and bug != "change-while-writing":
+        elif order.call == Call.CHANGE and order.new_role == Role.SECONDARY:
             wanted = set(work.told.get("replicas") or shard.members) - {self.server.name}
             await self.wait(shard, work, limits.HOLDING, lambda: shard.running == 0 and self.have_all(shard, wanted))
 
@@ -180,6 +167,10 @@ class Orders:
             if not await shard.look_again(deadline):
                 raise Failed("GivenUp", "it took too long")
 
+    async def wait_for_cut(self, shard: Shard, work: Work) -> None:
+        """Waits until a new owner has all writes up to the old one's cut."""
+        await self.wait(shard, work, limits.COPYING, lambda: shard.has_reached_cut)
+
     async def copy(self, shard: Shard, work: Work) -> None:
         """Copies the shard, and follows its writes from then on."""
         self.refuse(shard)
@@ -189,7 +180,7 @@ class Orders:
             if shard.following is not None:
                 shard.following.stop()
             hint = party_of(work.told) or work.told.get("primary")
-            following = shard.following = Following(self.server, shard, hint, is_fresh=True)
+            following = shard.following = self.server.following(shard, hint, is_fresh=True)
         while not following.joined.is_set():
             if not await shard.look_again(following.copied_at + limits.COPYING):
                 raise Failed("GivenUp", "nobody gives a copy")
@@ -207,7 +198,7 @@ class Orders:
         async with shard.lock:
             if shard.work is not work or (self.holds(work.order) and shard.running):
                 return False
-            slot, before = self.slot_after(shard, work), shard.slot
+            slot, before = self.slot_after(self.store.base, shard.slot, work.order, shard.position), shard.slot
             if slot is None:
                 return False
             empty = slot.cell == Cell.ABSENT or (slot.cell == Cell.PRIMARY and before.cell == Cell.ABSENT)
@@ -233,30 +224,15 @@ class Orders:
 
     def holds(self, order: Order) -> bool:
         """Requests have to end before the order is committed."""
-        bug = self.server.bug
-        return (order.call == Call.PREPARE_DROP and bug != "drop-while-writing") or (
-            order.call == Call.CHANGE and order.new_role == Role.SECONDARY and bug != "change-while-writing")
+        return order.call == Call.PREPARE_DROP or (order.call == Call.CHANGE and order.new_role == Role.SECONDARY)
 
-    def slot_commands(self, shard: Shard, slot) -> list:
-        """Stores the slot; with the bug a dropped one is deleted."""
-        if self.server.bug == "slot-deleted" and slot.cell == Cell.ABSENT:
-            return [("HDEL", "slots", shard.name)]
+    def slot_commands(self, shard: Shard, slot: Slot) -> list[Command]:
+        """Stores the slot."""
         return self.store.slot_commands(shard.name, slot)
 
-    def slot_after(self, shard: Shard, work: Work):
+    def slot_after(self, base: Base, slot: Slot, order: Order, applied: int) -> Slot | None:
         """The slot with the order's effect, None if the work is thrown away."""
-        base, slot, order, bug = self.store.base, shard.slot, work.order, self.server.bug
-        if bug == "commit-after-fence":
-            base, slot = replace(base, number=order.fence, fenced=0, known=1, journal=order.journal), replace(slot, at_work=order.number)
-        if bug == "no-numbers":
-            base, slot = replace(base, number=order.fence), replace(slot, last=0)
-        applied = max(shard.position, slot.cut) if bug in ("add-without-cut", "tail-not-copied") else shard.position
-        if bug in ("add-without-cut", "tail-not-copied") and slot.cell == Cell.PREPARED and not slot.has_cut:
-            slot = replace(slot, has_cut=1)
-        after = agent.commit(base, slot, order, applied)
-        if after is not None and bug == "slot-deleted" and after.cell == Cell.ABSENT:
-            return agent.VACANT
-        return after
+        return agent.commit(base, slot, order, applied)
 
     def follow_up(self, shard: Shard, before: Cell) -> None:
         """Follows, is followed or ends both, as the new slot asks for. The shard's lock is held."""

@@ -75,7 +75,7 @@ class Scripted:
             self.listener = await listen(self.desk, self.hear)
         for name in names or self.names:
             command = [sys.executable, "-m", "cluster.servers", "--name", name, "--cluster", str(self.file), "--dir", str(self.dir / name)]
-            command += ["--bug", self.bug] if self.bug else []
+            command += ["--bug", self.bug, "--slow"] if self.bug else []
             command += ["--store", self.store, *(["--think", str(self.think)] if self.think else [])]
             command += ["--lag", str(self.lag)] if self.lag else []
             command += ["--lose-slots"] if loses_slots else []
