@@ -46,7 +46,7 @@ RULE_OF = {
     "no-identities": ("hand_over_unheard", "stop_server", "isolate_server", "crash_server"), "restore-without-nonce": ("forget_twice",),
     "commit-after-fence": REOPENING_AT_WORK, "settle-twice": REOPENING_AT_WORK, "fence-while-passed": ("reopen_amid_passing",),
     "add-without-cut": HANDOVERS, "cut-unheeded": ("break_following",), "change-while-writing": ("kill_leader", "crash_server", "stop_store"),
-    "lease-unheeded": LEASED, "confirm-before-lease-ends": LEASED,
+    "not-synced": ("cut_to_last_sync",), "lease-unheeded": LEASED, "confirm-before-lease-ends": LEASED,
     "acknowledge-alone": ("lose_lagging",), "impatient": ("lose_lagging",), "newcomers-not-waited-for": ("lose_lagging",),
     "who-ends-leaves": ("lose_beside_restart",), "old-owner-not-waited-for": ("lose_behind_cut",), "dead-at-once": MEMBERS, "answer-before-done": MEMBERS, "any-reply-counts": MEMBERS,
     "copy-without-identities": ("hand_over_unheard",), "copy-counts-twice": COPIES, "copy-without-meanwhile": COPIES,

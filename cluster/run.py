@@ -44,8 +44,9 @@ REST = 0.08
 # What begins only when everything else of the story has ended: without a server that is lost for good, no other one may be restarted.
 LAST = ("lose_server",)
 JOURNAL_BITS = 64
-# For how many seconds a shard may be without service, if no server that had it was given up.
-OUTAGE, OUTAGE_IF_BUSY = 12.0, 60.0
+# For how many seconds a shard may be without service, if no server that had it was given up; on a busy machine longer by as much as a request waits longer at
+# rest than it usually does, up to the second.
+OUTAGE, OUTAGE_IF_BUSY, USUAL = 12.0, 60.0, 0.03
 # The exit status of a run that a slow machine kept from its end.
 NO_VERDICT = 4
 # The session in Python, which decides if there is no built one, and is compared with the one that decides.
@@ -83,6 +84,8 @@ class Settings:
     store: str = "redis"
     # What a planted bug is about takes longer.
     is_slow: bool = False
+    # Primaries are moved without handovers.
+    is_abrupt: bool = False
 
 
 @dataclass
@@ -113,9 +116,10 @@ class Run:
         self.settings = settings
         self.begun = time.monotonic()
         self.cluster = LocalCluster(settings.directory, settings.shape, settings.program, settings.rates, settings.bugs, pause=settings.pause,
-                                    lease=settings.lease, store=settings.store, is_slow=settings.is_slow)
+                                    lease=settings.lease, store=settings.store, is_slow=settings.is_slow,
+                                    notes_syncs=any(name == "cut_to_last_sync" for _, name in settings.parts))
         self.operator = Operator(self.cluster.pages, settings.patience or (240.0 if settings.is_busy else 90.0))
-        self.mover = Mover(self.operator, settings.shape.seed, settings.swaps)
+        self.mover = Mover(self.operator, settings.shape.seed, settings.swaps, settings.is_abrupt)
         self.story = HandoverStory(self.cluster, self.operator, self.mover, settings.shape.seed, self.tell)
         self.watcher = Watcher(self.cluster.members)
         self.verdict: Verdict | None = None
@@ -225,13 +229,18 @@ class Run:
             await asyncio.sleep(0.5)
 
     def judge_service(self, asked: list[dict], gaps: dict[str, float]) -> None:
-        """Who is slow is a violation, too: on a machine with other work only a shard without service for very long."""
+        """Who is slow is a violation, too: on a machine with other work only a shard without service for long, as what a request waits at rest tells."""
         assert self.verdict is not None
         failures = unacknowledged(asked, self.story.forsaken)
         if failures and not self.settings.is_busy:
             self.verdict.faults.append(f"{failures} requests were not acknowledged within 10 s")
-        longest = OUTAGE_IF_BUSY if self.settings.is_busy else OUTAGE
+        longest = min(OUTAGE_IF_BUSY, max(OUTAGE, OUTAGE * self.wait_at_rest(asked) / USUAL)) if self.settings.is_busy else OUTAGE
         self.verdict.faults += [f"{shard} was without service for {gap:.0f} s" for shard, gap in gaps.items() if gap > longest and shard not in self.story.forsaken]
+
+    def wait_at_rest(self, asked: list[dict]) -> float:
+        """How many seconds a request waited, in the median, before anything was moved; as many as if the machine were slow if there was none."""
+        ((begin, end),) = self.spans["at rest"]
+        return at(request_waits(it for it in asked if begin <= it["start"] < end), 0.5) or OUTAGE_IF_BUSY
 
     def result(self, faults: dict[str, int]) -> Result:
         """Gathers the figures."""
@@ -335,6 +344,7 @@ def arguments() -> argparse.Namespace:
     names = ", ".join(dict.fromkeys(name for _, name in WHOLE))
     parser.add_argument("--parts", type=parts_of, default=WHOLE, metavar="PART,..",
                         help=f"what happens, of {', '.join(EVERY)}, or what the rules do not survive: {', '.join(OUTSIDE)} (default {names})")
+    parser.add_argument("--abrupt", action="store_true", help="move primaries without handovers: the old owner ceases, then the new one begins")
     parser.add_argument("--details", action="store_true", help="also tell what befell messages, and which situations came up")
     parser.add_argument("--draw", type=int, metavar="COUNT", help="have so many parts instead, drawn by the seed")
     parser.add_argument("--bug", action="append", default=[], help="plant a bug, which the checkers are to find")
@@ -364,7 +374,7 @@ def main() -> int:
     directory = new_directory("cluster-", told.dir)
     shape = shape_of(told, told.seed)
     settings = Settings(directory, shape, program_of(told.program), told.seconds, CALM if told.calm else ROUGH, told.parts, tuple(told.bug),
-                        pause=told.pause, is_busy=told.busy, lease=told.lease, store=told.store)
+                        pause=told.pause, is_busy=told.busy, lease=told.lease, store=told.store, is_abrupt=told.abrupt)
     try:
         result = asyncio.run(Run(settings).run())
         print(report(result, told.details))

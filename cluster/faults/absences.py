@@ -10,6 +10,7 @@ import time
 from smplan.control import Line
 
 from cluster.launch.plans import plan_of, swap_stream
+from cluster.launch.syncs import cut_back
 
 from .losses import LossStory
 from .reopenings import without
@@ -127,6 +128,20 @@ class AbsenceStory(ServerStory, LossStory):
             self.counts["servers whose disk was full"] += not process.is_running
             await process.kill()
             await process.start()
+
+    async def cut_to_last_sync(self) -> None:
+        """Kills a server and its store as they are, and cuts the store's log to what was synced last, as a disk does that loses power. Then it starts again."""
+        if not self.cluster.notes_syncs:
+            self.counts["logs that nobody cut, without a compiler or over SQLite"] += 1
+            return
+        async with self.restarting:
+            name = self.most_primaries(await self.state()) or self.dice.choice(self.alive)
+            await self.cluster.processes[name].kill()
+            lost = cut_back(self.cluster.directory / name)
+            self.tell(f"{name} loses power, and {lost} bytes of its log with it")
+            self.counts["logs cut to their last sync"] += 1
+            self.counts["bytes of logs that were not synced"] += lost
+            await self.cluster.processes[name].start()
 
     async def replace_disk(self) -> None:
         """A server's disk is replaced, with slots and data: it is killed once others have all that it has, starts with nothing, and a reopening gives its replicas up."""

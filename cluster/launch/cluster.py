@@ -13,6 +13,7 @@ from cluster.wire import Address, Channel, Failed, Message
 from .etcd import add_etcd
 from .processes import Nursery, Ports, Processes
 from .shape import Shape
+from .syncs import VARIABLE, library
 
 ROOT = Path(__file__).resolve().parents[2]
 # (compiled once for all processes of all runs; they need the standard library alone)
@@ -63,12 +64,15 @@ class LocalCluster:
     """All processes of a cluster but the clients, by their names: servers `a`, `b`, .., controllers `k0`, .., members `etcd-0`, ..."""
 
     def __init__(self, directory: Path, shape: Shape, program: str, rates: dict = CALM, bugs: tuple[str, ...] = (),
-                 servers: str = "cluster.servers", pause: float = 0.01, lease: float = 0.0, store: str = "redis", is_slow: bool = False) -> None:
+                 servers: str = "cluster.servers", pause: float = 0.01, lease: float = 0.0, store: str = "redis", is_slow: bool = False, notes_syncs: bool = False) -> None:
         self.store, self.is_slow = store, is_slow
+        # Whether it is noted how much of a log is synced.
+        syncs = library(ROOT / "build") if notes_syncs and store == "redis" else None
+        self.notes_syncs = syncs is not None
         self.directory, self.shape, self.program, self.bugs, self.server_module, self.pause, self.lease = directory, shape, program, bugs, servers, pause, lease
         # The file that names the shards that are being moved.
         self.moving = directory / "moving"
-        self.processes = Processes(directory / "logs", Nursery([*PYTHON, "cluster.launch.nursery"], ENVIRONMENT))
+        self.processes = Processes(directory / "logs", Nursery([*PYTHON, "cluster.launch.nursery"], ENVIRONMENT | ({VARIABLE: str(syncs)} if syncs is not None else {})))
         self.free = Ports()
         self.members = add_etcd(self.processes, self.free, directory)
         self.proxies = Proxies(shape.seed, rates, self.free.take(1)[0], self.free)

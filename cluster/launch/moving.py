@@ -11,7 +11,7 @@ from typing import Any
 from smplan.control import Line
 
 from .operator import NoLeader, Operator
-from .plans import move_stream, plan_of, swap_stream
+from .plans import abrupt_stream, move_stream, plan_of, swap_stream
 
 # How many primaries are handed over at once, and one more by a drain: few, since clients that never rest use these shards, and each handover is to meet
 # many requests. These clients come to a shard so many seconds before its handover begins: what is moved is in use then, too.
@@ -20,15 +20,16 @@ BEFORE = 0.3
 
 
 def is_handover(stream: Line) -> bool:
-    """Whether a stream hands a primary over."""
-    return stream["code"][0]["do"] == "prepare_add"
+    """Whether a stream moves a primary to another server."""
+    words = [it["do"] for it in stream["code"]]
+    return words[0] == "prepare_add" or ("unlist" in words and words[-1] == "drop")
 
 
 class Mover:
     """Makes plans, begins them and waits until they have ended."""
 
-    def __init__(self, operator: Operator, seed: int, swaps: float = 0.2) -> None:
-        self.operator, self.dice, self.swaps = operator, random.Random(f"moves {seed}"), swaps
+    def __init__(self, operator: Operator, seed: int, swaps: float = 0.2, is_abrupt: bool = False) -> None:
+        self.operator, self.dice, self.swaps, self.is_abrupt = operator, random.Random(f"moves {seed}"), swaps, is_abrupt
         self.busy: set[str] = set()
         # Those of them whose primary stays, or has been handed over by now: clients need not use them.
         self.passed: set[str] = set()
@@ -113,7 +114,12 @@ class Mover:
             return None
         target = self.dice.choice(free)
         rooms[target] -= shard["load"]
-        return move_stream(shard, self.dice.choice(sources), target)
+        return self.move(shard, self.dice.choice(sources), target)
+
+    def move(self, shard: Line, source: str, target: str) -> Line:
+        """A stream that moves a replica, a primary by a handover unless moves are abrupt."""
+        is_primary = any(it["server"] == source and it["state"] == "primary" for it in shard["cells"])
+        return (abrupt_stream if is_primary and self.is_abrupt else move_stream)(shard, source, target)
 
     async def begin(self, streams: dict[str, Line]) -> bool:
         """Begins a plan of streams, each for a shard, and waits until it has ended; tells whether it did."""
@@ -183,6 +189,6 @@ class Mover:
                 continue
             target = max(free, key=lambda it: rooms[it])
             rooms[target] -= shard["load"]
-            chosen[shard["shard"]] = move_stream(shard, server, target)
+            chosen[shard["shard"]] = self.move(shard, server, target)
         if chosen:
             await self.begin(chosen)

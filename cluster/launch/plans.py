@@ -24,6 +24,19 @@ def move_stream(shard: Line, source: str, target: str) -> Line:
     return {"budget": 4, "holds": {"cells": [absent], "crowns": [crown], "room": room}, "code": code}
 
 
+def abrupt_stream(shard: Line, source: str, target: str) -> Line:
+    """A stream that moves a primary without a handover: it is copied, the old owner ceases, and then the new one begins."""
+    name, load = shard["shard"], shard["load"]
+    code = [
+        {"do": "add", "shard": name, "server": target, "role": "secondary"}, {"do": "unlist", "shard": name},
+        {"do": "change", "shard": name, "server": source, "to": "secondary"}, {"do": "change", "shard": name, "server": target, "to": "primary"},
+        {"do": "publish", "shard": name}, {"do": "drop", "shard": name, "server": source},
+    ]
+    crown = {"shard": name, "lead": "at", "server": source, "listed": shard["listed"]}
+    holds = {"cells": [{"shard": name, "server": target, "state": "absent"}], "crowns": [crown], "room": [{"server": target, "amount": load}]}
+    return {"budget": 4, "holds": holds, "code": code}
+
+
 def swap_stream(shard: Line, primary: str, secondary: str) -> Line:
     """A stream that makes the primary a secondary, and a secondary the primary; the map names nobody between."""
     name = shard["shard"]

@@ -33,7 +33,7 @@ async def main() -> None:
     """Starts the server and serves until the process is ended."""
     told = arguments()
     told.dir.mkdir(parents=True, exist_ok=True)
-    engine, end = await open_store(told.store, told.dir)
+    engine, end = await open_store(told.store, told.dir, "no" if told.bug == "not-synced" else "always")
     store = Store(engine)
     await store.load()
     cluster = Cluster.read(told.cluster)

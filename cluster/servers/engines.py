@@ -18,11 +18,11 @@ Engine = Redis | Sqlite
 REDIS, SQLITE = "redis", "sqlite"
 
 
-async def open_store(kind: str, folder: Path) -> tuple[Engine, Awaitable[str]]:
-    """Opens the store of a folder; with it comes why it has ended, once it has."""
+async def open_store(kind: str, folder: Path, syncs: str = "always") -> tuple[Engine, Awaitable[str]]:
+    """Opens the store of a folder; with it comes why it has ended, once it has. A redis-server syncs its log always, unless a bug is planted."""
     if kind == SQLITE:
         return Sqlite(folder), asyncio.get_running_loop().create_future()
-    child = start_redis(folder)
+    child = start_redis(folder, syncs)
 
     async def end() -> str:
         return f"redis-server ended: {await asyncio.to_thread(child.wait)}"
@@ -40,16 +40,17 @@ def die_with_parent() -> None:
     ctypes.CDLL(None).prctl(1, signal.SIGKILL)
 
 
-def start_redis(folder: Path) -> "subprocess.Popen[bytes]":
+def start_redis(folder: Path, syncs: str = "always") -> "subprocess.Popen[bytes]":
     """Starts the redis-server of a folder, once nobody else has it. It ends with this process, however this process
     ends."""
     lock = os.open(folder / "lock", os.O_RDWR | os.O_CREAT)
     fcntl.flock(lock, fcntl.LOCK_EX)
     (folder / "redis.sock").unlink(missing_ok=True)
-    command = ["redis-server", "--port", "0", "--unixsocket", "redis.sock", "--appendonly", "yes", "--appendfsync", "always",
+    command = ["redis-server", "--port", "0", "--unixsocket", "redis.sock", "--appendonly", "yes", "--appendfsync", syncs,
                "--save", "", "--auto-aof-rewrite-percentage", "0", "--logfile", "redis.log"]
+    environment = {**os.environ, "LD_PRELOAD": os.environ["SM_SYNCS"]} if os.environ.get("SM_SYNCS") else None
     # (the child keeps the lock: who starts next waits until it has ended)
-    child = subprocess.Popen(command, cwd=folder, preexec_fn=die_with_parent, stdout=subprocess.DEVNULL, pass_fds=(lock,))
+    child = subprocess.Popen(command, cwd=folder, env=environment, preexec_fn=die_with_parent, stdout=subprocess.DEVNULL, pass_fds=(lock,))
     os.close(lock)
     return child
 

@@ -340,7 +340,7 @@ PLANTED = {
     "copy-without-values": with_parts(sources=WithoutValues), "joined-at-once": with_parts(sources=JoiningAtOnce),
     "newcomers-not-waited-for": with_parts(sources=WithoutNewcomers), "old-owner-not-waited-for": NotWaitingForOldOwner,
     "dead-at-once": with_parts(sources=DeadAtOnce), "who-ends-leaves": with_parts(sources=LeavingAtEnd), "forgets-and-rests": Resting,
-    "lease-unheeded": with_parts(requests=Unleased),
+    "lease-unheeded": with_parts(requests=Unleased), "not-synced": Server,
 }
 
 

@@ -1,0 +1,44 @@
+"""A log is cut to what was synced last, which a library notes."""
+import os
+import shutil
+import unittest
+from pathlib import Path
+from unittest.mock import patch
+
+from cluster.launch.cluster import ROOT
+from cluster.launch.directory import new_directory
+from cluster.launch.syncs import VARIABLE, cut_back, library
+from cluster.servers.engines import open_redis, start_redis
+
+
+@unittest.skipUnless(shutil.which("redis-server") and shutil.which("cc"), "there is no redis-server or no compiler")
+class CutTest(unittest.IsolatedAsyncioTestCase):
+    """A redis-server that is killed, and whose log is cut then."""
+
+    async def count_left(self, syncs):
+        """How many of ten values are there again."""
+        folder: Path = new_directory("cluster-syncs-", None)
+        self.addCleanup(shutil.rmtree, folder)
+        with patch.dict(os.environ, {VARIABLE: str(library(ROOT / "build"))}):
+            for turn in range(2):
+                child = start_redis(folder, syncs)
+                redis = await open_redis(folder)
+                if not turn:
+                    for number in range(10):
+                        await redis.call("RPUSH", "values", number)
+                count = await redis.call("LLEN", "values")
+                redis.close()
+                child.kill()
+                child.wait()
+                cut_back(folder)
+        return count
+
+    async def test_what_is_synced_before_the_answer_stays(self):
+        self.assertEqual(await self.count_left("always"), 10)
+
+    async def test_what_is_not_is_lost(self):
+        self.assertLess(await self.count_left("no"), 10)
+
+
+if __name__ == "__main__":
+    unittest.main()
