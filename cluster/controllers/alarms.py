@@ -1,6 +1,7 @@
 """What is wrong with servers or with the journal, as a controller that leads finds out by itself, for its page and its figures."""
 from __future__ import annotations
 
+import math
 import time
 from collections.abc import Awaitable, Callable
 from dataclasses import dataclass, field
@@ -31,8 +32,8 @@ class Alarms:
         # All that was ever given, in words.
         self.given: list[str] = []
 
-    def give(self, about: str, what: str, text: str) -> None:
-        """Gives an alarm, or the same again."""
+    def give(self, about: str, what: str, text: str, lasts: bool = False) -> None:
+        """Gives an alarm, or the same again. One that lasts is never over by itself."""
         known = self.present.get((about, what))
         if known is None or time.monotonic() - known.last > OVER:
             self.present[about, what] = Alarm(about, what, text)
@@ -40,6 +41,8 @@ class Alarms:
             self.log(self.given[-1])
         else:
             known.last, known.text = time.monotonic(), text
+        if lasts:
+            self.present[about, what].last = math.inf
 
     def end(self, about: str, *kinds: str) -> None:
         """What was wrong is so no longer."""

@@ -129,8 +129,12 @@ class Member:
             except EtcdFault:
                 pass
             except JournalLost as why:
-                self.alarms.give("the journal", "lost", f"{why}; adopt the service under a new journal")
+                self.give_up_journal(why)
             await asyncio.sleep(self.settings.follow)
+
+    def give_up_journal(self, why: JournalLost) -> None:
+        """Gives the alarm that the journal has lost lines. This process leads no more: it knows what nobody else will."""
+        self.alarms.give("the journal", "lost", f"{why}; adopt the service under a new journal", lasts=True)
 
     async def lead(self) -> None:
         """Leads while the lease lasts."""
@@ -149,6 +153,8 @@ class Member:
                 await asyncio.wait([keeping], timeout=0.5)
                 await controller.refresh()
                 await self.confirm()
+        except JournalLost as why:
+            self.give_up_journal(why)
         except (EtcdFault, StoreLost):
             pass
         finally:
@@ -157,6 +163,8 @@ class Member:
                 auditing.cancel()
             self.past.led_since = None
             self.settings.log(f"rests at place {self.journal.place}: {controller.lost or 'the lease has ended'}")
+            if isinstance(controller.lost, JournalLost):
+                self.give_up_journal(controller.lost)
             await controller.rest()
             await self.lease.leave()
 

@@ -81,6 +81,20 @@ class AuditorTest(unittest.IsolatedAsyncioTestCase):
         self.assertEqual(session.asked[1]["place"], 5)
 
 
+class LastingTest(unittest.TestCase):
+    """Which alarms are over."""
+
+    def test_one_that_is_not_given_again_is_over_unless_it_lasts(self):
+        alarms, lines = Alarms(lambda text: lines.append(text)), []
+        alarms.give("a", "old", "x")
+        alarms.give("the journal", "lost", "y", lasts=True)
+        for it in alarms.present.values():
+            it.last -= 100
+        self.assertEqual([it.about for it in alarms.now()], ["the journal"])
+        alarms.give("a", "old", "x")
+        self.assertEqual((len(alarms.now()), len(lines)), (2, 3))
+
+
 class GivenUpTest(unittest.TestCase):
     """Who may serve while a reopening gives servers up."""
 
