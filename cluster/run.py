@@ -124,7 +124,7 @@ class Run:
         self.watcher = Watcher(self.cluster.members)
         self.verdict: Verdict | None = None
         # Spans of time, by what went on in them.
-        self.spans: dict[str, list[tuple[int, int]]] = {"at rest": [], "while a server is drained": []}
+        self.spans: dict[str, list[tuple[int, int]]] = {"at rest": [], "while shards move": [], "while a server is drained": []}
         self.moved_for = 0.0
 
     def tell(self, text: str) -> None:
@@ -171,6 +171,9 @@ class Run:
         showing = asyncio.create_task(self.show())
         telling = asyncio.create_task(self.mover.tell_moves(self.cluster.moving))
         start = time.monotonic()
+        moved_at = time.monotonic_ns()
+        first = min((share for share, _ in self.settings.parts), default=1.0) * self.settings.seconds
+        self.spans["while shards move"].append((moved_at, moved_at + int(first * 1e9)))
         doing: list[asyncio.Task[None]] = []
         for share, name in self.settings.parts:
             doing.append(asyncio.create_task(self.do_at(start + share * self.settings.seconds, name, tuple(doing) if name in LAST else ())))

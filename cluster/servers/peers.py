@@ -67,19 +67,27 @@ class Lease:
         return self.seconds > 0 and time.monotonic() >= self.until
 
     async def keep(self) -> None:
-        """Asks all controllers, again and again."""
-        channels, was_over = [Channel(it) for it in self.server.cluster.controllers.values()], True
+        """Asks all controllers, again and again, and notes when the lease begins and when it is over."""
+        was_over = True
+        for address in self.server.cluster.controllers.values() if self.seconds else ():
+            self.server.begin(self.ask_again(Channel(address)))
         while self.seconds:
-            await asyncio.gather(*(self.ask(it) for it in channels), asyncio.sleep(self.seconds / 6))
+            await asyncio.sleep(self.seconds / 20)
             if self.is_over != was_over:
                 was_over = self.is_over
                 self.server.store.note("lease-over" if was_over else "lease")
 
+    async def ask_again(self, channel: Channel) -> None:
+        """Asks one controller again and again: an answer or two may be lost."""
+        while True:
+            await self.ask(channel)
+            await asyncio.sleep(self.seconds / 12)
+
     async def ask(self, channel: Channel) -> None:
-        """Asks one whether it may serve."""
+        """Asks one controller whether the server may serve."""
         begun = time.monotonic()
         try:
-            reply = await channel.ask(self.seconds / 2, serve={"server": self.server.name})
+            reply = await channel.ask(self.seconds / 6, serve={"server": self.server.name})
         except Failed:
             return
         if "serves" in reply:
