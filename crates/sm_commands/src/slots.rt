@@ -1,7 +1,10 @@
 //! The slots that a server tells.
-ghost use Rattle.std.specs.Prelude.{◌≡◌, All, IfOk, true};
-ghost use Rattle.sm_commands.specs.Reading.{ReadsOn, is_clean};
-ghost use Rattle.sm_commands.specs.Slots.{IsSlotFor, is_handover, is_named, needs_position, needs_reached};
+ghost use Rattle.std.specs.Prelude.{◌≡◌, All, IfOk, IfSome, Some, true};
+ghost use Rattle.json_tree.specs.View.{view};
+ghost use Rattle.sm_commands.specs.Reading.{ReadsOn, is_clean, object_data};
+ghost use Rattle.sm_commands.specs.Slots.{IsSlotFor, TellSlots, TellsParty, TellsSlot, cell_word, is_handover, is_named, needs_position, needs_reached};
+ghost use Rattle.sm_commands.specs.Values.{text_at};
+ghost use Rattle.sm_commands.specs.declared.command_member.CommandMember.TheVariants as members;
 
 use crate::bad_line::BadLine;
 use crate::command_member::CommandMember;
@@ -94,7 +97,9 @@ const NAMES: &[CommandMember] = &[
 ];
 
 /// Returns the kind of cell that a word names.
-fn cell_kind(word: &str) -> Option<CellKind> {
+fn cell_kind(word: &str) -> Option<CellKind>
+    ensures { IfSome result (λ kind. cell_word kind ≡ word.now) }
+{
     match word {
         "absent" => Some(CellKind::Absent),
         "prepared" => Some(CellKind::Prepared),
@@ -108,7 +113,8 @@ fn cell_kind(word: &str) -> Option<CellKind> {
 /// Returns the cell that a slot has to tell. If it tells none, which is noted, returns the cell that needs nothing
 /// else.
 fn cell_in(reader: &mut Reader<'_, '_>) -> CellKind
-    ensures { ReadsOn reader.old reader.new }
+    ensures on { ReadsOn reader.old reader.new }
+    ensures told { is_clean reader.new.faults ≡ true → text_at members.Cell (object_data reader.old) ≡ Some (cell_word result) }
 {
     let row = Row::One(CommandMember::Cell);
     match reader.value(row) {
@@ -124,6 +130,7 @@ fn cell_in(reader: &mut Reader<'_, '_>) -> CellKind
 fn party_in<'a>(reader: &mut Reader<'_, 'a>, in_handover: bool) -> PartyText<'a>
     ensures on { ReadsOn reader.old reader.new }
     ensures named { is_clean reader.new.faults ≡ true → in_handover ≡ true → is_named result ≡ true }
+    ensures told { is_clean reader.new.faults ≡ true → TellsParty (object_data reader.old) result }
 {
     if in_handover {
         return match reader.name(Row::One(CommandMember::Party)) {
@@ -144,7 +151,8 @@ fn read_slot<'a>(
     part: LinePart,
     needs: SlotNeeds,
 ) -> Result<SlotText<'a>, BadLine<'a>>
-    ensures { IfOk result (IsSlotFor needs) }
+    ensures needed { IfOk result (IsSlotFor needs) }
+    ensures told { IfOk result (TellsSlot (view entry.now)) }
 {
     let mut reader = Reader::new(entry, part, NAMES);
     let shard = reader.name(Row::One(CommandMember::Shard));
@@ -181,7 +189,8 @@ pub fn read_slots<'a>(
     entries: &[Tree<'a>],
     needs: SlotNeeds,
 ) -> Result<Result<Vec<SlotText<'a>>, BadLine<'a>>, AllocError>
-    ensures { IfOk result (λ read. IfOk read (λ slots. All (IsSlotFor needs) slots.items)) }
+    ensures needed { IfOk result (λ read. IfOk read (λ slots. All (IsSlotFor needs) slots.items)) }
+    ensures told { IfOk result (λ read. IfOk read (λ slots. TellSlots entries.now slots.items)) }
 {
     let mut faults = Faults::new();
     let mut slots = Vec::with_capacity(alloc, entries.len())?;
