@@ -304,10 +304,12 @@ class Inline:
 class Frame(Server):
     """A server of the frame with the functions of examples/kv_server.py, by which the schedules of tests/agent/kv_rules.py play."""
 
+    times = FAST
+
     def __init__(self, number, peers):
         self.peers, self.db = peers, nullcontext()
         peers[number] = self
-        super().__init__(NAMES[number], kv_http.Texts(), Sqlite(":memory:"), [], is_new=True, limits=FAST)
+        super().__init__(NAMES[number], kv_http.Texts(), Sqlite(":memory:"), [], is_new=True, limits=self.times)
         self.pool, self.beside, self.call = Inline(), Inline(), self.call_peer
         self.learn({name: {"number": at, "url": f"http://{name}"} for at, name in NAMES.items()})
 
@@ -616,6 +618,20 @@ class RulesTest(unittest.TestCase):
         for _, schedule in SCHEDULES:
             with self.subTest(schedule.__name__):
                 schedule(Frame)
+
+    def test_identities_go_when_they_are_old(self):
+        class Soon(Frame):
+            times = replace(FAST, keeping=0.5)
+
+        a, b = kv_rules.pair(Soon, Cell.SECONDARY)
+        kv_rules.push(a, "r1", "x")
+        self.assertEqual(kv_rules.push(a, "r1", "x"), "x")
+        time.sleep(0.6)
+        for request in ("r2", "r3"):
+            kv_rules.push(a, request, "y")
+        for it in (a, b):
+            self.assertEqual(it.kept(lambda kept: [write.request for write in kept.kept("s")]), ["r2", "r3"])
+        self.assertEqual(kv_rules.push(a, "r1", "x"), "xyyx")
 
     def test_each_planted_bug_does_harm(self):
         for kind, schedule in SCHEDULES:
