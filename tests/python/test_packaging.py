@@ -1,7 +1,10 @@
-"""What is packed beside the programs: the figures that alerts and the dashboard name are told by a controller or a gate, with these labels."""
+"""What is packed beside the programs: the figures that alerts and the dashboard name are told by a controller or a gate, with these labels; the ports
+are where the pages say; each command of smplan-control has an example and its exit statuses."""
 import asyncio
 import json
+import os
 import re
+import subprocess
 import sys
 import tempfile
 import unittest
@@ -11,6 +14,7 @@ from types import SimpleNamespace
 from typing import Dict, List, Set
 
 from fixtures import ROOT
+from smplan import control_commands
 from smplan.control import DONE, Controller, Outgoing, Session
 from smplan.control_run import Running, Settings
 from smplan.control_run_etcd import AmongOthers, EtcdSettings
@@ -97,6 +101,34 @@ class Figures(unittest.TestCase):
         for name, module in re.findall(r'^(smplan-\w+) = "([\w.]+):main"$', text, re.MULTILINE):
             self.assertIn(f"{name}:{module.replace('.__main__', '')}", (ROOT / "scripts" / "install-tree").read_text())
         self.assertEqual(2, text.count(":main"))
+
+
+class Installed(unittest.TestCase):
+    """What scripts/install-tree puts below a prefix, and what commands say of themselves."""
+
+    def test_the_ports_to_go_and_rust(self):
+        with tempfile.TemporaryDirectory() as folder:
+            stub = Path(folder) / "stub"
+            stub.write_text("#!/bin/sh\necho usage\n")
+            stub.chmod(0o755)
+            subprocess.run([ROOT / "scripts/install-tree", f"{folder}/tree", "/usr"], check=True, capture_output=True, env={**os.environ, "SMPLAN": str(stub), "SMPLAND": ""})
+            at = Path(folder) / "tree/usr/share/smplan/ports"
+            found = {str(it.relative_to(at)) for it in at.rglob("*") if it.is_file()}
+        sources = {str(it.relative_to(ROOT / "ports")) for port in ("go", "rust") for it in (ROOT / "ports" / port).rglob("*") if it.is_file()}
+        self.assertEqual(found, {it for it in sources if not it.endswith("_test.go")})
+        self.assertLess({"go/go.mod", "go/agent.go", "go/server/server.go", "go/examples/kv/main.go", "rust/agent.rs"}, found)
+        self.assertIn("(cd /usr/share/smplan/ports/go; go build", (ROOT / "docs/CONTROLLER.md").read_text())
+
+    def test_each_command_has_an_example_and_its_exit_statuses(self):
+        commands = next(it.choices for it in control_commands.parser()._actions if isinstance(it.choices, dict))
+        self.assertLess({"run", "begin", "state", "restart", "reopen", "add-server", "remove-server", "repair", "controllers", "drain", "watch", "metrics", "audit-journal", "gate"}, set(commands))
+        for name, parser in commands.items():
+            text = " ".join(parser.format_help().split())
+            with self.subTest(name):
+                self.assertRegex(text, "[Ee]xample:? ")
+                self.assertIn("Exit status", text)
+        for name in ("begin", "state", "restart", "reopen", "add-server", "remove-server", "repair", "controllers", "drain", "watch"):
+            self.assertIn("--json", commands[name].format_help(), name)
 
 
 if __name__ == "__main__":
