@@ -157,6 +157,7 @@ class Run:
             evidence = Evidence(story.alive, floors, story.permits, self.watcher.seen, story.shown, story.compacted_at, is_outside)
             self.verdict = await judge(self.cluster, self.operator, program, reference, evidence)
             self.verdict.need(is_whole, "secondaries do not come to have all writes")
+            self.verdict.need(not story.counts["disks that nobody told"], "a server has no data of what it is to serve, and no page tells it")
             return self.result(counts)
         finally:
             self.watcher.end()

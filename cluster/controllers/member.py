@@ -213,9 +213,13 @@ class Member:
             raise Failed("NotLeader")
         if "serve" in message:
             return await self.let_serve(message["serve"]["server"])
-        reply = await self.command({"do": "restore", **message["restore"]})
+        asked = message["restore"]
+        if asked.get("lost"):
+            text = f"it is to serve {', '.join(asked['lost'])}, and has no data of that: reopen, with a document in which it has nothing"
+            self.alarms.give(asked["server"], "no data", text)
+        reply = await self.command({"do": "restore", "server": asked["server"], "nonce": asked["nonce"]})
         if "restore" not in reply:
-            await self.look_at_asker(message["restore"]["server"])
+            await self.look_at_asker(asked["server"])
             told = reply.get("refused") or reply.get("fault") or {}
             raise Failed("Refused", told.get("kind", "") if isinstance(told, dict) else str(told))
         return {"restore": to_wire(reply["restore"])}

@@ -160,6 +160,31 @@ class AbsenceStory(ServerStory, LossStory):
             await self.cluster.processes[name].start()
             await self.reopen(without(state, self.document, self.lost, frozenset({name})), [], f"the disk of {name} was replaced")
 
+    async def replace_disk_under_permit(self) -> None:
+        """The disk of a server is replaced while it is down under a permit: it has no data of what it is to serve, takes no slots, and says so; then a reopening
+        gives its replicas up."""
+        async with self.restarting, self.reopening:
+            name = self.most_primaries(await self.state()) if await self.may_lose() else None
+            permit = None if name is None else await self.approved(name, self.name("rollout"))
+            if name is None or permit is None:
+                return
+            state = await self.state()
+            self.note_permit(name, True)
+            if not await self.kill_at_rest(name):
+                if await self.is_up(name, permit):
+                    self.note_permit(name, False)
+                return
+            self.note_lost(name)
+            self.forsake(name, state)
+            self.keep_old(name)
+            await self.cluster.processes[name].start()
+            self.counts["disks replaced under a permit"] += 1
+            if not await self.wait_until_told(f"the disk of {name} is replaced while it is down under permit {permit}", {name}):
+                self.counts["disks that nobody told"] += 1
+            await self.reopen(without(state, self.document, self.lost, frozenset({name})), [], f"the disk of {name} was replaced")
+            if await self.is_up(name, permit):
+                self.note_permit(name, False)
+
     def keep_old(self, name: str) -> None:
         """Puts a server's folder aside, where the checkers read what it did."""
         folder = self.cluster.directory / name

@@ -1,5 +1,5 @@
-"""What the rules do not survive: a given-up server that goes on, a server or the journal that is rolled back, a disk that is replaced under a permit. The story tells
-who gives the alarm, and after how long; the checkers count what was lost."""
+"""What the rules do not survive: a given-up server that goes on, a server or the journal that is rolled back. The story tells who gives the alarm, and after how
+long; the checkers count what was lost."""
 from __future__ import annotations
 
 import asyncio
@@ -14,8 +14,6 @@ from .absences import AbsenceStory
 from .leaders import LeaderStory
 from .reopenings import without
 
-# For how many seconds an alarm is waited for.
-TELLING = 10.0
 # How many lines of the journal are lost at least.
 LINES = 6
 
@@ -23,20 +21,10 @@ LINES = 6
 class OutsideStory(LeaderStory, AbsenceStory):
     """What happens outside the premises."""
 
-    async def wait_until_told(self, what: str, about: set[str]) -> None:
-        """Waits until some controller's page gives an alarm about one of these; tells which one, and after how long."""
-        begun = time.monotonic()
+    async def look_for_alarm(self, what: str, about: set[str]) -> None:
+        """Waits until a page tells what was done."""
         self.counts["faults outside the rules"] += 1
-        while time.monotonic() - begun < TELLING:
-            for name in self.operator.pages:
-                page = await self.operator.post(name, "/state", None) or {}
-                for alarm in page.get("alarms", []):
-                    if alarm["about"] in about:
-                        self.tell(f"{what}: told after {time.monotonic() - begun:.1f} s, by {name}: {alarm['about']} {alarm['what']}: {alarm['text']}")
-                        self.counts["faults that a page told"] += 1
-                        return
-            await asyncio.sleep(0.1)
-        self.tell(f"{what}: nobody told in {TELLING:.0f} s")
+        self.counts["faults that a page told"] += await self.wait_until_told(what, about)
 
     async def return_given_up(self) -> None:
         """Stops a server, gives it up, reopens without it, and lets it go on, as it was: it does not know."""
@@ -56,7 +44,7 @@ class OutsideStory(LeaderStory, AbsenceStory):
             self.cluster.processes[name].signal_group(signal.SIGCONT)
             self.tell(f"{name}, which was given up, goes on")
             self.counts["given-up servers that went on"] += 1
-            await self.wait_until_told(f"{name} was given up, and goes on", {name})
+            await self.look_for_alarm(f"{name} was given up, and goes on", {name})
             await self.cluster.processes[name].kill()
 
     async def give_up_isolated(self, seconds: float = 4.0) -> None:
@@ -76,7 +64,7 @@ class OutsideStory(LeaderStory, AbsenceStory):
                 await asyncio.sleep(seconds)
             self.tell(f"{name}, which was given up, is in reach again")
             self.counts["given-up servers that went on"] += 1
-            await self.wait_until_told(f"{name} was given up, and is in reach again", {name})
+            await self.look_for_alarm(f"{name} was given up, and is in reach again", {name})
             await self.cluster.processes[name].kill()
 
     async def roll_back(self, seconds: float = 4.0) -> None:
@@ -96,37 +84,20 @@ class OutsideStory(LeaderStory, AbsenceStory):
             self.tell(f"{name} is rolled back by {seconds:g} s")
             await self.cluster.processes[name].start()
             self.counts["servers rolled back"] += 1
-            await self.wait_until_told(f"{name} is rolled back", {name})
-
-    async def replace_disk_under_permit(self) -> None:
-        """Replaces the disk of a server that is down under a permit: it gets its slots back, and has no data."""
-        async with self.restarting:
-            name = self.most_primaries(await self.state())
-            permit = None if name is None else await self.approved(name, self.name("rollout"))
-            if name is None or permit is None:
-                return
-            self.tell(f"{name} is down under permit {permit}, and its disk is replaced")
-            self.note_permit(name, True)
-            await self.cluster.processes[name].kill()
-            self.keep_old(name)
-            await self.cluster.processes[name].start()
-            self.counts["disks replaced under a permit"] += 1
-            if await self.is_up(name, permit):
-                self.note_permit(name, False)
-            await self.wait_until_told(f"{name} has its slots, and no data", {name})
+            await self.look_for_alarm(f"{name} is rolled back", {name})
 
     # The journal.
 
     async def restore_etcd(self) -> None:
         """Puts a backup of etcd in place of what it has, while controllers run."""
         lines = await self.roll_back_etcd()
-        await self.wait_until_told(f"{lines} lines of the journal are lost", {"the journal", *self.alive})
+        await self.look_for_alarm(f"{lines} lines of the journal are lost", {"the journal", *self.alive})
 
     async def restore_etcd_alone(self) -> None:
         """Puts a backup of etcd in place of what it has, and starts all controllers anew: none knows the lines that are lost."""
         names = self.cluster.shape.controller_names
         lines = await self.roll_back_etcd(tuple(names))
-        await self.wait_until_told(f"{lines} lines of the journal are lost, which no controller knows", {"the journal", *self.alive})
+        await self.look_for_alarm(f"{lines} lines of the journal are lost, which no controller knows", {"the journal", *self.alive})
 
     async def roll_back_etcd(self, controllers: tuple[str, ...] = ()) -> int:
         """Makes a backup of etcd, and puts it back once there are some lines more, while these controllers are down; how many lines of the journal are lost."""

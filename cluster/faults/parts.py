@@ -18,9 +18,9 @@ REOPENINGS = ("reopen_behind_leader", "reopen_before_write", "reopen_behind_cut"
 # What is done with handovers, and with servers that lose their slots twice.
 OTHERS = ("break_following", "hand_over_unheard", "forget_twice")
 # A server, or its disk, is given up. Before that each shard has all its replicas, with all writes: the rules keep what was acknowledged.
-LOSSES = ("lose_server", "lose_lagging", "lose_behind_cut", "lose_beside_restart", "replace_disk")
+LOSSES = ("lose_server", "lose_lagging", "lose_behind_cut", "lose_beside_restart", "replace_disk", "replace_disk_under_permit")
 # What the rules as they stand do not survive: never drawn. A run has them if they are named.
-OUTSIDE = ("return_given_up", "give_up_isolated", "roll_back", "replace_disk_under_permit", "restore_etcd", "restore_etcd_alone")
+OUTSIDE = ("return_given_up", "give_up_isolated", "roll_back", "restore_etcd", "restore_etcd_alone")
 EVERY = (*(name for name, _ in USUAL), *AWAY, *REOPENINGS, *OTHERS, *LOSSES)
 
 

@@ -3,6 +3,7 @@ from __future__ import annotations
 
 import asyncio
 import random
+import time
 from collections import Counter
 from collections.abc import AsyncIterator, Callable
 from contextlib import asynccontextmanager
@@ -15,6 +16,10 @@ from cluster.launch.shown import Shown
 from cluster.wire import Address, Channel, Failed
 
 from smplan.control import Line
+
+
+# For how many seconds an alarm is waited for.
+TELLING = 10.0
 
 
 class Story:
@@ -77,6 +82,20 @@ class Story:
             return {}
         finally:
             channel.close()
+
+    async def wait_until_told(self, what: str, about: set[str]) -> bool:
+        """Waits until some controller's page gives an alarm about one of these; tells which one, and after how long, and whether one does in time."""
+        begun = time.monotonic()
+        while time.monotonic() - begun < TELLING:
+            for name in self.operator.pages:
+                page = await self.operator.post(name, "/state", None) or {}
+                for alarm in page.get("alarms", []):
+                    if alarm["about"] in about:
+                        self.tell(f"{what}: told after {time.monotonic() - begun:.1f} s, by {name}: {alarm['about']} {alarm['what']}: {alarm['text']}")
+                        return True
+            await asyncio.sleep(0.1)
+        self.tell(f"{what}: nobody told in {TELLING:.0f} s")
+        return False
 
     # Links between processes.
 

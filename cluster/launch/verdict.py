@@ -186,8 +186,9 @@ def entries_said(told: list[Line]) -> set[tuple[str, str | None, int]]:
 
 
 def false_alarms(page: Line) -> list[str]:
-    """The alarms that a controller gave, if nothing was wrong. (After a loss a replica may have writes that were never acknowledged, and that its source lacks.)"""
-    return [it for it in page.get("given", []) if " lacks writes: " not in it]
+    """The alarms that a controller gave, if nothing was wrong. (After a loss a replica may have writes that were never acknowledged, and that its source lacks. A
+    disk that was replaced has no data.)"""
+    return [it for it in page.get("given", []) if " lacks writes: " not in it and " no data: " not in it]
 
 
 async def look_at_replicas(verdict: Verdict, operator: Operator, journal: Journal, is_outside: bool) -> None:

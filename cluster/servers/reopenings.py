@@ -19,6 +19,8 @@ class Reopenings:
 
     def __init__(self, server: "Server") -> None:
         self.server, self.store = server, server.store
+        # The shards that a restore was to have it serve, and of which it has no data.
+        self.lost: list[str] = []
 
     async def fence(self, told: Message) -> Message:
         """Takes a fence once no request of a handover runs, and answers with all slots or with a nonce."""
@@ -106,8 +108,12 @@ class Reopenings:
         return {"settled": {"server": self.server.name, "base": told["base"]}}
 
     async def restore(self, told: Message) -> Message:
-        """Takes the slots that it asked for under a nonce."""
+        """Takes the slots that it asked for under a nonce, unless it has lost the data of one that it is to serve."""
         async with self.server.changing, AllLocks(self.shards_with(told)):
+            self.lost = self.lost_data(told)
+            if self.lost:
+                self.store.note("restore-without-data", shards=self.lost)
+                raise Failed("NoData", f"it has no data of {', '.join(self.lost)}")
             restoration = Restoration(int(told["journal"], 16), told["fence"], told["base"], int(told["nonce"], 16) or 1)
             answer = await self.take(self.store.base, restoration, told, "restore")
             if answer != Answer.TAKEN:
@@ -115,6 +121,11 @@ class Reopenings:
         if answer != Answer.TAKEN:
             raise Failed("Ignored", "it did not ask for this now")
         return {"restored": {"server": self.server.name, "nonce": told["nonce"]}}
+
+    def lost_data(self, told: Message) -> list[str]:
+        """The shards that an Unknown server is to serve, and has no data of."""
+        serves = [it["shard"] for it in told["slots"] if it["state"] in ("primary", "forwarding")]
+        return [] if self.store.base.known else [it for it in serves if not self.store.shard(it).has_copy]
 
     def shards_with(self, told: Message) -> list[Shard]:
         """All shards of this server, those that it is to have included."""
@@ -138,6 +149,8 @@ class Reopenings:
             commands += self.store.slot_commands(name, slot)
             if slot.cell == Cell.ABSENT:
                 commands += await self.store.delete_commands(name)
+            elif slot.cell == Cell.PRIMARY:
+                commands += self.store.mark_commands(name, self.store.shard(name).position, self.store.shard(name).chain)
         positions = {it.name: it.position for it in self.store.shards.values()}
         told = {name: [STATES[Cell(it.cell)], positions[name]] for name, it in after.items() if it.cell != Cell.ABSENT}
         await self.store.save(commands, kind, base=base.number, slots=told, nonce=hexadecimal(int(named, 16)) if named else None)
@@ -150,6 +163,7 @@ class Reopenings:
         """Makes a slot what was brought, in memory. Its lock is held."""
         before, has_taken_over = shard.slot, shard.slot.cell == Cell.PREPARED and shard.has_reached_cut
         shard.slot, shard.old_owner = slot, None
+        shard.is_marked = slot.cell == Cell.PRIMARY or (shard.is_marked and slot.cell != Cell.ABSENT)
         if slot.cell == before.cell == Cell.PRIMARY:
             shard.wake()
             return

@@ -271,7 +271,7 @@ class Server:
         while not self.store.base.known and names:
             name = names[turn % len(names)]
             turn += 1
-            asked = {"server": self.name, "nonce": hexadecimal(self.store.base.nonce)}
+            asked = {"server": self.name, "nonce": hexadecimal(self.store.base.nonce), "lost": self.reopenings.lost}
             try:
                 reply = await controllers[name].ask(limits.STEP, restore=asked)
                 if isinstance(reply.get("restore"), dict) and "slots" in reply["restore"]:

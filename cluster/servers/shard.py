@@ -65,6 +65,8 @@ class Shard:
     slot: Slot
     position: int = 0
     chain: str = ""
+    # Whether its position is stored, be it 0: then there is a copy of the shard here.
+    is_marked: bool = False
     # (who has to have a write before it is acknowledged, as the last source of writes has told it or as this source has
     # it)
     members: set[str] = field(default_factory=set)
@@ -111,6 +113,11 @@ class Shard:
     def rest_before_copy(self) -> float:
         """In how many seconds the next copy may be asked for."""
         return max(0.0, self.next_copy - time.monotonic())
+
+    @property
+    def has_copy(self) -> bool:
+        """Whether there is a copy of the shard here, be it an empty one."""
+        return self.is_marked or self.position > 0
 
     def wake(self) -> None:
         """Lets all who wait look again."""

@@ -83,7 +83,8 @@ class Store:
         for name, text in await self.hash("slots"):
             self.shard(name).slot = Slot(*json.loads(text))
         for name, text in await self.hash("mark"):
-            self.shard(name).position, self.shard(name).chain = json.loads(text)
+            shard = self.shard(name)
+            (shard.position, shard.chain), shard.is_marked = json.loads(text), True
         for name, text in await self.hash("members"):
             self.shard(name).members = set(json.loads(text))
         for name, text in await self.hash("old_owner"):

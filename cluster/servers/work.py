@@ -208,6 +208,8 @@ class Orders:
             if slot.cell == Cell.PRIMARY and before.cell == Cell.SECONDARY:
                 shard.members = (shard.members | set(told.get("replicas") or ())) - {self.server.name}
                 commands += self.store.member_commands(shard.name, shard.members)
+            if slot.cell == Cell.PRIMARY:  # (from then on there is a copy, be it an empty one)
+                commands += self.store.mark_commands(shard.name, *((0, "") if empty else (shard.position, shard.chain)))
             await self.store.save(
                 self.slot_commands(shard, slot) + commands, "commit", shard=shard.name, number=order.number, call=told["call"],
                 plan=told["plan"], stream=told["stream"], epoch=told.get("epoch"), journal=told["journal"], before=STATES[Cell(before.cell)],
@@ -216,6 +218,7 @@ class Orders:
             shard.slot, shard.work = slot, None
             if empty:
                 shard.position, shard.chain, shard.members, shard.old_owner = 0, "", set(), None
+            shard.is_marked = slot.cell == Cell.PRIMARY or (shard.is_marked and not empty)
             self.follow_up(shard, before.cell)
         if not work.done.done():
             work.done.set_result(None)

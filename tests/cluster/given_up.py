@@ -1,5 +1,6 @@
 """A server that was given up is told so by the others, also by one that was restored meanwhile, and serves nobody any longer; with a lease it does not
-either if nobody tells it. Who takes part in a reopening is told nothing that makes it forget its slots.
+either if nobody tells it. Who takes part in a reopening is told nothing that makes it forget its slots. A server that has
+lost its data takes no restore by which it is to serve.
 
 `python3 tests/cluster/given_up.py`
 """
@@ -7,10 +8,11 @@ from __future__ import annotations
 
 import asyncio
 import json
+import shutil
 import sys
 import time
 
-from scripted import Scripted
+from scripted import JOURNAL, Scripted
 
 from cluster.resp import ErrorReply, Redis
 from cluster.wire import Failed
@@ -105,9 +107,41 @@ async def with_lease() -> dict[str, bool]:
         it.close()
 
 
+async def restored(it: Scripted, server: str, cells: dict[str, dict[str, str]]) -> str:
+    """What a server that asks for its slots says to those that it is brought."""
+    while server not in it.asked:
+        await asyncio.sleep(0.05)
+    restore = {"server": server, "nonce": it.asked.pop(server), "journal": JOURNAL, "fence": it.base, "base": it.number + 1, "slots": it.slots(server, cells)}
+    try:
+        await it.channels[server].ask(10, restore=restore)
+        return "restored"
+    except Failed as failed:
+        return failed.kind
+
+
+async def without_data() -> dict[str, bool]:
+    """What is found of servers that have lost their slots, with and without their data."""
+    it = Desk("abc")
+    try:
+        await it.start()
+        await it.open(CELLS)
+        it.kill("a")
+        await it.start("a", loses_slots=True)
+        kept = await restored(it, "a", CELLS)
+        for name in "ab":
+            it.kill(name)
+            shutil.rmtree(it.dir / name)
+            it.asked.clear()
+            await it.start(name)
+        lost, other = await restored(it, "a", CELLS), await restored(it, "b", CELLS)
+        return {"who has its data is restored": kept == "restored", "who has lost it is no primary": lost == "NoData", "a secondary copies anew": other == "restored"}
+    finally:
+        it.close()
+
+
 def main() -> int:
-    """Runs both, and returns 0 if all is so."""
-    result = asyncio.run(told_by_peers()) | asyncio.run(with_lease())
+    """Runs all, and returns 0 if all is so."""
+    result = asyncio.run(told_by_peers()) | asyncio.run(with_lease()) | asyncio.run(without_data())
     for what, is_so in result.items():
         print(f"{what}: {'so' if is_so else 'NOT SO'}")
     return 0 if all(result.values()) else 1
