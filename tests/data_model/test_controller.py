@@ -99,9 +99,10 @@ class Losses(unittest.TestCase):
     def test_a_view_above_the_reopening_is_refused(self):
         controller = Play(SOUND, TWO, want=2).controller
         controller.apply(Reopen(controller.record.document, frozenset()))
-        told = Inventory((SlotFound(SECONDARY, Told(BASE_STEP, 4), None, False),))
-        refused = controller.apply(Fenced(1, BASE_STEP, told)).reply
-        self.assertEqual(refused, Refused("EpochTooLow", server=1))
+        above = Told(BASE_STEP, 4)
+        for slot in (SlotFound(SECONDARY, above, None, False), SlotFound(SECONDARY, None, above, False)):
+            refused = controller.apply(Fenced(1, BASE_STEP, Inventory((slot,)))).reply
+            self.assertEqual(refused, Refused("EpochTooLow", server=1))
 
     def test_a_journal_gives_the_same_controller(self):
         play = Play(SOUND, TWO, want=2, copies=2)

@@ -37,7 +37,7 @@ OTHERS = {
 # Liveness: without these rules the service does not go on, which a play shows.
 STOPS = {
     "grant_ends", "lower_asks_first", "change_by_count", "former_counts", "down_lowers", "drops_leave_copies",
-    "fence_bounded", "newest_terms",
+    "fence_bounded", "newest_terms", "numbers_rise",
 }
 
 

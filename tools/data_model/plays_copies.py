@@ -7,7 +7,7 @@ from driving_model.messages import BASE_STEP, Fence
 from .copies import Began
 from .play import ALL, ALONE, Play, TWO
 from .rules import Rules
-from .worked import Worked
+from .worked import Worked, must
 
 
 def crash_loses_what_a_follower_has(rules: Rules) -> None:
@@ -121,6 +121,18 @@ def counted_by_an_old_word(rules: Rules) -> None:
     play.settle()
     play.acknowledge()
     play.fail_over(0, (ABSENT, ABSENT, SECONDARY))
+
+
+def new_disk_of_a_follower(rules: Rules) -> None:
+    """A secondary has started twice. Then its disk is replaced, and it has copied anew."""
+    play = Play(rules, TWO, want=2, copies=2)
+    for _ in range(2):
+        play.crash(1)
+    play.write(7, copies=(1,))
+    play.world.lose(play.host(1))
+    play.restore(1)
+    play.write(8, copies=(1,))
+    must(8 in play.world.writes.acknowledged[0], "a replica that has all is not counted")
 
 
 def counted_though_given_up(rules: Rules) -> None:
@@ -275,6 +287,7 @@ PLAYS = (
     Worked(counted_at_an_earlier_view, "told_at_view"),
     Worked(counted_by_an_old_word, "counted_settled"),
     Worked(counted_though_given_up, "counted_settled"),
+    Worked(new_disk_of_a_follower, "numbers_rise"),
     Worked(copied_from_a_new_owner_below_its_cut, "anew_of_acknowledger"),
     Worked(copied_from_an_old_owner, "anew_of_acknowledger"),
     Worked(stream_lost_by_who_has_more, "lesser_waits"),

@@ -82,8 +82,11 @@ class Reopening(driving.Reopening):
         return range(len(self.document.loads))
 
     def is_above(self, found: Found) -> bool:
-        """Some copy that is told is of a view at or above this reopening."""
-        told = [it.copy for it in found.slots] if isinstance(found, Inventory) else list(found.copies)
+        """Some copy that is told, whole or in doubt, is of a view at or above this reopening."""
+        if isinstance(found, Inventory):
+            told = [copy for it in found.slots for copy in (it.copy, it.doubted)]
+        else:
+            told = [*found.copies, *found.doubted]
         return any(it is not None and it.view >= self.base for it in told)
 
     # Who may have acknowledged writes.

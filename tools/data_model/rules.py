@@ -34,6 +34,7 @@ class Rules(driving.Rules):
     connections_numbered: bool = rule(
         "A follower numbers its connections; what comes by an earlier one than the newest heard is not heard."
     )
+    numbers_rise: bool = rule("Numbers of connections rise over starts, and with a new disk too.")
     connections_end: bool = rule(
         "A start of the server to which a connection goes ends it: what was said by it is not heard."
     )

@@ -146,6 +146,8 @@ class World(Following, Asking, Serving, base.World):
             if not is_for_good:
                 replica.copy.clear()
                 replica.aside = set()
+            if not self.rules.numbers_rise:
+                replica.connection = 0
         if not self.controller.record or host.number not in self.controller.record.permits:
             self.are_floors_excused = True
         was_known, nonce = host.server.is_known, host.server.nonce
