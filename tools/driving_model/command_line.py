@@ -10,14 +10,15 @@ from collections.abc import Iterator
 from dataclasses import dataclass, field
 from functools import partial
 
+from . import sized_plays, sized_schedule, sizes
 from .plays import PLAYS, played
 from .rules import Rules, SOUND, rule_names, sentence_of
-from .schedule import PROFILES, run_schedule
+from .schedule import Found, run_schedule
 from .sessions import session_lines
 
 
 MODES = """modes: `sound`, all rules; `plays`, the worked plays; `session`, the commands of the seed's schedule and what
-came of each, as JSON lines; or rules to take away, joined by commas:
+came of each, as JSON lines; or rules to take away, joined by commas (the last ones, on sizes, with --sizes):
 """
 
 
@@ -32,9 +33,16 @@ class Told:
     coverage: Counter[str] = field(default_factory=Counter)
 
 
+def found_by(seed: int, rules: Rules, steps: int, profile: str, keeps_trace: bool = False) -> Found:
+    """Runs the schedule of a seed, in which sizes change if the rules say how."""
+    if isinstance(rules, sizes.SizedRules):
+        return sized_schedule.run_schedule(seed, rules, steps, profile, keeps_trace)
+    return run_schedule(seed, rules, steps, profile, keeps_trace)
+
+
 def run_one(seed: int, rules: Rules, steps: int, profile: str) -> Told:
     """Runs one schedule."""
-    run = run_schedule(seed, rules, steps, profile)
+    run = found_by(seed, rules, steps, profile)
     coverage = run.schedule.world.coverage
     if run.violation is None:
         return Told(seed, run.events, coverage=coverage)
@@ -54,6 +62,7 @@ def run_all(seeds: range, rules: Rules, steps: int, profile: str, jobs: int) -> 
 def arguments(words: list[str]) -> argparse.Namespace:
     """Reads the command line."""
     modes = "\n".join(f"  {name}: {sentence_of(name)}" for name in rule_names())
+    modes += "\n" + "\n".join(f"  {name}: {sizes.sentence_of(name)}" for name in sizes.sized_rule_names())
     parser = argparse.ArgumentParser(
         prog="driving_model.py", description=__doc__, formatter_class=argparse.RawDescriptionHelpFormatter,
         epilog=MODES + modes,
@@ -62,32 +71,38 @@ def arguments(words: list[str]) -> argparse.Namespace:
     parser.add_argument("--runs", type=int, default=200, help="how many schedules (200)")
     parser.add_argument("--seed", type=int, default=0, help="the seed of the first one (0)")
     parser.add_argument("--steps", type=int, default=220, help="how many events each has before its fair end (220)")
-    profiles = ["", *PROFILES]
+    profiles = ["", *sized_schedule.PROFILES]
     parser.add_argument("--profile", default="", choices=profiles, help="what the schedules are about (all of them)")
+    parser.add_argument("--sizes", action="store_true", help="sizes change, too (profiles rest, busy and tight)")
     parser.add_argument("--jobs", type=int, default=1, help="how many processes (1)")
     parser.add_argument("--seconds", type=float, default=0, help="stop after SECONDS seconds")
     parser.add_argument("--trace", action="store_true", help="tell the shortest schedule that broke a law")
-    return parser.parse_args(words)
+    options = parser.parse_args(words)
+    if options.profile in sized_schedule.OWN and not options.sizes:
+        parser.error(f"--profile {options.profile} needs --sizes")
+    return options
 
 
-def rules_of(mode: str) -> Rules:
+def rules_of(mode: str, has_sizes: bool) -> Rules:
     """The rules of a mode."""
-    return SOUND if mode == "sound" else SOUND.without(*mode.split(","))
+    sound = sizes.SOUND if has_sizes else SOUND
+    return sound if mode == "sound" else sound.without(*mode.split(","))
 
 
-def tell_plays() -> int:
+def tell_plays(has_sizes: bool) -> int:
     """Runs each worked play with the rule that it needs, and without it."""
     wrong = 0
-    for worked in PLAYS:
-        sound, broken = played(worked, with_rule=True), played(worked, with_rule=False)
-        wrong += sound is not None or broken is None
-        print(f"{worked.name}: {sound or 'no violation'}; without {worked.rule}: {broken or 'no violation'}")
+    for worked in sized_plays.PLAYS if has_sizes else PLAYS:
+        play = sized_plays.played if has_sizes else played
+        sound, broken = play(worked, with_rule=True), play(worked, with_rule=False)
+        wrong += sound is not None or (broken is None and bool(worked.rule))
+        print(f"{worked.name}: {sound or 'no violation'}; without {worked.rule or 'nothing'}: {broken or 'no violation'}")
     return 1 if wrong else 0
 
 
 def tell_trace(told: Told, rules: Rules, options: argparse.Namespace) -> None:
     """Tells what happened in a schedule."""
-    run = run_schedule(told.seed, rules, options.steps, options.profile, keeps_trace=True)
+    run = found_by(told.seed, rules, options.steps, options.profile, keeps_trace=True)
     print("\n".join(f"  {line}" for line in run.schedule.world.trace))
     print(f"  {run.violation}")
 
@@ -96,12 +111,12 @@ def main(words: list[str] | None = None) -> int:
     """Runs the command. The status is 1 if the sound rules broke a law, or a play is not as it should be."""
     options = arguments(sys.argv[1:] if words is None else words)
     if options.mode == "plays":
-        return tell_plays()
+        return tell_plays(options.sizes)
     if options.mode == "session":
         for line in session_lines(options.seed, options.steps, options.profile):
             print(line)
         return 0
-    rules, started = rules_of(options.mode), time.monotonic()
+    rules, started = rules_of(options.mode, options.sizes), time.monotonic()
     coverage: Counter[str] = Counter()
     broken: list[Told] = []
     runs = events = 0

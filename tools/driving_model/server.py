@@ -108,6 +108,10 @@ class Server:
         """The load of its replicas."""
         return sum(it.load for it in self.slots if it.cell.kind is not Kind.ABSENT)
 
+    def counted(self, _order: Order) -> int:
+        """The load that counts against an order."""
+        return self.load
+
     def cell(self, shard: int) -> Cell:
         """What it has of a shard, as far as it knows."""
         return self.slots[shard].cell if self.is_known else ABSENT
@@ -143,7 +147,7 @@ class Server:
         if slot.work is not None:
             return Judgement.WORKING if slot.work == order.number else Judgement.OLD
         brings = slot.cell == ABSENT
-        if led(slot.cell, order.call) is None or (brings and self.load + order.load > order.room):
+        if led(slot.cell, order.call) is None or (brings and self.counted(order) + order.load > order.room):
             return Judgement.REFUSED
         return Judgement.BEGIN
 

@@ -1,0 +1,182 @@
+"""Sizes that change: each rule is needed, no law is broken with all of them, and what changes is refused where it must."""
+import unittest
+from collections import Counter
+from dataclasses import dataclass, replace
+
+from driving_model.cells import ABSENT, PRIMARY, SECONDARY
+from driving_model.commands import Approve, Begin, Open, RestoreServer
+from driving_model.laws import Sight, Violation
+from driving_model.messages import BASE_STEP
+from driving_model.plans import Plan, RoomRight, Stream
+from driving_model.replies import Ignored, Opened, Refused
+from driving_model.sized_controller import SizedController
+from driving_model.sized_plays import PLAYS, SizedPlay, played
+from driving_model.sized_schedule import OWN, SizedSchedule, run_schedule
+from driving_model.sized_world import begins_a_journal, nobody_has_what_is_not_there
+from driving_model.sizes import NewEpoch, Order, Resize, Resized, SOUND, SizedDocument, sentence_of, sized_rule_names
+
+STEPS = 220
+RUNS = {"": 60} | {it: 20 for it in sorted(OWN)}
+# What happens in some schedule of these.
+MET = (
+    "a late ask", "carried over", "forgot", "grown", "journal replaced", "new sizes", "not resized: Engaged",
+    "not resized: OverRoom", "refused: OverRoom", "refused: Running", "refused: Short", "refused: StillThere", "reopened",
+    "resized beside a plan", "restored", "server added", "server taken away", "shard added", "shard taken away", "shrunk",
+)
+
+
+@dataclass(frozen=True)
+class Dice:
+    """A random schedule, which breaks this law."""
+
+    seed: int
+    law: str
+    profile: str
+
+
+# If the model changes, so do the schedules of seeds: `tools/driving_model.py --sizes --mode RULE` finds another one.
+DICE = {
+    "old_loads_left": Dice(219, "no_order_is_refused", "tight"),
+    "held_rooms_fit": Dice(182, "loads_fit", "tight"),
+    "named_loads_stay": Dice(25, "loads_fit", "tight"),
+}
+DOCUMENT = SizedDocument(
+    servers=frozenset({0, 1, 2}), rooms=(10, 10, 5, 10), loads=(4, 4, 1), wants=(2, 1, 1), caps=(1, 0, 1), limit=1,
+    cells=((PRIMARY, SECONDARY, ABSENT, ABSENT), (ABSENT, PRIMARY, ABSENT, ABSENT), (ABSENT,) * 4),
+    left_out=frozenset({2}),
+)
+
+
+class RulesAreNeeded(unittest.TestCase):
+    """The table of rules, and how each is shown to be needed."""
+
+    def test_each_rule_has_a_play_and_a_sentence(self):
+        self.assertEqual(sorted({it.rule for it in PLAYS if it.rule}), sorted(sized_rule_names()))
+        for rule in sized_rule_names():
+            self.assertTrue(sentence_of(rule).endswith("."), rule)
+        with self.assertRaises(ValueError):
+            SOUND.without("old_loads")
+
+    def test_worked_plays_break_without_their_rule_alone(self):
+        for worked in PLAYS:
+            with self.subTest(worked.name, rule=worked.rule):
+                self.assertIsNone(played(worked, with_rule=True))
+                if worked.rule:
+                    self.assertIsNotNone(played(worked, with_rule=False), f"no law is broken without {worked.rule}")
+
+    def test_random_schedules_break_a_law_without_the_rule_alone(self):
+        for rule, dice in DICE.items():
+            with self.subTest(rule):
+                violation = run_schedule(dice.seed, SOUND.without(rule), STEPS, dice.profile).violation
+                self.assertIsNotNone(violation, f"no law is broken without {rule}")
+                self.assertEqual(violation.law, dice.law)
+                self.assertIsNone(run_schedule(dice.seed, SOUND, STEPS, dice.profile).violation)
+
+
+class SoundSchedules(unittest.TestCase):
+    """A fixed set of seeds."""
+
+    def test_no_law_is_broken(self):
+        met: Counter[str] = Counter()
+        for profile, runs in RUNS.items():
+            for seed in range(1, runs + 1):
+                with self.subTest(profile=profile, seed=seed):
+                    run = run_schedule(seed, SOUND, STEPS, profile)
+                    self.assertIsNone(run.violation)
+                    met.update(run.schedule.world.coverage)
+        self.assertEqual([it for it in MET if not met[it]], [])
+
+    def test_a_session_gives_the_same_outcomes_again(self):
+        schedule = SizedSchedule(5, SOUND, STEPS, "rest")
+        schedule.run()
+        controller = SizedController()
+        for command, outcome in schedule.world.session:
+            controller = SizedController() if begins_a_journal(command) else controller
+            self.assertEqual(controller.apply(command), outcome)
+
+
+class Changes(unittest.TestCase):
+    """The controller's replies to changes of sizes."""
+
+    def setUp(self):
+        self.controller = SizedController()
+        self.controller.apply(Open(DOCUMENT, 9, 0))
+
+    def assert_reply(self, command, reply):
+        """The command gets this reply, and one that is refused or ignored changes nothing."""
+        before = self.controller.snapshot()
+        outcome = self.controller.apply(command)
+        self.assertEqual(outcome.reply, reply)
+        if not outcome.has_changed:
+            self.assertEqual(self.controller.snapshot(), before)
+
+    def change(self, **sizes):
+        """The next epoch, with other sizes."""
+        return NewEpoch(replace(self.controller.record.document, **sizes))
+
+    def test_a_new_epoch_has_other_sizes_and_the_same_cells(self):
+        self.assert_reply(self.change(loads=(3, 5, 1), cells=((ABSENT,) * 4,) * 3), Opened(9, 1))
+        record = self.controller.record
+        self.assertEqual((record.document.loads, tuple(map(tuple, record.cells))), ((3, 5, 1), DOCUMENT.cells))
+        self.assertEqual((self.controller.sized, record.listed), (BASE_STEP, [0, 1, None]))
+
+    def test_what_would_not_be_settled_is_refused_with_how_much(self):
+        self.assert_reply(self.change(loads=(4, 7, 1)), Refused("OverRoom", server=1, detail="11 of 10"))
+        self.assert_reply(self.change(wants=(3, 1, 1), caps=(0, 0, 1)), Refused("Short", shard=0, detail="2 of 3"))
+        self.assert_reply(self.change(left_out=frozenset(), caps=(1, 0, 0)), Refused("Short", shard=2, detail="0 of 1"))
+        self.assert_reply(self.change(servers=frozenset({1, 2})), Refused("StillThere", server=0, shard=0))
+        self.assert_reply(self.change(left_out=frozenset({1, 2})), Refused("StillThere", server=1, shard=1))
+        self.controller.apply(Approve(2, "by"))
+        self.assert_reply(self.change(limit=0), Refused("TooManyDown", detail="1 of 0"))
+        self.assert_reply(self.change(log=0), Refused("LogFull"))
+        self.assert_reply(self.change(servers=frozenset({0, 1})), Refused("StillDown", server=2))
+
+    def test_a_floor_that_a_reopening_has_lowered_stays_so(self):
+        record = self.controller.record
+        record.cells[0][1], record.floors[0], record.document = ABSENT, 1, replace(record.document, caps=(0, 0, 1))
+        self.assert_reply(self.change(rooms=(10, 10, 6, 10)), Opened(9, 1))
+        self.assertEqual(self.controller.record.floors[0], 1)
+        self.assert_reply(self.change(wants=(3, 1, 1)), Refused("Short", shard=0, detail="1 of 3"))
+
+    def test_a_plan_names_what_is_there_and_known(self):
+        plan = Begin("p", Plan((Stream({RoomRight(0): 1}, ()),)))
+        self.assertEqual(self.controller.apply(plan).reply.plan, 0)
+        self.assert_reply(self.change(servers=frozenset({0, 1, 2, 3})), Opened(9, 1))
+        self.assertEqual(self.controller.known, set())
+        self.controller.apply(RestoreServer(3, 77))
+        self.assertEqual(self.controller.known, {3})
+        self.assert_reply(self.change(servers=frozenset({0, 1, 2})), Opened(9, 2))
+        self.assertEqual((self.controller.known, self.controller.restores), (set(), {}))
+
+    def test_sizes_change_once(self):
+        self.assert_reply(Resize(loads=((0, 3),), rooms=((2, 6),)), Resized(1))
+        self.assert_reply(Resize(loads=((0, 3),)), Ignored("old"))
+        self.assert_reply(Resize(loads=((2, 3),)), Refused("UnknownShard", shard=2))
+        self.assert_reply(Resize(rooms=((3, 3),)), Refused("UnknownServer", server=3))
+        self.assert_reply(Resize(loads=((0, 9),)), Refused("OverRoom", server=1, detail="13 of 10"))
+
+
+class ServersCount(unittest.TestCase):
+    """A server refuses what has no room beside the loads that count."""
+
+    def test_loads_that_were_brought_since_count(self):
+        play = SizedPlay(SOUND, ((PRIMARY, SECONDARY, ABSENT), (ABSENT, ABSENT, PRIMARY)), loads=(6, 6))
+        play.resize(rooms={1: 12})
+        play.add(1, 1)
+        order = play.sent_to(1, Order)[-1]
+        server = play.world.hosts[1].server
+        self.assertEqual([server.counted(replace(order, sized=it)) for it in (0, 1)], [6, 0])
+        server.slots[0].last = 1
+        self.assertEqual(server.counted(order), 6)
+        with self.assertRaises(Violation):
+            play.world.deliver(replace(order, room=11))
+
+    def test_a_shard_that_is_not_there_is_had_by_nobody(self):
+        play = SizedPlay(SOUND, ((PRIMARY, ABSENT, ABSENT), (ABSENT,) * 3), loads=(6, 6), left_out=frozenset({1}))
+        self.assertIsNone(nobody_has_what_is_not_there(Sight(play.world)))
+        play.world.hosts[2].server.slots[1].cell = SECONDARY
+        self.assertIsNotNone(nobody_has_what_is_not_there(Sight(play.world)))
+
+
+if __name__ == "__main__":
+    unittest.main()
