@@ -2,6 +2,7 @@
 
 `controller` is the driver's reference: a deterministic state machine over commands, with replies that compare well.
 `rules` has each rule with a switch, `laws` what may never be seen, `schedule` random schedules, `plays` worked ones.
+`sizes` and the modules named `sized_..` have the same over sizes that change without a reopening.
 The laws look at the real slots after every event; after a fair end all plans are done.
 
 What it leaves out: random schedules have at most four servers and three shards; at a reopening shards, rooms and
