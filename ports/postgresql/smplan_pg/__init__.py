@@ -1,0 +1,1 @@
+"""PostgreSQL servers whose schemas are shards, moved by `smplan-control run`: docs/POSTGRESQL.md."""

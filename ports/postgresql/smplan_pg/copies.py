@@ -1,0 +1,153 @@
+"""Copies of shards: the schema by pg_dump, the data by a subscription, which then follows."""
+from __future__ import annotations
+
+import subprocess
+import time
+from typing import TYPE_CHECKING, Callable
+
+import psycopg
+from psycopg.conninfo import make_conninfo
+from smplan.agent import Cell
+
+from . import streams
+from .database import OWN, Connection, Database, value
+from .records import Records
+from .streams import Stuck, said
+
+if TYPE_CHECKING:
+    from .server import Server
+
+Still = Callable[[], bool]
+
+
+class GivenUp(Exception):
+    """Whoever wanted a copy wants it no more."""
+
+
+def check(still: Still) -> None:
+    """Stops a copy that nobody wants any more."""
+    if not still():
+        raise GivenUp("the copy is not wanted any more")
+
+
+class Copies:
+    """The copies that this server makes."""
+
+    def __init__(self, server: "Server") -> None:
+        self.server = server
+
+    def make(self, shard: str, number: int, still: Still, said_of: Callable[[str], None]) -> None:
+        """Copies a shard from another server, and follows it. Whoever calls has the shard's hands."""
+        there = self.server.peer(number)
+        self.admit(there, shard, still, said_of)
+        begun = time.monotonic()
+        try:
+            self.clear(shard, number)
+            with self.server.database.connection() as c:
+                mine, publication = streams.name_of(c, shard, self.server.number), streams.name_of(c, shard)
+            streams.drop_stream(there, mine)
+            check(still)
+            self.copy_schema(there, shard)
+            reach = self.server.peers[number].reach
+            with self.server.database.connection() as c:
+                c.execute(said("CREATE PUBLICATION {} FOR TABLES IN SCHEMA {} WITH (publish = '')", publication, shard))
+                streams.follow(c, mine, publication, reach or "")
+            self.wait(there, shard, mine, still, said_of)
+        finally:
+            try:
+                there.do("DELETE FROM sm.copied WHERE shard = %s AND server = %s", shard, self.server.number)
+            except psycopg.Error:
+                pass  # (it is forgotten after a while)
+        self.server.say("copied", shard, "from", self.server.names[number], f"in {time.monotonic() - begun:.2f} s")
+
+    def admit(self, there: Database, shard: str, still: Still, said_of: Callable[[str], None]) -> None:
+        """Waits until its source makes few enough copies."""
+        while not value(there.row("SELECT sm.copy(%s, %s, %s)", shard, self.server.number, self.server.limits.copies)):
+            said_of("waits for other copies")
+            check(still)
+            time.sleep(0.2)
+
+    def clear(self, shard: str, number: int) -> None:
+        """Deletes what an attempt before has left, and the old copy of a follower; never a schema that it did not make."""
+        with self.server.database.connection() as c:
+            mine = streams.name_of(c, shard, self.server.number)
+        streams.halt(self.server.database, mine)
+        with self.server.database.transaction() as tx:
+            it = Records(tx)
+            is_own = value(tx.execute("SELECT EXISTS (SELECT FROM sm.copying WHERE shard = %s)", (shard,)).fetchone())
+            is_replica = it.slot(shard).cell in (Cell.SECONDARY, Cell.PREPARED) and it.is_adopted(shard)
+            if not is_own and not is_replica and has_schema(tx, shard):
+                raise Stuck(f"there is a schema {shard} that is no copy: rename it, or `smplan-pg drop` it")
+            remove(tx, shard, self.server.number)
+            tx.execute("INSERT INTO sm.copying (shard, source) VALUES (%s, %s)", (shard, number))
+        streams.drop_streams(self.server.database, shard)
+
+    def copy_schema(self, there: Database, shard: str) -> None:
+        """Makes the schema with its tables, indexes and functions, all or nothing of it."""
+        dump = ["pg_dump", "-d", make_conninfo(there.reach, options=""), "--schema-only", "--no-publications", "--no-subscriptions", "-n", quoted(shard)]
+        told = subprocess.run(dump, capture_output=True, check=False)
+        if told.returncode:
+            raise Stuck(f"pg_dump: {told.stderr.decode(errors='replace').strip()[-300:]}")
+        make = ["psql", "-qX1", "-v", "ON_ERROR_STOP=1", "-d", make_conninfo(self.server.database.reach, options=f"{OWN} -c client_min_messages=warning")]
+        told = subprocess.run(make, input=told.stdout, capture_output=True, check=False)
+        if told.returncode:
+            raise Stuck(f"the schema is not made: {told.stderr.decode(errors='replace').strip()[-300:]}")
+
+    def wait(self, there: Database, shard: str, mine: str, still: Still, said_of: Callable[[str], None]) -> None:
+        """Waits until all tables are copied, and all that the source had executed by then is here."""
+        again = 0.0
+        while True:
+            with self.server.database.connection() as c:
+                lacking = streams.lacks_tables(c, mine)
+            if not lacking:
+                break
+            said_of(f"copies: {lacking} tables to come")
+            check(still)
+            if time.monotonic() > again:
+                again = time.monotonic() + 1.0
+                there.row("SELECT sm.copy(%s, %s, 1000)", shard, self.server.number)
+            time.sleep(0.03)
+        goal = value(there.row("SELECT sm.position(%s)", shard))
+        while value(self.server.database.row("SELECT sm.position(%s)", shard)) < goal:
+            said_of("copied; catches up")
+            check(still)
+            time.sleep(0.01)
+
+    def is_copying(self, tx: Connection, shard: str) -> bool:
+        """Whether what is here of a shard is a copy that is not whole."""
+        return value(tx.execute("SELECT EXISTS (SELECT FROM sm.copying WHERE shard = %s)", (shard,)).fetchone())
+
+
+def quoted(name: str) -> str:
+    """A schema's name as a pattern of pg_dump that fits it alone."""
+    return '"' + name.replace('"', '""') + '"'
+
+
+def has_schema(tx: Connection, shard: str) -> bool:
+    """Whether there is a schema of this name."""
+    return tx.execute("SELECT FROM pg_namespace WHERE nspname = %s", (shard,)).fetchone() is not None
+
+
+def remove(tx: Connection, shard: str, number: int) -> None:
+    """Deletes a shard's data, publication and subscription, and what stands beside its slot."""
+    streams.drop_subscription(tx, streams.name_of(tx, shard, number))
+    tx.execute(said("DROP PUBLICATION IF EXISTS {}", streams.name_of(tx, shard)))
+    tx.execute(said("DROP SCHEMA IF EXISTS {} CASCADE", shard))
+    forget_copy(tx, shard)
+
+
+def set_aside(tx: Connection, shard: str, number: int, why: str) -> None:
+    """Renames a shard's schema, which waits for nobody who reads it, and keeps it until somebody deletes it."""
+    streams.drop_subscription(tx, streams.name_of(tx, shard, number))
+    tx.execute(said("DROP PUBLICATION IF EXISTS {}", streams.name_of(tx, shard)))
+    if has_schema(tx, shard):
+        aside = value(tx.execute("SELECT 'sm_aside_' || to_char(now(), 'YYYYMMDDHH24MISS_') || left(md5(%s), 8)", (shard,)).fetchone())
+        tx.execute(said("ALTER SCHEMA {} RENAME TO {}", shard, aside))
+        tx.execute("INSERT INTO sm.asides (schema, shard, why) VALUES (%s, %s, %s)", (aside, shard, why))
+    forget_copy(tx, shard)
+
+
+def forget_copy(tx: Connection, shard: str) -> None:
+    """Deletes what is kept of a copy that is gone."""
+    tx.execute("DELETE FROM sm.copying WHERE shard = %s", (shard,))
+    tx.execute("UPDATE sm.slots SET source = NULL, is_whole = false, sealed = NULL, sealed_view = NULL, sealed_position = NULL WHERE shard = %s", (shard,))

@@ -1,0 +1,98 @@
+"""A server's database: transactions over connections that are kept.
+
+psycopg 3 is what Debian has that is libpq itself, so that services, password files and certificates work as for psql; asyncpg, the other choice, speaks
+the protocol by itself, and has errors outside its documented classes when a server dies.
+"""
+from __future__ import annotations
+
+import threading
+from contextlib import contextmanager
+from typing import Any, Dict, Iterator, List, Optional
+
+import psycopg
+from psycopg.conninfo import make_conninfo
+from psycopg.rows import dict_row
+
+Row = Dict[str, Any]
+Connection = psycopg.Connection
+
+
+def signed(number: int) -> int:
+    """A number of 64 bits as PostgreSQL keeps it."""
+    return number - (1 << 64) if number >= 1 << 63 else number
+
+
+def unsigned(number: int) -> int:
+    """A number of 64 bits that PostgreSQL keeps."""
+    return number + (1 << 64) if number < 0 else number
+
+
+# How smplan-pg itself connects: guards let it pass, and what it stores is durable.
+OWN = "-c sm.own=on -c synchronous_commit=local"
+
+
+class Database:
+    """One database, over connections that are kept."""
+
+    def __init__(self, reach: str, patience: Optional[float] = None, options: str = OWN) -> None:
+        options += f" -c statement_timeout={int(patience * 1000)}" if patience else ""
+        self.reach = make_conninfo(reach, **{"connect_timeout": 3, "application_name": "smplan-pg"}, **({"options": options} if options else {}))
+        self.idle: List[Connection] = []
+        self.lock = threading.Lock()
+
+    def connect(self) -> Connection:
+        """A new connection. It prepares no statements, so that pgbouncer may stand between."""
+        return psycopg.connect(self.reach, autocommit=True, row_factory=dict_row, prepare_threshold=None)
+
+    @contextmanager
+    def connection(self) -> Iterator[Connection]:
+        """A connection, which is kept afterwards if nothing went wrong."""
+        with self.lock:
+            c = self.idle.pop() if self.idle else None
+        if c is not None and not is_alive(c):
+            c = None
+        if c is None:
+            c = self.connect()
+        try:
+            yield c
+        except BaseException:
+            c.close()
+            raise
+        with self.lock:
+            self.idle.append(c)
+
+    @contextmanager
+    def transaction(self) -> Iterator[Connection]:
+        """A transaction. It is durable when it ends; if it ends by an exception, nothing is changed."""
+        with self.connection() as c, c.transaction():
+            yield c
+
+    def row(self, statement: str, *values: Any) -> Optional[Row]:
+        """The first row of a statement's answer, in a transaction of its own."""
+        with self.connection() as c:
+            return c.execute(statement, values).fetchone()
+
+    def rows(self, statement: str, *values: Any) -> List[Row]:
+        """A statement's answer, in a transaction of its own."""
+        with self.connection() as c:
+            return c.execute(statement, values).fetchall()
+
+    def do(self, statement: str, *values: Any) -> int:
+        """How many rows a statement has changed, in a transaction of its own."""
+        with self.connection() as c:
+            return c.execute(statement, values).rowcount
+
+
+def is_alive(c: Connection) -> bool:
+    """Whether a connection that was at rest still serves."""
+    try:
+        c.execute("SELECT 1")
+        return True
+    except psycopg.Error:
+        c.close()
+        return False
+
+
+def value(row: Optional[Row]) -> Any:
+    """The only value of a row; none if there is no row."""
+    return None if row is None else next(iter(row.values()))

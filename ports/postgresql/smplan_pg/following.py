@@ -1,0 +1,327 @@
+"""Followers: a new owner that has all writes seals, and everybody else goes over to it; who has lost its source joins the new primary, or copies anew."""
+from __future__ import annotations
+
+import select
+import time
+from dataclasses import dataclass
+from typing import TYPE_CHECKING, Any, Dict, Optional
+
+import psycopg
+from smplan import agent
+from smplan.agent import Base, Cell, Slot
+
+from . import streams
+from .copies import GivenUp, remove
+from .database import unsigned, value
+from .records import Cut, Mark, Records
+from .streams import Stuck
+
+if TYPE_CHECKING:
+    from .server import Server
+
+FOLLOWING = (Cell.PREPARED, Cell.SECONDARY, Cell.FORWARDING)
+
+# For how long a follower waits for the last writes of a source that serves no more, in seconds.
+CUT_COMES = 5.0
+
+
+@dataclass(frozen=True)
+class State:
+    """What a server has of a shard, as its watch sees it."""
+
+    base: Base
+    slot: Slot
+    source: Optional[int]
+    is_whole: bool
+    is_leftover: bool
+    cut: Optional[Cut]
+
+
+class Following:
+    """The followers' side of a server."""
+
+    def __init__(self, server: "Server") -> None:
+        self.server = server
+        self.next_look: Dict[str, float] = {}
+        self.busy: Dict[str, bool] = {}
+        self.unserved: Dict[str, float] = {}
+
+    # -- when to look
+
+    def wake(self, shard: str) -> None:
+        """Looks at a shard at once."""
+        self.next_look.pop(shard, None)
+        self.look_beside(shard)
+
+    def watch(self) -> None:
+        """Looks at each shard that follows, in turn; at those in a handover more often."""
+        with self.server.database.transaction() as tx:
+            slots = Records(tx).slots()
+            leftover = [it["shard"] for it in tx.execute("SELECT shard FROM sm.copying").fetchall()]
+        for shard in {*leftover, *(it for it, slot in slots.items() if slot.cell in FOLLOWING)}:
+            if time.monotonic() >= self.next_look.get(shard, 0.0):
+                self.look_beside(shard)
+
+    def listen(self) -> None:
+        """Looks at a shard as soon as a cut comes to it."""
+        with self.server.database.connect() as c:
+            c.execute("LISTEN sm_cut")
+            while True:
+                ready = select.select([c.fileno()], [], [], 5.0)[0]
+                if not ready:
+                    c.execute("SELECT 1")
+                c.pgconn.consume_input()
+                while (it := c.pgconn.notifies()) is not None:
+                    self.wake(it.extra.decode())
+
+    def look_beside(self, shard: str) -> None:
+        """Looks at a shard in a thread of its own, unless one does already."""
+        with self.server.lock:
+            if self.busy.get(shard):
+                return
+            self.busy[shard] = True
+        self.server.beside.submit(self.look_once, shard)
+
+    def look_once(self, shard: str) -> None:
+        """Looks at a shard, if nobody changes its streams."""
+        hands = self.server.live(shard).hands
+        self.next_look[shard] = time.monotonic() + 1.0
+        try:
+            if hands.acquire(timeout=0.05):
+                try:
+                    self.look(shard)
+                finally:
+                    hands.release()
+        except (Stuck, GivenUp, OSError, psycopg.Error) as why:
+            self.tell(shard, str(why).strip())
+        except Exception as why:  # pylint: disable=broad-exception-caught  (the next look comes)
+            self.server.say("look at", shard, type(why).__name__, why)
+        finally:
+            self.busy[shard] = False
+
+    def tell(self, shard: str, words: str) -> None:
+        """Notes why a look came to nothing; tells it once."""
+        live = self.server.live(shard)
+        if live.said != words:
+            self.server.say("look at", shard, words)
+        live.said = words
+
+    # -- what is there to do
+
+    def state(self, shard: str) -> State:
+        """What the server has of a shard."""
+        with self.server.database.transaction() as tx:
+            it = Records(tx)
+            base = it.base()
+            return State(base, it.slot(shard, base), it.source(shard), it.is_whole(shard), self.server.copies.is_copying(tx, shard), it.cut(shard))
+
+    def look(self, shard: str) -> None:
+        """Does what a shard needs now."""
+        told = self.state(shard)
+        if not told.base.known or told.slot.at_work:
+            return
+        if told.slot.cell == Cell.ABSENT and told.is_leftover:
+            self.clear(shard)
+        elif told.slot.cell == Cell.PREPARED and not told.slot.has_cut:
+            self.prepare(shard, told)
+        elif told.slot.cell in (Cell.SECONDARY, Cell.FORWARDING):
+            self.follow(shard, told)
+
+    def clear(self, shard: str) -> None:
+        """Deletes what a copy has left that came to nothing."""
+        with self.server.database.connection() as c:
+            mine = streams.name_of(c, shard, self.server.number)
+        streams.halt(self.server.database, mine)
+        with self.server.database.transaction() as tx:
+            it = Records(tx)
+            if it.base("FOR SHARE").known and it.slot(shard).cell == Cell.ABSENT and not it.slot(shard).at_work:
+                remove(tx, shard, self.server.number)
+        streams.drop_streams(self.server.database, shard)
+
+    # -- a new owner
+
+    def prepare(self, shard: str, told: State) -> None:
+        """Seals once the cut has come; until then keeps streams ready for all who will follow."""
+        if not told.is_whole:
+            return self.copy_anew(shard, told.slot.party, told)
+        if told.cut is not None and (told.cut.handover, told.cut.party) == (told.slot.handover, self.server.number):
+            return self.seal(shard, told.cut)
+        with self.server.database.transaction() as tx:
+            members = set(Records(tx).members(shard)) - {self.server.number}
+        for it in members:
+            streams.make_stream(self.server.database, shard, it)
+        streams.advance(self.server.database, shard)
+        return None
+
+    def seal(self, shard: str, cut: Cut) -> None:
+        """The new owner has all writes. It takes nothing more from the old one, begins the streams of its followers here, and then may execute."""
+        database, begun = self.server.database, time.monotonic()
+        with database.connection() as c:
+            mine = streams.name_of(c, shard, self.server.number)
+        streams.halt(database, mine)
+        halted = time.monotonic()
+        with database.transaction() as tx:
+            it = Records(tx)
+            base = it.base("FOR SHARE")
+            slot = it.slot(shard, base)
+            if slot.cell != Cell.PREPARED or slot.has_cut or slot.handover != cut.handover or base.fenced:
+                return
+            row = tx.execute("SELECT pg_current_wal_insert_lsn()::text AS place").fetchone()
+            assert row is not None
+            mark = it.mark(shard)
+            streams.drop_subscription(tx, mine)
+            tx.execute("SELECT sm.set_sequences(%s, sequences) FROM (SELECT sequences FROM " + quoted(shard) + ".sm_cut) it", (shard,))
+            members = {number: False for number in it.members(shard) if number != self.server.number}
+            it.put_members(shard, {**members, slot.party: True})
+            streams.publish(tx, shard, streams.ALL)
+            it.put_slot(shard, agent.seal(slot, cut.handover, cut.position))
+            it.put_seal(shard, row["place"], mark)
+            it.put_source(shard, None, True)
+            it.count(shard)
+        self.server.say("sealed", shard, f"halt {halted - begun:.3f} store {time.monotonic() - halted:.3f}")
+
+    # -- everybody else
+
+    def follow(self, shard: str, told: State) -> None:
+        """Goes over to the new owner if the cut has come, and otherwise looks whether its source still serves it."""
+        me = self.server.number
+        if told.cut is not None and told.cut.party not in (0, me, told.source) and told.is_whole:
+            if self.go_over(shard, told.cut.party):
+                return
+        if told.source is not None and told.is_whole and self.is_served(shard, told):
+            return
+        primary = self.primary_of(shard, told.base)
+        if primary is None or (told.is_whole and self.join(shard, primary)):
+            return
+        if told.slot.cell == Cell.SECONDARY:
+            self.copy_anew(shard, primary, told)
+
+    def go_over(self, shard: str, owner: int, seconds: float = 3.0) -> bool:
+        """Follows the new owner as soon as it has sealed. Whether it does."""
+        until = time.monotonic() + seconds
+        while time.monotonic() < until:
+            if self.join(shard, owner):
+                return True
+            time.sleep(0.004)
+            told = self.state(shard)
+            if told.slot.at_work or told.slot.cell not in (Cell.SECONDARY, Cell.FORWARDING) or self.server.live(shard).worker:
+                return False
+        return False
+
+    def offer(self, number: int, shard: str) -> Dict[str, Any]:
+        """What another server says of a shard to this one."""
+        row = self.server.peer(number).row("SELECT * FROM sm.offers(%s, %s)", shard, self.server.number)
+        assert row is not None
+        return row
+
+    def is_served(self, shard: str, told: State) -> bool:
+        """Whether the source still sends this server what it lacks. If it serves, this server counts there."""
+        assert told.source is not None
+        try:
+            it = self.offer(told.source, shard)
+        except (Stuck, OSError, psycopg.Error):
+            return False
+        if not it["has_stream"] or not is_of(it, told.base):
+            return False
+        if serves(it):
+            self.unserved.pop(shard, None)
+            if not self.is_enabled(shard):
+                return False
+            if not it["is_member"] and told.slot.cell == Cell.SECONDARY and not self.server.live(shard).worker:
+                self.server.peer(told.source).row("SELECT sm.join(%s, %s)", shard, self.server.number)
+            return True
+        since = self.unserved.setdefault(shard, time.monotonic())
+        return told.cut is None and it["cell"] in (Cell.FORWARDING, Cell.SECONDARY) and time.monotonic() - since < CUT_COMES
+
+    def is_enabled(self, shard: str) -> bool:
+        """Whether the shard's subscription works."""
+        enabled = "SELECT EXISTS (SELECT FROM pg_subscription WHERE subname = sm.stream(%s, %s) AND subenabled)"
+        return bool(value(self.server.database.row(enabled, shard, self.server.number)))
+
+    def primary_of(self, shard: str, base: Base) -> Optional[int]:
+        """The server that serves a shard and was settled with this one."""
+        for number in self.server.others():
+            try:
+                it = self.offer(number, shard)
+            except (Stuck, OSError, psycopg.Error):
+                continue
+            if it["cell"] == Cell.PRIMARY and is_of(it, base) and not it["fenced"]:
+                return number
+        return None
+
+    def join(self, shard: str, owner: int) -> bool:
+        """Follows another server from the place on where its own writes began, if the copy here is the same as its was there. Whether it does."""
+        it = self.offer(owner, shard)
+        if not serves(it) or not it["is_joinable"] or self.mark_at(self.server.number, shard) != Mark(it["view"], it["position"]):
+            return False
+        database = self.server.database
+        with database.connection() as c:
+            mine, publication = streams.name_of(c, shard, self.server.number), streams.name_of(c, shard)
+        streams.halt(database, mine)
+        with database.transaction() as tx:
+            slot = Records(tx).slot(shard)
+            if slot.cell not in (Cell.SECONDARY, Cell.FORWARDING) or Records(tx).mark(shard) != Mark(it["view"], it["position"]):
+                return False
+        it = self.offer(owner, shard)
+        if not serves(it) or not it["is_joinable"]:
+            return False
+        streams.follow_behind(database, mine, publication, self.server.peers[owner].reach or "", it["place"])
+        with database.transaction() as tx:
+            records = Records(tx)
+            if records.slot(shard).cell not in (Cell.SECONDARY, Cell.FORWARDING):
+                return False
+            streams.enable(tx, mine)
+            records.put_source(shard, owner, True)
+        self.server.say("follows", self.server.names[owner], "for", shard)
+        self.server.peer(owner).row("SELECT sm.join(%s, %s)", shard, self.server.number)
+        return True
+
+    def copy_anew(self, shard: str, source: int, told: State) -> None:
+        """Copies a shard whose copy here is none, or no beginning of the primary's list, or too old to be followed from where it is."""
+        live = self.server.live(shard)
+
+        def still() -> bool:
+            with self.server.database.transaction() as tx:
+                it = Records(tx)
+                return it.base() == told.base and it.slot(shard) == told.slot
+
+        def tell(words: str) -> None:
+            live.said = words
+
+        self.server.say("copies", shard, "anew from", self.server.names[source])
+        with self.server.database.transaction() as tx:
+            Records(tx).put_source(shard, source, False)
+        self.server.copies.make(shard, source, still, tell)
+        with self.server.database.transaction() as tx:
+            it = Records(tx)
+            if it.base("FOR SHARE") != told.base or it.slot(shard) != told.slot:
+                return
+            tx.execute("DELETE FROM sm.copying WHERE shard = %s", (shard,))
+            it.put_source(shard, source, True)
+        if told.slot.cell == Cell.SECONDARY:
+            self.server.peer(source).row("SELECT sm.join(%s, %s)", shard, self.server.number)
+
+    def mark_at(self, number: int, shard: str) -> Mark:
+        """What a server has of a shard; of what is not whole nothing."""
+        database = self.server.database if number == self.server.number else self.server.peer(number)
+        row = database.row("SELECT sm.view(%s) AS view, sm.position(%s) AS position, "
+                           "coalesce((SELECT is_whole FROM sm.slots WHERE shard = %s), false) AS is_whole", shard, shard, shard)
+        assert row is not None
+        return Mark(row["view"], row["position"]) if row["is_whole"] else Mark()
+
+
+def is_of(offer: Dict[str, Any], base: Base) -> bool:
+    """Whether who offers was settled at the same reopening, or restored behind it."""
+    return bool(offer["known"]) and unsigned(offer["journal"]) == base.journal
+
+
+def serves(offer: Dict[str, Any]) -> bool:
+    """Whether who offers executes requests, be it only those that are passed on."""
+    return offer["cell"] == Cell.PRIMARY or (offer["cell"] == Cell.PREPARED and bool(offer["has_cut"]))
+
+
+def quoted(name: str) -> str:
+    """A name as a statement has it."""
+    return '"' + name.replace('"', '""') + '"'
+
+

@@ -1,0 +1,170 @@
+"""What a server keeps, in a transaction: its base, the slots and what stands beside them, and all servers."""
+from __future__ import annotations
+
+from dataclasses import astuple, dataclass
+from typing import Dict, Optional
+
+from psycopg import sql
+from smplan.agent import VACANT, Base, Cell, Slot
+
+from .database import Connection, signed, unsigned, value
+
+SLOT = ("cell", "party", "handover", "last", "at_work", "load", "cut", "has_cut")
+
+
+@dataclass(frozen=True, order=True)
+class Mark:
+    """What a copy has: the number of what made the last primary of its list, and how many writes. Two copies of one mark are the same."""
+
+    view: int = 0
+    position: int = 0
+
+
+@dataclass(frozen=True)
+class Cut:
+    """The last thing that an old owner, or a primary that becomes a secondary, has put into its stream."""
+
+    handover: int
+    position: int
+    party: int
+    sequences: Dict[str, int]
+
+
+@dataclass(frozen=True)
+class Peer:
+    """Another server: how its database is reached, none if that is not known yet."""
+
+    number: int
+    name: str
+    url: str
+    reach: Optional[str]
+
+
+class Records:
+    """The records of one transaction."""
+
+    def __init__(self, tx: Connection) -> None:
+        self.tx = tx
+
+    # -- the server
+
+    def base(self, lock: str = "") -> Base:
+        """The base. Who changes it, or slots, takes it FOR UPDATE first; who works on one shard alone FOR SHARE."""
+        row = self.tx.execute(f"SELECT * FROM sm.state {lock}").fetchone()
+        assert row is not None
+        return Base(unsigned(row["journal"]), row["number"], unsigned(row["nonce"]), row["known"], row["fenced"])
+
+    def heard(self) -> int:
+        """The number of the last reopening of its journal that it has heard of."""
+        return value(self.tx.execute("SELECT heard FROM sm.state").fetchone())
+
+    def put_base(self, base: Base, heard: int) -> None:
+        """Stores the base."""
+        self.tx.execute("UPDATE sm.state SET journal = %s, number = %s, nonce = %s, known = %s, fenced = %s, heard = %s",
+                        (signed(base.journal), base.number, signed(base.nonce), base.known, base.fenced, heard))
+
+    def peers(self) -> Dict[int, Peer]:
+        """All servers that it knows, by number."""
+        return {it["number"]: Peer(**it) for it in self.tx.execute("SELECT number, name, url, reach FROM sm.servers").fetchall()}
+
+    # -- slots
+
+    def slots(self) -> Dict[str, Slot]:
+        """All slots by shard."""
+        rows = self.tx.execute("SELECT * FROM sm.slots ORDER BY shard").fetchall()
+        return {it["shard"]: Slot(**{name: it[name] for name in SLOT}) for it in rows}
+
+    def slot(self, shard: str, base: Optional[Base] = None) -> Slot:
+        """The slot of a shard."""
+        row = self.tx.execute("SELECT * FROM sm.slots WHERE shard = %s", (shard,)).fetchone()
+        if row is not None:
+            return Slot(**{name: row[name] for name in SLOT})
+        return VACANT if (base or self.base()).known else Slot()
+
+    def put_slot(self, shard: str, slot: Slot) -> None:
+        """Stores a slot."""
+        names = ", ".join(SLOT)
+        self.tx.execute(f"INSERT INTO sm.slots (shard, {names}) VALUES (%s{', %s' * len(SLOT)}) ON CONFLICT (shard) DO UPDATE SET "
+                        + ", ".join(f"{it} = excluded.{it}" for it in SLOT), (shard, *(int(it) for it in astuple(slot))))
+
+    def used(self) -> int:
+        """The load of all that the server has."""
+        return int(value(self.tx.execute("SELECT coalesce(sum(load), 0) FROM sm.slots WHERE cell <> 1").fetchone()))
+
+    def source(self, shard: str) -> Optional[int]:
+        """Whom the shard is followed from."""
+        return value(self.tx.execute("SELECT source FROM sm.slots WHERE shard = %s", (shard,)).fetchone())
+
+    def put_source(self, shard: str, source: Optional[int], is_whole: bool) -> None:
+        """Stores whom a shard is followed from, and whether the copy is whole."""
+        self.tx.execute("UPDATE sm.slots SET source = %s, is_whole = %s WHERE shard = %s", (source, is_whole, shard))
+
+    def is_whole(self, shard: str) -> bool:
+        """Whether the copy of a shard is a beginning of the shard's list of writes."""
+        return bool(value(self.tx.execute("SELECT is_whole FROM sm.slots WHERE shard = %s", (shard,)).fetchone()))
+
+    def put_seal(self, shard: str, place: str, mark: Mark) -> None:
+        """Stores where the writes of its own begin, and what its copy was then."""
+        self.tx.execute("UPDATE sm.slots SET sealed = %s::pg_lsn, sealed_view = %s, sealed_position = %s WHERE shard = %s", (place, mark.view, mark.position, shard))
+
+    # -- a shard's own tables
+
+    def is_adopted(self, shard: str) -> bool:
+        """Whether there is a schema with a shard's own tables."""
+        return value(self.tx.execute("SELECT sm.is_adopted(%s)", (shard,)).fetchone())
+
+    def mark(self, shard: str) -> Mark:
+        """What the copy of a shard has."""
+        row = self.tx.execute("SELECT sm.view(%s) AS view, sm.position(%s) AS position", (shard, shard)).fetchone()
+        assert row is not None
+        return Mark(row["view"], row["position"])
+
+    def told_position(self, shard: str) -> int:
+        """The position as it is told: 0 of what is no whole copy."""
+        return self.mark(shard).position if self.is_whole(shard) else 0
+
+    def cut(self, shard: str) -> Optional[Cut]:
+        """The cut that has come to this copy."""
+        if not self.is_adopted(shard):
+            return None
+        row = self.tx.execute(self.own("SELECT handover, position, party, sequences FROM {}.sm_cut", shard)).fetchone()
+        return None if row is None else Cut(**row)
+
+    def put_cut(self, shard: str, cut: Cut) -> None:
+        """Stores a cut, beside its count."""
+        self.tx.execute(self.own("DELETE FROM {}.sm_cut", shard))
+        self.tx.execute(self.own("INSERT INTO {}.sm_cut VALUES (%s, %s, %s, sm.sequences(%s))", shard), (cut.handover, cut.position, cut.party, shard))
+
+    def end_cut(self, shard: str) -> None:
+        """Deletes the cut: the shard is served here now, and followers see this behind it."""
+        self.tx.execute(self.own("DELETE FROM {}.sm_cut", shard))
+
+    def members(self, shard: str) -> Dict[int, bool]:
+        """The servers that count for a shard, and whether they are the old owner."""
+        if not self.is_adopted(shard):
+            return {}
+        rows = self.tx.execute(self.own("SELECT server, was_owner FROM {}.sm_members", shard)).fetchall()
+        return {it["server"]: it["was_owner"] for it in rows}
+
+    def put_members(self, shard: str, members: Dict[int, bool]) -> None:
+        """Stores who counts."""
+        self.tx.execute(self.own("DELETE FROM {}.sm_members", shard))
+        for server, was_owner in members.items():
+            self.tx.execute(self.own("INSERT INTO {}.sm_members VALUES (%s, %s)", shard), (server, was_owner))
+
+    def put_view(self, shard: str, view: int, position: int) -> None:
+        """A new primary begins a view."""
+        self.tx.execute(self.own("INSERT INTO {}.sm_views VALUES (%s, %s) ON CONFLICT (view) DO NOTHING", shard), (view, position))
+
+    def count(self, shard: str) -> None:
+        """Counts a write of this transaction."""
+        self.tx.execute("SELECT sm.count(%s)", (shard,))
+
+    def own(self, text: str, shard: str) -> sql.Composed:
+        """A statement over a table of a shard."""
+        return sql.SQL(text).format(sql.Identifier(shard))
+
+
+def is_served(slot: Slot) -> bool:
+    """Whether a server with this slot executes requests, be it only those that are passed on."""
+    return slot.cell == Cell.PRIMARY or (slot.cell == Cell.PREPARED and bool(slot.has_cut))

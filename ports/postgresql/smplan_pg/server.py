@@ -1,0 +1,229 @@
+"""A PostgreSQL server's side of moving shards, driven by `smplan-control run`: all that docs/YOUR-SERVERS.md asks for, over the records of schema sm."""
+from __future__ import annotations
+
+import os
+import sys
+import threading
+import time
+from concurrent.futures import ThreadPoolExecutor
+from dataclasses import dataclass, field
+from typing import Any, Callable, Dict, List, Optional, Sequence
+
+import psycopg
+from smplan.failure import Failure
+from smplan.server_http import Caller, listen
+
+from .copies import Copies
+from .database import Database, value
+from .following import Following
+from .keeping import Keeping
+from .orders import Orders
+from .records import Peer, Records
+from .streams import Stuck
+from .whole import Whole
+
+Line = Dict[str, Any]
+
+
+@dataclass(frozen=True)
+class Limits:
+    """Times in seconds: for how long an order's answer waits for its work; for how long an order holds new requests back while it waits for those that
+    run, and rests between such tries; when it ends them; for how long a fence waits for them; when a follower that reads nothing counts no more; for how
+    long identities are kept. And how many copies may be made from one server at once."""
+
+    answering: float = 1.0
+    holding: float = 0.15
+    resting: float = 1.0
+    ending: float = 30.0
+    fencing: float = 2.0
+    dead: float = 5.0
+    keeping: float = 3600.0
+    copies: int = 2
+
+
+@dataclass
+class Live:
+    """A shard in memory. Who changes its streams has its hands."""
+
+    hands: threading.RLock = field(default_factory=threading.RLock)
+    worker: int = 0
+    said: str = ""
+    rest_until: float = 0.0
+    first_try: Dict[int, float] = field(default_factory=dict)
+
+
+class Server:
+    """One server: its database, its peers, and what it does by itself."""
+
+    def __init__(self, name: str, database: Database, reach: str, controllers: Sequence[str], token: Optional[str] = None, limits: Limits = Limits(),
+                 http: Optional[str] = None) -> None:
+        self.name, self.database, self.reach, self.controllers, self.token, self.limits = name, database, reach, list(controllers), token, limits
+        self.http = http
+        self.call: Callable[[str, Optional[Line], float], Any] = Caller(token).call
+        self.beside, self.lock = ThreadPoolExecutor(32), threading.Lock()
+        self.shards: Dict[str, Live] = {}
+        self.peers: Dict[int, Peer] = {}
+        self.databases: Dict[str, Database] = {}
+        self.number = 0
+        self.copies, self.orders, self.following = Copies(self), Orders(self), Following(self)
+        self.keeping, self.whole = Keeping(self), Whole(self)
+        routes: Dict[str, Callable[[Line], Line]] = {
+            "/order": self.orders.take, "/fence": self.whole.fence, "/settle": self.whole.settle, "/restore": self.whole.restore,
+            "/notice": self.whole.notice, "/base": self.whole.tell_base, "/slots": self.whole.tell_slots, "/reach": self.tell_reach}
+        self.routes = {path: answered(route) for path, route in routes.items()}
+
+    def say(self, *words: object) -> None:
+        """Tells what happens, in the log."""
+        print(f"{time.time():.3f}", self.name, *words, file=sys.stderr, flush=True)
+
+    def live(self, shard: str) -> Live:
+        """What it has of a shard in memory."""
+        with self.lock:
+            return self.shards.setdefault(shard, Live())
+
+    # -- other servers
+
+    @property
+    def numbers(self) -> Dict[str, int]:
+        """All servers' numbers by name."""
+        return {it.name: it.number for it in self.peers.values()}
+
+    @property
+    def names(self) -> Dict[int, str]:
+        """All servers' names by number."""
+        return {it.number: it.name for it in self.peers.values()}
+
+    def others(self) -> List[int]:
+        """The numbers of all others that the fleet's file has now."""
+        return [it.number for it in self.peers.values() if it.number != self.number and it.url]
+
+    def tell_reach(self, _: Line) -> Line:
+        """How other servers reach the database."""
+        return {"name": self.name, "reach": self.reach}
+
+    def peer(self, number: int) -> Database:
+        """Another server's database."""
+        it = self.peers.get(number)
+        if it is None or it.reach is None:
+            raise Stuck(f"the database of server {number} is not known yet")
+        with self.lock:
+            if it.reach not in self.databases:
+                self.databases[it.reach] = Database(it.reach, patience=5.0)
+            return self.databases[it.reach]
+
+    def learn(self, told: Dict[str, Any]) -> None:
+        """Takes the servers that a controller tells of. A number belongs to one name for ever, also if the server is gone."""
+        with self.database.transaction() as tx:
+            known = Records(tx).peers()
+            for name, it in told.items():
+                if any((name == one.name) != (it["number"] == number) for number, one in known.items()):
+                    raise Failure(f"{self.name}: the number {it['number']} of {name} was another one, or another server's: {known}")
+                tx.execute("INSERT INTO sm.servers VALUES (%s, %s, %s) ON CONFLICT (number) DO UPDATE SET url = excluded.url WHERE sm.servers.url <> excluded.url",
+                           (it["number"], name, it["url"]))
+            tx.execute("UPDATE sm.servers SET url = '' WHERE url <> '' AND NOT name = ANY(%s)", (list(told),))
+            if self.name in told:
+                self.number = told[self.name]["number"]
+                tx.execute("UPDATE sm.state SET me = %s, name = %s WHERE me IS DISTINCT FROM %s", (self.number, self.name, self.number))
+            self.peers = Records(tx).peers()
+
+    def look(self) -> bool:
+        """Asks the controllers for the servers, and these for their databases. Whether a controller has answered."""
+        for controller in self.controllers:
+            try:
+                self.learn(self.call(f"{controller}/fleet", None, 3.0)["servers"])
+                break
+            except (OSError, ValueError, KeyError, TypeError):
+                continue
+        else:
+            return False
+        for it in self.peers.values():
+            if it.url and it.number != self.number:
+                self.ask_reach(it)
+        return True
+
+    def ask_reach(self, peer: Peer) -> None:
+        """Asks another server how its database is reached, and stores it."""
+        try:
+            reach = self.call(f"{peer.url}/reach", None, 1.0)["reach"]
+        except (OSError, ValueError, KeyError):
+            return
+        if reach != peer.reach:
+            self.database.do("UPDATE sm.servers SET reach = %s WHERE number = %s", reach, peer.number)
+            self.peers[peer.number] = Peer(peer.number, peer.name, peer.url, reach)
+
+    def know(self, line: Line) -> None:
+        """Looks for servers that a message names, and that it does not know yet."""
+        named = {line.get("from"), line.get("to"), line.get("primary"), *(line.get("replicas") or ())}
+        named |= {it.get("party") for it in line.get("slots") or ()}
+        if named - {None, "primary", "secondary"} - set(self.numbers):
+            self.look()
+
+    # -- what goes on by itself
+
+    def repeat(self, work: Callable[[], Any], seconds: float) -> None:
+        """Does something again and again."""
+        while True:
+            try:
+                work()
+            except Failure as why:
+                print(why, file=sys.stderr, flush=True)
+                os._exit(2)
+            except Exception as why:  # pylint: disable=broad-exception-caught  (the next round comes)
+                self.say(type(why).__name__, str(why).strip())
+            time.sleep(seconds)
+
+    def ask_for_slots(self) -> None:
+        """Asks each controller, under its nonce, if it is Unknown."""
+        for controller in self.controllers:
+            with self.database.transaction() as tx:
+                base = Records(tx).base()
+            if base.known:
+                return
+            try:
+                told = self.call(f"{controller}/restore", {"server": self.name, "nonce": f"{base.nonce:x}"}, 3.0)
+                self.whole.restore(told["restore"])
+            except (OSError, ValueError, KeyError):
+                continue  # (it is not there, does not lead, or gives none yet)
+
+    def start(self, seconds: float = 5.0) -> None:
+        """Takes the database for itself, and begins without work."""
+        self.own, until = self.database.connect(), time.monotonic() + seconds
+        while not value(self.own.execute("SELECT pg_try_advisory_lock(1936531058, 0)").fetchone()):
+            if time.monotonic() > until:
+                raise Failure(f"another smplan-pg serves the database of {self.name}")
+            time.sleep(0.1)
+        self.whole.start()
+
+    def run(self) -> None:
+        """Listens at its address, that of the fleet's file unless it was told another one, for ever."""
+        self.start()
+        with self.database.transaction() as tx:
+            self.peers = Records(tx).peers()
+            self.number = self.numbers.get(self.name, 0)
+        while not self.number:
+            if not self.look():
+                time.sleep(0.2)
+            elif not self.number:
+                raise Failure(f"the fleet's file names no {self.name}")
+        for work, seconds in ((self.look, 2.0), (self.ask_for_slots, 0.5), (self.following.watch, 0.2), (self.following.listen, 0.5),
+                              (self.keeping.leave_out_the_dead, 0.5), (self.keeping.tidy, 2.0), (self.keep_own, 1.0)):
+            threading.Thread(target=self.repeat, args=(work, seconds), daemon=True).start()
+        listen(self.http or self.peers[self.number].url, self.routes, self.token)
+
+    def keep_own(self) -> None:
+        """Takes the database again after its restart, and begins without work then."""
+        try:
+            self.own.execute("SELECT 1")
+        except psycopg.Error:
+            self.own.close()
+            self.start()
+
+
+def answered(route: Callable[[Line], Line]) -> Callable[[Line], Line]:
+    """A route whose trouble with a database is an answer, too: none, so that the message comes again."""
+    def answer(line: Line) -> Line:
+        try:
+            return route(line)
+        except (Stuck, psycopg.Error) as why:
+            raise OSError(f"{type(why).__name__} {why}".strip()) from None
+    return answer

@@ -1,0 +1,143 @@
+"""Streams between servers: logical replication. A shard's publication, and the subscription and the slot by which a server follows it, have the names of
+sm.stream. A subscription that is dropped leaves its slot at the source, so that this may stand in a transaction."""
+from __future__ import annotations
+
+import time
+from typing import List, Optional
+
+import psycopg
+from psycopg import sql
+
+from .database import Connection, Database, value
+
+ALL = "insert, update, delete, truncate"
+
+
+class Stuck(Exception):
+    """Something can't be done now; it is tried again."""
+
+
+def name_of(tx: Connection, shard: str, server: Optional[int] = None) -> str:
+    """The name of a publication, or with a follower's number of a stream."""
+    return value(tx.execute("SELECT sm.stream(%s, %s)", (shard, server)).fetchone())
+
+
+def said(text: str, *names: str, **literals: str) -> sql.Composed:
+    """A statement with names and literals in their places."""
+    return sql.SQL(text).format(*(sql.Identifier(it) for it in names), **{key: sql.Literal(it) for key, it in literals.items()})
+
+
+# -- publications
+
+def publish(tx: Connection, shard: str, what: str) -> None:
+    """Sets what a publication tells; what the log has before is told as before."""
+    tx.execute(said("ALTER PUBLICATION {} SET (publish = {what})", name_of(tx, shard), what=what))
+
+
+# -- subscriptions
+
+def has_subscription(tx: Connection, name: str) -> bool:
+    """Whether there is a subscription in this database."""
+    row = tx.execute("SELECT FROM pg_subscription s JOIN pg_database d ON d.oid = subdbid WHERE subname = %s AND datname = current_database()", (name,))
+    return row.fetchone() is not None
+
+
+def halt(database: Database, name: str, seconds: float = 3.0) -> None:
+    """Disables a subscription, and waits until nobody applies what it brings. It keeps what it knows of its place."""
+    with database.connection() as c:
+        if not has_subscription(c, name):
+            return
+        c.execute(said("ALTER SUBSCRIPTION {} DISABLE", name))
+        until = time.monotonic() + seconds
+        at_work = "SELECT pid FROM pg_stat_subscription WHERE subname = %s AND pid IS NOT NULL"
+        while rows := c.execute(at_work, (name,)).fetchall():
+            for it in rows:
+                c.execute("SELECT pg_terminate_backend(%s)", (it["pid"],))
+            if time.monotonic() > until:
+                raise Stuck(f"{name} still applies")
+            time.sleep(0.003)
+
+
+def drop_subscription(tx: Connection, name: str) -> None:
+    """Drops a subscription. A transaction that may end otherwise halts it before: its place is forgotten even if the transaction is rolled back."""
+    if has_subscription(tx, name):
+        tx.execute(said("ALTER SUBSCRIPTION {} DISABLE", name))
+        tx.execute(said("ALTER SUBSCRIPTION {} SET (slot_name = NONE)", name))
+        tx.execute(said("DROP SUBSCRIPTION {}", name))
+
+
+def follow(c: Connection, name: str, publication: str, reach: str) -> None:
+    """Copies all that a publication has, and follows it."""
+    c.execute(said("CREATE SUBSCRIPTION {} CONNECTION {reach} PUBLICATION {} WITH (slot_name = {name}, synchronous_commit = 'local')",
+                   name, publication, reach=reach, name=name))
+
+
+def follow_behind(database: Database, name: str, publication: str, reach: str, place: str) -> None:
+    """Makes a subscription that copies nothing, and begins behind a place of the source's log. It is not enabled yet.
+    (Its place is stored here: what pg_replication_slot_advance says at the source is forgotten by a crash.)"""
+    with database.transaction() as tx:
+        drop_subscription(tx, name)
+        tx.execute(said("CREATE SUBSCRIPTION {} CONNECTION {reach} PUBLICATION {} WITH (slot_name = {name}, create_slot = false, copy_data = false, "
+                        "enabled = false, synchronous_commit = 'local')", name, publication, reach=reach, name=name))
+    database.do("SELECT pg_replication_origin_advance('pg_' || (SELECT oid FROM pg_subscription WHERE subname = %s), %s::pg_lsn)", name, place)
+
+
+def enable(tx: Connection, name: str) -> None:
+    """Lets a subscription begin."""
+    tx.execute(said("ALTER SUBSCRIPTION {} ENABLE", name))
+
+
+def lacks_tables(tx: Connection, name: str) -> int:
+    """How many tables of a subscription are not copied yet."""
+    return value(tx.execute("SELECT count(*) FROM pg_subscription_rel r JOIN pg_subscription s ON s.oid = srsubid WHERE subname = %s AND srsubstate <> 'r'",
+                            (name,)).fetchone())
+
+
+# -- streams at their source
+
+def streams_of(tx: Connection, shard: str) -> List[str]:
+    """The streams of a shard that begin at a server."""
+    head = name_of(tx, shard) + "_"
+    return [it["slot_name"] for it in tx.execute("SELECT slot_name FROM pg_replication_slots WHERE starts_with(slot_name, %s)", (head,)).fetchall()]
+
+
+def make_stream(database: Database, shard: str, follower: int) -> None:
+    """Makes a stream for a server that will follow this one, if there is none."""
+    with database.connection() as c:
+        name = name_of(c, shard, follower)
+        if c.execute("SELECT FROM pg_replication_slots WHERE slot_name = %s", (name,)).fetchone() is None:
+            c.execute("SELECT pg_create_logical_replication_slot(%s, 'pgoutput')", (name,))
+
+
+def drop_stream(database: Database, name: str, seconds: float = 2.0) -> None:
+    """Drops a stream at its source, once nobody reads it."""
+    until = time.monotonic() + seconds
+    while True:
+        with database.connection() as c:
+            row = c.execute("SELECT active_pid FROM pg_replication_slots WHERE slot_name = %s", (name,)).fetchone()
+            if row is None:
+                return
+            try:
+                if row["active_pid"] is None:
+                    c.execute("SELECT pg_drop_replication_slot(%s)", (name,))
+                    return
+            except (psycopg.errors.ObjectInUse, psycopg.errors.UndefinedObject):
+                pass
+        if time.monotonic() > until:
+            raise Stuck(f"{name} is still read")
+        time.sleep(0.02)
+
+
+def drop_streams(database: Database, shard: str) -> None:
+    """Drops all streams of a shard that begin here."""
+    with database.connection() as c:
+        names = streams_of(c, shard)
+    for it in names:
+        drop_stream(database, it)
+
+
+def advance(database: Database, shard: str) -> None:
+    """Moves streams that are to begin here up to now, so that they hold no log back, and begin fast. (A crash forgets it.)"""
+    with database.connection() as c:
+        for it in streams_of(c, shard):
+            c.execute("SELECT pg_replication_slot_advance(slot_name, pg_current_wal_flush_lsn()) FROM pg_replication_slots WHERE slot_name = %s AND NOT active", (it,))

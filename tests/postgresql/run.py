@@ -1,0 +1,250 @@
+"""run.py FOLDER [--seconds 60] [--seed N] [--shards 6] [--rows 5000] [--harm ..] [--bug NAME]: servers, shards and clients that write all the time, plans
+that move the shards, harm drawn by the seed, and a verdict. Exit status 0: nothing is wrong; 1: violations; 4: the machine is too slow for a verdict.
+"""
+import argparse
+import json
+import os
+import random
+import signal
+import subprocess
+import sys
+import threading
+import time
+from pathlib import Path
+
+import checker
+from harm import Harm
+from servers import Fleet
+
+HERE = Path(__file__).resolve().parent
+TABLES = """CREATE SCHEMA {0};
+CREATE TABLE {0}.accounts (id int PRIMARY KEY, balance bigint NOT NULL DEFAULT 0, filler text);
+CREATE TABLE {0}.history (id bigserial PRIMARY KEY, request text NOT NULL, account int NOT NULL, delta int NOT NULL);
+INSERT INTO {0}.accounts SELECT it, 0, repeat(md5(it::text), 9) FROM generate_series(1, {1}) it;"""
+KINDS = ("copy", "cut", "seal", "over", "order", "controller", "hold", "ddl", "away")
+
+
+class Run:
+    """One run."""
+
+    def __init__(self, told):
+        self.told, self.dice, self.begun, self.events = told, random.Random(told.seed), time.time(), []
+        names = [chr(ord("a") + it) for it in range(told.servers)]
+        self.fleet = Fleet(told.folder, names, told.shards, options=["--dead", str(told.dead), *told.option], harm=told.messages, seed=told.seed, bug=told.bug)
+        self.harm = Harm(self.fleet, random.Random(f"{told.seed} harm"), self.say)
+        self.stopping = threading.Event()
+        self.writers, self.spans = [], {}
+
+    def say(self, *words):
+        """Tells what happens."""
+        self.events.append((time.time(), " ".join(str(it) for it in words)))
+        if not self.told.quiet:
+            print(f"{time.time() - self.begun:7.2f} s ", *words, flush=True)
+
+    # -- the service
+
+    def make(self):
+        """Servers, shards, and a document of what is where."""
+        sys.path.insert(0, str(HERE.parents[1] / "ports/postgresql"))
+        if self.told.bug:
+            import wrong
+            wrong.plant(self.told.bug)
+        from smplan_pg.adopt import adopt, load_of
+        from smplan_pg.database import Database
+        self.fleet.make()
+        names, cells, loads = self.fleet.names, {}, {}
+        for n in range(self.told.shards):
+            order = names[n % len(names):] + names[:n % len(names)]
+            if n % len(names) == 0 or n % 3 == 0:
+                order = [names[0], *self.dice.sample(names[1:], len(names) - 1)]
+            cells[f"s{n}"] = order[:3 if n % 5 == 4 and len(names) > 3 else 2]
+
+        def fill(name):
+            database = Database(self.fleet.posts[name].reach)
+            for shard in (it for it, its in cells.items() if its[0] == name):
+                self.fleet.posts[name].query(TABLES.format(shard, self.told.rows))
+                adopt(database, [shard])
+                loads[shard] = load_of(database, shard)
+        fillers = [threading.Thread(target=fill, args=(it,)) for it in names]
+        for step in (threading.Thread.start, threading.Thread.join):
+            for it in fillers:
+                step(it)
+        self.fleet.shards, self.cells, self.fleet.room = list(cells), cells, 3 * sum(loads.values())
+        return {"limit": 1, "servers": [{"name": it, "region": "r", "room": self.fleet.room} for it in names],
+                "shards": [{"name": shard, "load": loads[shard], "want": len(its), "cap": len(its) - 1, "spread": 1, "listed": its[0], "cells": [
+                    {"server": it, "state": "secondary" if n else "primary"} for n, it in enumerate(its)]} for shard, its in cells.items()]}
+
+    def start_writers(self):
+        """Clients in processes of their own."""
+        (self.fleet.folder / "setup.json").write_text(json.dumps({
+            "servers": {it: post.reach for it, post in self.fleet.posts.items()}, "map": str(self.fleet.map_file), "shards": self.fleet.shards, "rows": self.told.rows}))
+        self.writers = [subprocess.Popen(["/usr/bin/python3", "writers.py", str(self.fleet.folder), str(n), "1", str(self.told.rest)], cwd=HERE,
+                                         stdout=(self.fleet.folder / f"writers-{n}.log").open("w"), stderr=subprocess.STDOUT) for n in range(self.told.writers)]
+
+    # -- what goes on
+
+    def harms(self):
+        """One harm after the other, with rests between."""
+        while not self.stopping.wait(self.harm.dice.uniform(0.3, 2.0)):
+            kind = self.harm.dice.choice(self.told.harm)
+            try:
+                if kind in ("copy", "cut", "seal", "over", "order"):
+                    self.harm.strike(kind, self.stopping.is_set)
+                elif kind == "controller":
+                    self.harm.controller()
+                elif kind == "hold":
+                    self.harm.hold(self.harm.dice.uniform(0.5, 3.0))
+                elif kind == "ddl":
+                    self.harm.ddl()
+                elif kind == "away":
+                    self.harm.away(self.told.dead + 2.0)
+            except Exception as why:  # pylint: disable=broad-exception-caught
+                self.say("harm", kind, type(why).__name__, why)
+
+    def moves(self, until):
+        """Drains one server after the other, and repairs what shards lack."""
+        begun, loses = time.time(), self.told.lose
+        while time.time() < until:
+            if loses and time.time() > (begun + until) / 2:
+                name = self.dice.choice(self.harm.present())
+                self.harm.lose(name)
+                self.command("repair")
+                self.harm.replace(name)
+                self.command("repair")
+                loses = 0
+            name = self.dice.choice(self.harm.present())
+            words = ["drain", name, "--batch", "2", "--pause", "0.2", "--stop", "20"] + (["--prefer-secondary"] if self.dice.random() < self.told.roles else [])
+            self.say(*words[:2], *(words[8:]))
+            at = time.time()
+            status = self.command(*words, seconds=max(5.0, until - time.time() + 10))
+            self.say(f"drain of {name} ended with {status}")
+            self.spans.setdefault("drains", []).append((at, time.time()))
+
+    def command(self, *words, seconds=60.0):
+        """Runs a command of an operator for a while."""
+        process = self.fleet.command(*words)
+        try:
+            return process.wait(seconds)
+        except subprocess.TimeoutExpired:
+            process.send_signal(signal.SIGKILL)
+            process.wait()
+            return "no end"
+
+    # -- the end
+
+    def is_quiet(self):
+        """Whether no plan runs, and each shard has what it wants; asks for repair otherwise."""
+        state = self.fleet.ask({"do": "state"})["state"]
+        if state["is"] != "open" or any(it["is"] == "running" for it in state["plans"]):
+            return False
+        lacking = [it["shard"] for it in state["shards"] if len(it["cells"]) != len(self.cells[it["shard"]]) or all(cell["state"] != "primary" for cell in it["cells"])]
+        if lacking:
+            self.say("repair of", lacking)
+            self.command("repair")
+            return False
+        return all(self.counts(it) for it in state["shards"])
+
+    def counts(self, entry):
+        """Whether all secondaries of a shard count at its primary."""
+        shard, owner = entry["shard"], next(it["server"] for it in entry["cells"] if it["state"] == "primary")
+        rows = self.fleet.posts[owner].query(f"SELECT name FROM {shard}.sm_members JOIN sm.servers ON number = server")
+        return {it for (it,) in rows} == {it["server"] for it in entry["cells"]} - {owner}
+
+    def settle(self):
+        """Heals all, and waits until the service is at rest."""
+        for name in self.harm.present():
+            self.harm.revive(name)
+        if not self.fleet.controller.is_up():
+            self.fleet.controller.start()
+        self.fleet.wait_for("the service is at rest", self.is_quiet, self.told.patience)
+
+    def run(self):
+        """The whole run; returns what is wrong."""
+        document = self.make()
+        self.fleet.open(document)
+        self.fleet.wait_for("all secondaries are copied", lambda: self.is_quiet_at_first(document), self.told.patience)
+        self.say(f"{len(self.fleet.names)} servers, {self.told.shards} shards of {document['shards'][0]['load']} MB; secondaries are copied")
+        self.start_writers()
+        time.sleep(min(4.0, self.told.seconds / 8))
+        self.spans["rest"] = [(self.begun, time.time())]
+        harms = threading.Thread(target=self.harms) if self.told.harm else None
+        if harms:
+            harms.start()
+        self.moves(time.time() + self.told.seconds)
+        self.stopping.set()
+        if harms:
+            harms.join()
+        stuck = []
+        try:
+            self.settle()
+        except TimeoutError as why:
+            stuck = [f"{why}: {self.fleet.told_stuck()}"]
+        time.sleep(1.0)
+        (self.fleet.folder / "stop").touch()
+        for it in self.writers:
+            it.wait()
+        wrong, by_shard = checker.check(self.fleet, {shard: len(its) for shard, its in self.cells.items()}, self.told.least, self.harm.present())
+        self.report(by_shard)
+        return stuck + self.harm.wrong + wrong
+
+    def is_quiet_at_first(self, document):
+        """Whether all secondaries are copied and count."""
+        return all(self.counts(it | {"shard": it["name"]}) for it in document["shards"])
+
+    def report(self, by_shard):
+        """Figures."""
+        for shard, rows in sorted(by_shard.items()):
+            rest = checker.gaps_of(rows, *self.spans["rest"][0])
+            drain = max((checker.gaps_of(rows, *it) for it in self.spans.get("drains", [])), default=0.0)
+            print(f"{shard}: {len(rows)} acknowledged; longest time without one: {rest * 1e3:.0f} ms at rest, {drain * 1e3:.0f} ms while shards moved")
+        print("harm:", dict(self.harm.counts), "messages:", {it: dict(counts) for it, counts in self.fleet.proxied.items()})
+        for it in self.writers:
+            pass
+        for n in range(len(self.writers)):
+            print((self.fleet.folder / f"writers-{n}.log").read_text().strip()[-300:])
+
+
+def arguments():
+    parser = argparse.ArgumentParser()
+    parser.add_argument("folder")
+    parser.add_argument("--seconds", type=float, default=60)
+    parser.add_argument("--seed", type=int, default=None)
+    parser.add_argument("--servers", type=int, default=4)
+    parser.add_argument("--shards", type=int, default=6)
+    parser.add_argument("--rows", type=int, default=5000)
+    parser.add_argument("--writers", type=int, default=2, help="processes, each with a client a shard")
+    parser.add_argument("--rest", type=float, default=0.02)
+    parser.add_argument("--harm", nargs="*", default=list(KINDS))
+    parser.add_argument("--messages", type=float, default=0.0, help="the share of messages that are lost, late or doubled")
+    parser.add_argument("--lose", type=int, default=0)
+    parser.add_argument("--roles", type=float, default=0.4, help="the share of drains that change roles first")
+    parser.add_argument("--dead", type=float, default=4.0)
+    parser.add_argument("--patience", type=float, default=120.0)
+    parser.add_argument("--least", type=int, default=100)
+    parser.add_argument("--option", nargs="*", default=[])
+    parser.add_argument("--bug", default="")
+    parser.add_argument("--quiet", action="store_true")
+    told = parser.parse_args()
+    told.seed = random.SystemRandom().randrange(1 << 30) if told.seed is None else told.seed
+    return told
+
+
+def main():
+    signal.signal(signal.SIGTERM, lambda *_: sys.exit(143))
+    told = arguments()
+    run = Run(told)
+    print(f"seed {told.seed}", flush=True)
+    try:
+        wrong = run.run()
+    finally:
+        (run.fleet.folder / "stop").touch()
+        run.stopping.set()
+        run.fleet.close()
+        for it in run.writers:
+            it.kill()
+    print(f"verdict: {len(wrong)} violations (seed {told.seed})", *wrong[:20], sep="\n  ", flush=True)
+    os._exit(1 if wrong else 0)
+
+
+if __name__ == "__main__":
+    main()

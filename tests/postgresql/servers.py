@@ -1,0 +1,204 @@
+"""PostgreSQL servers, their smplan-pg, and a controller, as processes on loopback."""
+import json
+import os
+import pathlib
+import shutil
+import signal
+import socket
+import subprocess
+import sys
+import time
+
+import psycopg
+import proxies
+
+ROOT = pathlib.Path(__file__).resolve().parents[2]
+sys.path[:0] = [str(ROOT / "python"), str(ROOT / "ports/postgresql")]
+BIN = pathlib.Path("/usr/lib/postgresql/15/bin")
+SETTINGS = {"shared_buffers": "64MB", "max_connections": "120", "max_wal_size": "2GB", "listen_addresses": "127.0.0.1", "log_min_messages": "warning",
+            "fsync": os.environ.get("PG_FSYNC", "on")}
+
+
+def free_ports(count):
+    """Ports that nobody has now."""
+    its = [socket.create_server(("127.0.0.1", 0)) for _ in range(count)]
+    ports = [it.getsockname()[1] for it in its]
+    for it in its:
+        it.close()
+    return ports
+
+
+def as_postgres():
+    """How a process is started that may not be root's."""
+    return {"user": "postgres", "group": "postgres", "extra_groups": []} if os.geteuid() == 0 else {}
+
+
+class Process:
+    """A process that is started, killed and started again."""
+
+    def __init__(self, name, words, log, **rest):
+        self.name, self.words, self.log, self.rest, self.process = name, words, log, rest, None
+
+    def start(self):
+        with self.log.open("a") as log:
+            self.process = subprocess.Popen(self.words, stdout=log, stderr=log, start_new_session=True, **self.rest)
+
+    def is_up(self):
+        return self.process is not None and self.process.poll() is None
+
+    def stop(self, how=signal.SIGTERM, seconds=20):
+        if self.is_up():
+            os.kill(self.process.pid, how)
+            try:
+                self.process.wait(seconds)
+            except subprocess.TimeoutExpired:
+                os.kill(self.process.pid, signal.SIGKILL)
+                self.process.wait()
+
+    def kill(self):
+        self.stop(signal.SIGKILL)
+
+
+class Postgres(Process):
+    """A PostgreSQL server."""
+
+    def __init__(self, folder, name, port, shards, servers):
+        from smplan_pg.status import settings
+        self.port, self.data = port, folder / f"pg-{name}"
+        lines = dict(it.split("#")[0].strip().split(" = ") for it in settings(shards, servers).splitlines())
+        words = [str(BIN / "postgres"), "-D", str(self.data), "-p", str(port)]
+        for key, it in {**lines, **SETTINGS, "unix_socket_directories": str(folder)}.items():
+            words += ["-c", f"{key}={it}"]
+        super().__init__(name, words, folder / f"pg-{name}.log", cwd=str(folder), **as_postgres())
+        self.reach = f"host=127.0.0.1 port={port} dbname=postgres user=postgres"
+
+    def make(self):
+        """Begins to make an empty cluster."""
+        return subprocess.Popen([str(BIN / "initdb"), "-D", str(self.data), "-A", "trust", "-U", "postgres", "-E", "UTF8", "--locale=C.UTF-8", "-N"],
+                                stdout=subprocess.DEVNULL, cwd=str(self.data.parent), **as_postgres())
+
+    def wait(self, seconds=60):
+        """Waits until it answers."""
+        until = time.monotonic() + seconds
+        while True:
+            try:
+                return psycopg.connect(self.reach, connect_timeout=10).close()
+            except psycopg.Error:
+                if not self.is_up() or time.monotonic() > until:
+                    raise SystemExit(f"{self.name} does not come up: see {self.log}") from None
+                time.sleep(0.05)
+
+    def query(self, statement, values=()):
+        """All rows of a statement."""
+        with psycopg.connect(self.reach, autocommit=True, connect_timeout=10) as c:
+            cursor = c.execute(statement, values or None)
+            return cursor.fetchall() if cursor.description else []
+
+
+class Fleet:
+    """Servers a, b, .. with a controller."""
+
+    def __init__(self, folder, names, shards=12, program=None, options=(), harm=0.0, seed=0, bug=""):
+        self.folder, self.names, self.shards, self.room = pathlib.Path(folder), list(names), [], 1000
+        shutil.rmtree(self.folder, ignore_errors=True)
+        self.folder.mkdir(parents=True)
+        os.chmod(self.folder, 0o777)
+        self.program = program or smpland()
+        ports = free_ports(3 * len(names) + 1)
+        self.page = ports[0]
+        self.posts = {name: Postgres(self.folder, name, ports[1 + n], shards, len(names)) for n, name in enumerate(names)}
+        self.urls = {name: f"http://127.0.0.1:{ports[1 + len(names) + n]}" for n, name in enumerate(names)}
+        program = [str(ROOT / "ports/postgresql/smplan-pg")] if not bug else ["/usr/bin/python3", str(ROOT / "tests/postgresql/wrong.py"), bug]
+        environment = {**os.environ, "PATH": f"{BIN}:{os.environ['PATH']}"}
+        self.agents = {name: Process(name, [*program, "serve", "--dsn", it.reach, "--name", name, "--http", self.urls[name], "--controller",
+                                            f"http://127.0.0.1:{self.page}", *options], self.folder / f"serve-{name}.log", env=environment)
+                       for name, it in self.posts.items()}
+        self.map_file = self.folder / "map.json"
+        shown = {name: f"http://127.0.0.1:{ports[1 + 2 * len(names) + n]}" for n, name in enumerate(names)} if harm else self.urls
+        self.proxied = {name: proxies.start(self.urls[name], int(url.rsplit(":", 1)[1]), harm, f"{seed} {name}") for name, url in shown.items()} if harm else {}
+        fleet = {"servers": {name: {"number": 1 + n, "url": shown[name]} for n, name in enumerate(names)}, "map": {"file": str(self.map_file)}}
+        (self.folder / "fleet.json").write_text(json.dumps(fleet))
+        words = [str(ROOT / "scripts/smplan-control"), "run", str(self.folder / "fleet.json"), "--session", f"{self.program} {self.folder}/journal", "--http",
+                 f"127.0.0.1:{self.page}", "--open", str(self.folder / "service.json")]
+        self.controller = Process("controller", words, self.folder / "controller.log")
+
+    def make(self):
+        """Makes and starts the clusters."""
+        made = [it.make() for it in self.posts.values()]
+        if any(it.wait() for it in made):
+            raise SystemExit("initdb failed")
+        for it in self.posts.values():
+            it.start()
+        for it in self.posts.values():
+            it.wait()
+
+    def open(self, document):
+        """Starts the controller and all servers' sides."""
+        (self.folder / "service.json").write_text(json.dumps(document))
+        self.controller.start()
+        for it in self.agents.values():
+            it.start()
+
+    def kill_controller(self):
+        """Kills the controller with its session."""
+        told = subprocess.run(["ps", "--ppid", str(self.controller.process.pid), "-o", "pid="], capture_output=True, text=True, check=False)
+        self.controller.kill()
+        for it in told.stdout.split():
+            os.kill(int(it), signal.SIGKILL)
+
+    def remake(self, name):
+        """Starts a server with an empty disk."""
+        shutil.rmtree(self.posts[name].data)
+        if self.posts[name].make().wait():
+            raise SystemExit("initdb failed")
+        self.posts[name].start()
+        self.posts[name].wait()
+
+    def answers(self, name):
+        """Whether a server's side answers."""
+        from smplan.control_http import fetch
+        return "base" in fetch(f"{self.urls[name]}/base", timeout=2)
+
+    def command(self, *words, **rest):
+        """Begins a command of an operator."""
+        log = (self.folder / "commands.log").open("a")
+        return subprocess.Popen([str(ROOT / "scripts/smplan-control"), *words, "--controller", f"http://127.0.0.1:{self.page}"], stdout=log, stderr=log, **rest)
+
+    def ask(self, line):
+        """Asks the controller."""
+        from smplan.control_http import fetch
+        return fetch(f"http://127.0.0.1:{self.page}/ask", line)
+
+    def wait_for(self, what, condition, seconds=60.0):
+        """Waits for something; ends the run if it does not come."""
+        until = time.monotonic() + seconds
+        while time.monotonic() < until:
+            try:
+                if condition():
+                    return
+            except (psycopg.Error, OSError, LookupError, ValueError):
+                pass
+            time.sleep(0.05)
+        raise TimeoutError(f"not within {seconds:g} s: {what}")
+
+    def told_stuck(self):
+        """What is not answered, and what servers say of it."""
+        from smplan.control_http import fetch
+        try:
+            return [{it: row[it] for it in ("message", "tries", "said")} for row in fetch(f"http://127.0.0.1:{self.page}/outgoing")][:4]
+        except Exception as why:  # pylint: disable=broad-exception-caught
+            return str(why)
+
+    def close(self):
+        """Stops all."""
+        for it in [self.controller, *self.agents.values()]:
+            it.stop(seconds=5)
+        for it in self.posts.values():
+            it.stop(signal.SIGINT)
+
+
+def smpland():
+    """The program: what $SMPLAND names, else what is built."""
+    choices = [os.environ.get("SMPLAND", ""), f"{ROOT}/build/smpland", f"{ROOT}/build/smpland-unproved"]
+    found = next((it for it in choices if it and os.access(it, os.X_OK)), None)
+    return found or f"{sys.executable} {ROOT}/tools/smpland_model.py"

@@ -1,0 +1,93 @@
+"""Clients that write all the time, by the router; what they are told stands in FOLDER/acknowledged-N.jsonl.
+
+    python3 writers.py FOLDER NUMBER THREADS_PER_SHARD REST_SECONDS     (until FOLDER/stop is there)
+
+One request of fifty is sent again after its acknowledgement, and one of a hundred loses its connection while COMMIT is under way.
+"""
+import json
+import os
+import random
+import sys
+import threading
+import time
+from pathlib import Path
+
+import servers  # (it makes the packages be found)
+import psycopg
+from smplan_pg.router import NotServed, Router
+
+BUG = os.environ.get("PG_BUG", "")
+
+
+class RoughRouter(Router):
+    """A router whose connections end in the middle of a COMMIT, now and then."""
+
+    def commit(self, c):
+        if random.random() >= 0.01:
+            return super().commit(c)
+        self.counts["cut off"] += 1
+        c.pgconn.send_query(b"COMMIT")
+        time.sleep(random.choice([0, 0.0003, 0.001]))
+        c.close()
+        raise psycopg.OperationalError("the connection was cut off in COMMIT")
+
+
+def transfer(request, account, delta):
+    """One request's work: a balance and its history."""
+    def work(cursor):
+        cursor.execute("INSERT INTO history (request, account, delta) VALUES (%s, %s, %s)", (request, account, delta))
+        return cursor.execute("UPDATE accounts SET balance = balance + %s WHERE id = %s RETURNING balance", (delta, account)).fetchone()["balance"]
+    return work
+
+
+class Writer:
+    """One client of one shard."""
+
+    def __init__(self, folder, router, setup, shard, name, rest):
+        self.folder, self.router, self.setup, self.shard, self.name, self.rest = folder, router, setup, shard, name, rest
+
+    def run(self, log):
+        number, dice = 0, random.Random(self.name)
+        while not (self.folder / "stop").exists():
+            number += 1
+            request, account, delta = f"{self.name}-{number}", dice.randrange(1, self.setup["rows"] + 1), dice.randrange(-99, 100)
+            begun = time.time()
+            try:
+                reply = self.router.run(self.shard, request, transfer(request, account, delta))
+            except NotServed:
+                log([self.shard, request, account, delta, "not served", begun, time.time()])
+                continue
+            except psycopg.Error as why:
+                log([self.shard, request, account, delta, f"fault {type(why).__name__} {why}", begun, time.time()])
+                continue
+            log([self.shard, request, account, delta, reply, begun, time.time()])
+            if dice.random() < 0.02:
+                try:
+                    if self.router.run(self.shard, request, transfer(request, account, delta)) != reply:
+                        log([self.shard, request, account, delta, "other reply", begun, time.time()])
+                except NotServed:
+                    pass
+            time.sleep(random.random() * 2 * self.rest)
+
+
+def main(folder, number, threads, rest):
+    setup = json.loads((folder / "setup.json").read_text())
+    routers = [RoughRouter(setup["servers"], setup["map"], patience=60.0) for _ in range(2)]
+    lock, file = threading.Lock(), (folder / f"acknowledged-{number}.jsonl").open("w")
+
+    def log(line):
+        with lock:
+            file.write(json.dumps(line) + "\n")
+
+    all_writers = [Writer(folder, routers[it % 2], setup, shard, f"{shard}-{number}-{it}", rest) for shard in setup["shards"] for it in range(threads)]
+    running = [threading.Thread(target=it.run, args=(log,)) for it in all_writers]
+    for it in running:
+        it.start()
+    for it in running:
+        it.join()
+    file.close()
+    print("writers:", dict(sum((it.counts for it in routers), start=routers[0].counts.__class__())), flush=True)
+
+
+if __name__ == "__main__":
+    main(Path(sys.argv[1]), int(sys.argv[2]), int(sys.argv[3]), float(sys.argv[4]))
