@@ -33,7 +33,7 @@ class Run:
         self.fleet = Fleet(told.folder, names, told.shards, options=["--dead", str(told.dead), *told.option], harm=told.messages, seed=told.seed, bug=told.bug)
         self.harm = Harm(self.fleet, random.Random(f"{told.seed} harm"), self.say)
         self.stopping = threading.Event()
-        self.writers, self.spans = [], {}
+        self.writers, self.spans, self.drained = [], {}, None
 
     def say(self, *words):
         """Tells what happens."""
@@ -112,13 +112,23 @@ class Run:
                 self.harm.replace(name)
                 self.command("repair")
                 loses = 0
-            name = self.dice.choice(self.harm.present())
+            name = self.next_to_drain()
             words = ["drain", name, "--batch", "2", "--pause", "0.2", "--stop", "20"] + (["--prefer-secondary"] if self.dice.random() < self.told.roles else [])
             self.say(*words[:2], *(words[8:]))
             at = time.time()
             status = self.command(*words, seconds=max(5.0, until - time.time() + 10))
             self.say(f"drain of {name} ended with {status}")
             self.spans.setdefault("drains", []).append((at, time.time()))
+
+    def next_to_drain(self):
+        """A server that has something, and was not drained last."""
+        try:
+            state = self.fleet.ask({"do": "state"})["state"]
+            full = {cell["server"] for it in state["shards"] for cell in it["cells"]} & set(self.harm.present())
+        except Exception:  # pylint: disable=broad-exception-caught  (the controller is away)
+            full = set(self.harm.present())
+        self.drained = self.dice.choice(sorted(full - {self.drained}) or sorted(full))
+        return self.drained
 
     def command(self, *words, seconds=60.0):
         """Runs a command of an operator for a while."""

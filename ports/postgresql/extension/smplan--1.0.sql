@@ -25,14 +25,18 @@ CREATE TABLE sm.slots (
   cut bigint NOT NULL, has_cut int NOT NULL,
   source int, is_whole bool NOT NULL DEFAULT false, sealed pg_lsn, sealed_view bigint, sealed_position bigint);
 
--- The copies that this server makes: what they have left behind is its own to delete.
-CREATE TABLE sm.copying (shard text PRIMARY KEY, source int NOT NULL, since timestamptz NOT NULL DEFAULT now());
+-- The copies that this server makes: what they have left behind is its own to delete. An old copy stands beside, under the name `kept`, until the new
+-- one is whole.
+CREATE TABLE sm.copying (shard text PRIMARY KEY, source int NOT NULL, since timestamptz NOT NULL DEFAULT now(), kept text);
 
 -- The copies that others make from here; they tell every second that they go on.
 CREATE TABLE sm.copied (shard text, server int, since timestamptz NOT NULL DEFAULT now(), seen timestamptz NOT NULL DEFAULT now(), PRIMARY KEY (shard, server));
 
 -- Data that was set aside, and not deleted: `smplan-pg drop --aside` deletes it.
 CREATE TABLE sm.asides (schema text PRIMARY KEY, shard text NOT NULL, since timestamptz NOT NULL DEFAULT now(), why text NOT NULL);
+
+-- The changes of shards' schemas that were made here by `smplan-pg ddl`.
+CREATE TABLE sm.changes (shard text, name text, at timestamptz NOT NULL DEFAULT now(), PRIMARY KEY (shard, name));
 
 -- The name of a shard's publication, and with a server's number that of the stream by which the server follows it.
 CREATE FUNCTION sm.stream(in_shard text, server int DEFAULT NULL) RETURNS text LANGUAGE sql IMMUTABLE PARALLEL SAFE AS $$
@@ -310,10 +314,10 @@ BEGIN
   END LOOP;
 END $$;
 
--- ---- no change of a schema that moves
+-- ---- no change of a schema that moves, or has followers, which would not get it
 
 CREATE FUNCTION sm.refuse_ddl(in_schema text) RETURNS void LANGUAGE plpgsql AS $$
-DECLARE begun timestamptz; moves bool;
+DECLARE begun timestamptz; moves bool; followed bool := false;
 BEGIN
   IF current_setting('sm.own', true) = 'on' OR in_schema IS NULL THEN RETURN; END IF;
   moves := EXISTS (SELECT FROM sm.slots WHERE shard = in_schema AND (cell IN (2, 5) OR at_work <> 0));
@@ -322,6 +326,11 @@ BEGIN
   IF moves OR begun IS NOT NULL THEN
     RAISE 'shard % moves%: its schema can''t be changed now', in_schema, coalesce(format(', for %s s so far', round(extract(epoch FROM clock_timestamp() - begun))), '')
       USING ERRCODE = '55006', HINT = 'Try again once it has moved: a copy takes about as long as pg_dump and restore of the schema.';
+  END IF;
+  IF NOT sm.is_adopted(in_schema) THEN RETURN; END IF;
+  EXECUTE format('SELECT EXISTS (SELECT FROM %I.sm_members)', in_schema) INTO followed;
+  IF followed OR EXISTS (SELECT FROM sm.slots WHERE shard = in_schema AND cell = 3) THEN
+    RAISE 'shard % has replicas at several servers: its schema is changed at all of them', in_schema USING ERRCODE = '55006', HINT = 'Use smplan-pg ddl.';
   END IF;
 END $$;
 

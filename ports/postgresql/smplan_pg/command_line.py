@@ -12,6 +12,7 @@ from smplan.failure import Failure
 
 from .adopt import adopt, install, load_of, refuse_server
 from .database import Database
+from .ddl import change
 from .server import Limits, Server
 from .status import drop, settings, status
 
@@ -52,6 +53,12 @@ def run_drop(told: argparse.Namespace) -> int:
     return drop(Database(told.dsn), told.schema, told.aside, told.all)
 
 
+def run_ddl(told: argparse.Namespace) -> int:
+    """Changes a shard's schema at all its replicas."""
+    print(f"{told.schema} is changed at {', '.join(change(Database(told.dsn), told.schema, told.name, told.file, told.wait))}")
+    return 0
+
+
 def run_settings(told: argparse.Namespace) -> int:
     """Prints what postgresql.conf needs."""
     print(settings(told.shards, told.servers))
@@ -87,6 +94,13 @@ def parser_of() -> argparse.ArgumentParser:
     it.add_argument("--dsn", required=True, help=DSN)
     it.add_argument("--json", action="store_true")
     it.set_defaults(run=run_status)
+    it = subparsers.add_parser("ddl", help="changes a shard's schema at its primary, which --dsn names, and at all that follow it; requests wait meanwhile")
+    it.add_argument("schema")
+    it.add_argument("file", help="statements that change the schema and no rows, with names as in the schema")
+    it.add_argument("--name", required=True, help="the change's name: under it what was made is not made again")
+    it.add_argument("--dsn", required=True, help=DSN)
+    it.add_argument("--wait", type=float, default=30.0, metavar="SECONDS", help="for requests that run (30)")
+    it.set_defaults(run=run_ddl)
     it = subparsers.add_parser("drop", help="makes a shard a plain schema again, or deletes what was set aside")
     it.add_argument("schema", nargs="*")
     it.add_argument("--dsn", required=True, help=DSN)

@@ -19,6 +19,9 @@ if TYPE_CHECKING:
 
 Still = Callable[[], bool]
 
+# Why a copy is set aside whose place another one has taken: it is deleted by itself.
+REPLACED = "a whole copy has taken its place"
+
 
 class GivenUp(Exception):
     """Whoever wanted a copy wants it no more."""
@@ -78,8 +81,13 @@ class Copies:
             is_replica = it.slot(shard).cell in (Cell.SECONDARY, Cell.PREPARED) and it.is_adopted(shard)
             if not is_own and not is_replica and has_schema(tx, shard):
                 raise Stuck(f"there is a schema {shard} that is no copy: rename it, or `smplan-pg drop` it")
-            remove(tx, shard, self.server.number)
-            tx.execute("INSERT INTO sm.copying (shard, source) VALUES (%s, %s)", (shard, number))
+            kept = it.kept(shard)
+            if kept is None and is_replica and it.is_whole(shard):
+                kept = keep(tx, shard, self.server.number)
+            delete(tx, shard, self.server.number)
+            tx.execute("INSERT INTO sm.copying (shard, source, kept) VALUES (%s, %s, %s) ON CONFLICT (shard) DO UPDATE "
+                       "SET source = excluded.source, since = now(), kept = excluded.kept", (shard, number, kept))
+            it.put_source(shard, number, False)
         streams.drop_streams(self.server.database, shard)
 
     def copy_schema(self, there: Database, shard: str) -> None:
@@ -113,6 +121,24 @@ class Copies:
             check(still)
             time.sleep(0.01)
 
+    def end(self, tx: Connection, shard: str) -> None:
+        """The copy is whole: nobody needs the old one."""
+        kept = value(tx.execute("DELETE FROM sm.copying WHERE shard = %s RETURNING kept", (shard,)).fetchone())
+        if kept is not None:
+            tx.execute("INSERT INTO sm.asides (schema, shard, why) VALUES (%s, %s, %s)", (kept, shard, REPLACED))
+
+    def put_back(self, tx: Connection, shard: str) -> bool:
+        """Puts an old copy back in place of one that is not whole and will not be. Whether there was one. The subscription is halted before."""
+        kept = Records(tx).kept(shard)
+        if kept is None:
+            return False
+        delete(tx, shard, self.server.number)
+        tx.execute("DELETE FROM sm.copying WHERE shard = %s", (shard,))
+        tx.execute(said("ALTER SCHEMA {} RENAME TO {}", kept, shard))
+        tx.execute(said("CREATE PUBLICATION {} FOR TABLES IN SCHEMA {} WITH (publish = '')", streams.name_of(tx, shard), shard))
+        Records(tx).put_source(shard, None, True)
+        return True
+
     def is_copying(self, tx: Connection, shard: str) -> bool:
         """Whether what is here of a shard is a copy that is not whole."""
         return value(tx.execute("SELECT EXISTS (SELECT FROM sm.copying WHERE shard = %s)", (shard,)).fetchone())
@@ -128,26 +154,38 @@ def has_schema(tx: Connection, shard: str) -> bool:
     return tx.execute("SELECT FROM pg_namespace WHERE nspname = %s", (shard,)).fetchone() is not None
 
 
-def remove(tx: Connection, shard: str, number: int) -> None:
-    """Deletes a shard's data, publication and subscription, and what stands beside its slot."""
+def keep(tx: Connection, shard: str, number: int) -> str:
+    """Renames an old copy, which then stands beside the new one."""
+    streams.drop_subscription(tx, streams.name_of(tx, shard, number))
+    tx.execute(said("DROP PUBLICATION IF EXISTS {}", streams.name_of(tx, shard)))
+    kept = value(tx.execute("SELECT 'sm_aside_' || to_char(clock_timestamp(), 'YYYYMMDDHH24MISSUS_') || left(md5(%s), 8)", (shard,)).fetchone())
+    tx.execute(said("ALTER SCHEMA {} RENAME TO {}", shard, kept))
+    return kept
+
+
+def delete(tx: Connection, shard: str, number: int) -> None:
+    """Deletes a shard's data, publication and subscription."""
     streams.drop_subscription(tx, streams.name_of(tx, shard, number))
     tx.execute(said("DROP PUBLICATION IF EXISTS {}", streams.name_of(tx, shard)))
     tx.execute(said("DROP SCHEMA IF EXISTS {} CASCADE", shard))
+
+
+def remove(tx: Connection, shard: str, number: int) -> None:
+    """Deletes a shard's data, publication and subscription, and what stands beside its slot."""
+    delete(tx, shard, number)
     forget_copy(tx, shard)
 
 
 def set_aside(tx: Connection, shard: str, number: int, why: str) -> None:
     """Renames a shard's schema, which waits for nobody who reads it, and keeps it until somebody deletes it."""
-    streams.drop_subscription(tx, streams.name_of(tx, shard, number))
-    tx.execute(said("DROP PUBLICATION IF EXISTS {}", streams.name_of(tx, shard)))
     if has_schema(tx, shard):
-        aside = value(tx.execute("SELECT 'sm_aside_' || to_char(now(), 'YYYYMMDDHH24MISS_') || left(md5(%s), 8)", (shard,)).fetchone())
-        tx.execute(said("ALTER SCHEMA {} RENAME TO {}", shard, aside))
-        tx.execute("INSERT INTO sm.asides (schema, shard, why) VALUES (%s, %s, %s)", (aside, shard, why))
+        tx.execute("INSERT INTO sm.asides (schema, shard, why) VALUES (%s, %s, %s)", (keep(tx, shard, number), shard, why))
     forget_copy(tx, shard)
 
 
 def forget_copy(tx: Connection, shard: str) -> None:
     """Deletes what is kept of a copy that is gone."""
-    tx.execute("DELETE FROM sm.copying WHERE shard = %s", (shard,))
+    kept = value(tx.execute("DELETE FROM sm.copying WHERE shard = %s RETURNING kept", (shard,)).fetchone())
+    if kept is not None:
+        tx.execute("INSERT INTO sm.asides (schema, shard, why) VALUES (%s, %s, 'a copy of before, beside one that came to nothing') ON CONFLICT DO NOTHING", (kept, shard))
     tx.execute("UPDATE sm.slots SET source = NULL, is_whole = false, sealed = NULL, sealed_view = NULL, sealed_position = NULL WHERE shard = %s", (shard,))

@@ -120,7 +120,10 @@ class Following:
         told = self.state(shard)
         if not told.base.known or told.slot.at_work:
             return
-        if told.slot.cell == Cell.ABSENT and told.is_leftover:
+        if told.base.fenced:
+            if told.is_leftover and told.slot.cell == Cell.SECONDARY:
+                self.put_back(shard)
+        elif told.slot.cell == Cell.ABSENT and told.is_leftover:
             self.clear(shard)
         elif told.slot.cell == Cell.PREPARED and not told.slot.has_cut:
             self.prepare(shard, told)
@@ -137,6 +140,16 @@ class Following:
             if it.base("FOR SHARE").known and it.slot(shard).cell == Cell.ABSENT and not it.slot(shard).at_work:
                 remove(tx, shard, self.server.number)
         streams.drop_streams(self.server.database, shard)
+
+    def put_back(self, shard: str) -> None:
+        """Puts an old copy back: a copy that was begun comes to nothing by the reopening."""
+        with self.server.database.connection() as c:
+            mine = streams.name_of(c, shard, self.server.number)
+        streams.halt(self.server.database, mine)
+        with self.server.database.transaction() as tx:
+            it = Records(tx)
+            if it.base("FOR SHARE").fenced and it.slot(shard).cell == Cell.SECONDARY:
+                self.server.copies.put_back(tx, shard)
 
     # -- a new owner
 
@@ -289,14 +302,12 @@ class Following:
             live.said = words
 
         self.server.say("copies", shard, "anew from", self.server.names[source])
-        with self.server.database.transaction() as tx:
-            Records(tx).put_source(shard, source, False)
         self.server.copies.make(shard, source, still, tell)
         with self.server.database.transaction() as tx:
             it = Records(tx)
             if it.base("FOR SHARE") != told.base or it.slot(shard) != told.slot:
                 return
-            tx.execute("DELETE FROM sm.copying WHERE shard = %s", (shard,))
+            self.server.copies.end(tx, shard)
             it.put_source(shard, source, True)
         if told.slot.cell == Cell.SECONDARY:
             self.server.peer(source).row("SELECT sm.join(%s, %s)", shard, self.server.number)

@@ -8,6 +8,7 @@ import psycopg
 from smplan.agent import Cell
 
 from . import streams
+from .copies import REPLACED
 from .records import Records
 from .streams import Stuck, said
 
@@ -66,9 +67,14 @@ class Keeping:
             pass  # (it reads again: it will not be a member, and joins)
 
     def tidy(self) -> None:
-        """Forgets identities that are old enough, and guards tables that have come to a shard."""
+        """Forgets identities that are old enough, guards tables that have come to a shard, and deletes copies that were replaced."""
         with self.server.database.transaction() as tx:
             served = [shard for shard, slot in Records(tx).slots().items() if slot.cell == Cell.PRIMARY]
         for shard in served:
             self.server.database.row("SELECT sm.forget_requests(%s, make_interval(secs => %s))", shard, self.server.limits.keeping)
             self.server.database.row("SELECT sm.guard_tables(%s)", shard)
+        for row in self.server.database.rows("SELECT schema FROM sm.asides WHERE why = %s", REPLACED):
+            with self.server.database.transaction() as tx:
+                tx.execute("SET LOCAL lock_timeout = '1s'")
+                tx.execute(said("DROP SCHEMA IF EXISTS {} CASCADE", row["schema"]))
+                tx.execute("DELETE FROM sm.asides WHERE schema = %s", (row["schema"],))

@@ -145,7 +145,7 @@ class Orders:
                 raise Ended("it is thrown away")
             it.put_slot(shard, after)
             it.put_source(shard, source, True)
-            tx.execute("DELETE FROM sm.copying WHERE shard = %s", (shard,))
+            self.server.copies.end(tx, shard)
 
     # -- the other calls begin and commit in one transaction, so that nobody ever sees them at work
 

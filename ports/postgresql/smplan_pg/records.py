@@ -119,9 +119,16 @@ class Records:
         assert row is not None
         return Mark(row["view"], row["position"])
 
+    def kept(self, shard: str) -> Optional[str]:
+        """The schema of an old copy that stands beside one that is made anew."""
+        return value(self.tx.execute("SELECT kept FROM sm.copying WHERE shard = %s", (shard,)).fetchone())
+
     def told_position(self, shard: str) -> int:
-        """The position as it is told: 0 of what is no whole copy."""
-        return self.mark(shard).position if self.is_whole(shard) else 0
+        """The position as it is told when all work is given up: that of the copy that is whole then."""
+        if self.is_whole(shard):
+            return self.mark(shard).position
+        kept = self.kept(shard)
+        return self.mark(kept).position if kept is not None else 0
 
     def cut(self, shard: str) -> Optional[Cut]:
         """The cut that has come to this copy."""

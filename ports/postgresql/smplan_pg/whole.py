@@ -112,7 +112,7 @@ class Whole:
             if it.base().known:
                 return ""
             served = [told["shard"] for told in line["slots"] if told["cell"] in ("primary", "forwarding")]
-            return ", ".join(shard for shard in served if not it.is_adopted(shard) or self.server.copies.is_copying(tx, shard))
+            return ", ".join(shard for shard in served if it.kept(shard) is None and (not it.is_adopted(shard) or self.server.copies.is_copying(tx, shard)))
 
     def take(self, line: Line) -> Answer:
         """Takes a settle or a restore as a whole: each slot that it does not bring is absent afterwards, and has no data."""
@@ -177,6 +177,7 @@ class Whole:
                 tx.execute("SET LOCAL lock_timeout = '3s'")
                 remove(tx, shard, self.server.number)
         elif after.cell == Cell.PRIMARY and before.cell != Cell.PRIMARY:
+            self.server.copies.put_back(tx, shard)
             self.begin_view(tx, shard, view, {})
         elif after.cell == Cell.SECONDARY and before.cell in (Cell.PRIMARY, *IN_HANDOVER):
             streams.publish(tx, shard, "")
@@ -199,7 +200,7 @@ class Whole:
         it.count(shard)
         it.put_seal(shard, place, mark)
         it.put_source(shard, None, True)
-        tx.execute("DELETE FROM sm.copying WHERE shard = %s", (shard,))
+        self.server.copies.end(tx, shard)
 
     # -- notices, and the base
 
