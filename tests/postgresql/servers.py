@@ -171,12 +171,13 @@ class Fleet:
 
     def wait_for(self, what, condition, seconds=60.0):
         """Waits for something; ends the run if it does not come."""
+        from smplan.failure import Failure
         until = time.monotonic() + seconds
         while time.monotonic() < until:
             try:
                 if condition():
                     return
-            except (psycopg.Error, OSError, LookupError, ValueError):
+            except (psycopg.Error, OSError, LookupError, ValueError, Failure):
                 pass
             time.sleep(0.05)
         raise TimeoutError(f"not within {seconds:g} s: {what}")

@@ -4,6 +4,7 @@
 """
 import argparse
 import dataclasses
+import os
 import subprocess
 import sys
 import tempfile
@@ -128,6 +129,7 @@ def try_bug(name, seed, seconds):
     found = {}
     for bug in (name, ""):
         with tempfile.TemporaryDirectory(prefix="pg-wrong-", dir="/dev/shm") as folder:
+            os.chmod(folder, 0o711)
             told = subprocess.run([*words[:2], folder + "/run", *words[3:], "--bug", bug], capture_output=True, text=True, check=False)
         lines = told.stdout.strip().splitlines()
         at = next((n for n, it in enumerate(lines) if it.startswith("verdict")), None)

@@ -4,7 +4,7 @@ from __future__ import annotations
 import select
 import time
 from dataclasses import dataclass
-from typing import TYPE_CHECKING, Any, Dict, Optional
+from typing import TYPE_CHECKING, Dict, Optional
 
 import psycopg
 from smplan import agent
@@ -12,8 +12,9 @@ from smplan.agent import Base, Cell, Slot
 
 from . import streams
 from .copies import GivenUp, remove
-from .database import unsigned, value
+from .database import value
 from .records import Cut, Mark, Records
+from .sources import is_of, serves
 from .streams import Stuck
 
 if TYPE_CHECKING:
@@ -203,7 +204,7 @@ class Following:
                 return
         if told.source is not None and told.is_whole and self.is_served(shard, told):
             return
-        primary = self.primary_of(shard, told.base)
+        primary = self.server.sources.primary_of(shard, told.base)
         if primary is None or (told.is_whole and self.join(shard, primary)):
             return
         if told.slot.cell == Cell.SECONDARY:
@@ -221,17 +222,11 @@ class Following:
                 return False
         return False
 
-    def offer(self, number: int, shard: str) -> Dict[str, Any]:
-        """What another server says of a shard to this one."""
-        row = self.server.peer(number).row("SELECT * FROM sm.offers(%s, %s)", shard, self.server.number)
-        assert row is not None
-        return row
-
     def is_served(self, shard: str, told: State) -> bool:
         """Whether the source still sends this server what it lacks. If it serves, this server counts there."""
         assert told.source is not None
         try:
-            it = self.offer(told.source, shard)
+            it = self.server.sources.offer(told.source, shard)
         except (Stuck, OSError, psycopg.Error):
             return False
         if not it["has_stream"] or not is_of(it, told.base):
@@ -251,21 +246,10 @@ class Following:
         enabled = "SELECT EXISTS (SELECT FROM pg_subscription WHERE subname = sm.stream(%s, %s) AND subenabled)"
         return bool(value(self.server.database.row(enabled, shard, self.server.number)))
 
-    def primary_of(self, shard: str, base: Base) -> Optional[int]:
-        """The server that serves a shard and was settled with this one."""
-        for number in self.server.others():
-            try:
-                it = self.offer(number, shard)
-            except (Stuck, OSError, psycopg.Error):
-                continue
-            if it["cell"] == Cell.PRIMARY and is_of(it, base) and not it["fenced"]:
-                return number
-        return None
-
     def join(self, shard: str, owner: int) -> bool:
         """Follows another server from the place on where its own writes began, if the copy here is the same as its was there. Whether it does."""
-        it = self.offer(owner, shard)
-        if not serves(it) or not it["is_joinable"] or self.mark_at(self.server.number, shard) != Mark(it["view"], it["position"]):
+        it = self.server.sources.offer(owner, shard)
+        if not serves(it) or not it["is_joinable"] or self.server.sources.mark_at(self.server.number, shard) != Mark(it["view"], it["position"]):
             return False
         database = self.server.database
         with database.connection() as c:
@@ -275,7 +259,7 @@ class Following:
             slot = Records(tx).slot(shard)
             if slot.cell not in (Cell.SECONDARY, Cell.FORWARDING) or Records(tx).mark(shard) != Mark(it["view"], it["position"]):
                 return False
-        it = self.offer(owner, shard)
+        it = self.server.sources.offer(owner, shard)
         if not serves(it) or not it["is_joinable"]:
             return False
         streams.follow_behind(database, mine, publication, self.server.peers[owner].reach or "", it["place"])
@@ -312,23 +296,6 @@ class Following:
         if told.slot.cell == Cell.SECONDARY:
             self.server.peer(source).row("SELECT sm.join(%s, %s)", shard, self.server.number)
 
-    def mark_at(self, number: int, shard: str) -> Mark:
-        """What a server has of a shard; of what is not whole nothing."""
-        database = self.server.database if number == self.server.number else self.server.peer(number)
-        row = database.row("SELECT sm.view(%s) AS view, sm.position(%s) AS position, "
-                           "coalesce((SELECT is_whole FROM sm.slots WHERE shard = %s), false) AS is_whole", shard, shard, shard)
-        assert row is not None
-        return Mark(row["view"], row["position"]) if row["is_whole"] else Mark()
-
-
-def is_of(offer: Dict[str, Any], base: Base) -> bool:
-    """Whether who offers was settled at the same reopening, or restored behind it."""
-    return bool(offer["known"]) and unsigned(offer["journal"]) == base.journal
-
-
-def serves(offer: Dict[str, Any]) -> bool:
-    """Whether who offers executes requests, be it only those that are passed on."""
-    return offer["cell"] == Cell.PRIMARY or (offer["cell"] == Cell.PREPARED and bool(offer["has_cut"]))
 
 
 def quoted(name: str) -> str:

@@ -249,8 +249,8 @@ class Orders:
             if not value(self.server.peer(primary).row("SELECT sm.leave(%s, %s)", shard, self.server.number)):
                 raise Stuck(f"{line['primary']} gives no leave")
         elif others and slot.cell != Cell.PREPARED:
-            mine = self.server.following.mark_at(self.server.number, shard)
-            if all(self.server.following.mark_at(it, shard) < mine for it in others):
+            mine = self.server.sources.mark_at(self.server.number, shard)
+            if all(self.server.sources.mark_at(it, shard) < mine for it in others):
                 raise Stuck("nobody else has all that is here")
 
     def wait_for_followers(self, shard: str, seconds: float = 10.0) -> None:
@@ -263,9 +263,9 @@ class Orders:
 
     def compare(self, shard: str, others: List[int]) -> None:
         """A secondary that becomes primary waits until it has what each other replica has."""
-        mine = self.server.following.mark_at(self.server.number, shard)
+        mine = self.server.sources.mark_at(self.server.number, shard)
         for it in others:
-            if self.server.following.mark_at(it, shard) > mine:
+            if self.server.sources.mark_at(it, shard) > mine:
                 raise Stuck(f"{self.server.names[it]} has more")
 
 

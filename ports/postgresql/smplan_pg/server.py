@@ -19,6 +19,7 @@ from .following import Following
 from .keeping import Keeping
 from .orders import Orders
 from .records import Peer, Records
+from .sources import Sources
 from .streams import Stuck
 from .whole import Whole
 
@@ -65,7 +66,7 @@ class Server:
         self.peers: Dict[int, Peer] = {}
         self.databases: Dict[str, Database] = {}
         self.number = 0
-        self.copies, self.orders, self.following = Copies(self), Orders(self), Following(self)
+        self.sources, self.copies, self.orders, self.following = Sources(self), Copies(self), Orders(self), Following(self)
         self.keeping, self.whole = Keeping(self), Whole(self)
         routes: Dict[str, Callable[[Line], Line]] = {
             "/order": self.orders.take, "/fence": self.whole.fence, "/settle": self.whole.settle, "/restore": self.whole.restore,

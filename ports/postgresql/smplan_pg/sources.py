@@ -1,0 +1,56 @@
+"""What other servers have of a shard, and which of them serves it."""
+from __future__ import annotations
+
+from typing import TYPE_CHECKING, Any, Dict, Optional
+
+import psycopg
+from smplan.agent import Base, Cell
+
+from .database import unsigned
+from .records import Mark
+from .streams import Stuck
+
+if TYPE_CHECKING:
+    from .server import Server
+
+
+class Sources:
+    """The other servers, as sources of a shard."""
+
+    def __init__(self, server: "Server") -> None:
+        self.server = server
+
+    def offer(self, number: int, shard: str) -> Dict[str, Any]:
+        """What another server says of a shard to this one."""
+        row = self.server.peer(number).row("SELECT * FROM sm.offers(%s, %s)", shard, self.server.number)
+        assert row is not None
+        return row
+
+    def primary_of(self, shard: str, base: Base) -> Optional[int]:
+        """The server that serves a shard and was settled with this one."""
+        for number in self.server.others():
+            try:
+                it = self.offer(number, shard)
+            except (Stuck, OSError, psycopg.Error):
+                continue
+            if it["cell"] == Cell.PRIMARY and is_of(it, base) and not it["fenced"]:
+                return number
+        return None
+
+    def mark_at(self, number: int, shard: str) -> Mark:
+        """What a server has of a shard; of what is not whole nothing."""
+        database = self.server.database if number == self.server.number else self.server.peer(number)
+        row = database.row("SELECT sm.view(%s) AS view, sm.position(%s) AS position, "
+                           "coalesce((SELECT is_whole FROM sm.slots WHERE shard = %s), false) AS is_whole", shard, shard, shard)
+        assert row is not None
+        return Mark(row["view"], row["position"]) if row["is_whole"] else Mark()
+
+
+def is_of(offer: Dict[str, Any], base: Base) -> bool:
+    """Whether who offers was settled at the same reopening, or restored behind it."""
+    return bool(offer["known"]) and unsigned(offer["journal"]) == base.journal
+
+
+def serves(offer: Dict[str, Any]) -> bool:
+    """Whether who offers executes requests, be it only those that are passed on."""
+    return offer["cell"] == Cell.PRIMARY or (offer["cell"] == Cell.PREPARED and bool(offer["has_cut"]))

@@ -1,0 +1,376 @@
+"""One PostgreSQL server: what may be adopted, the guard, requests and their identities, positions, changes of a schema, and what is refused."""
+import itertools
+import os
+import shutil
+import tempfile
+import threading
+import time
+import unittest
+from pathlib import Path
+
+import servers  # (it makes the packages be found)
+import psycopg
+from smplan import agent
+from smplan.agent import Base, Cell, Request, Slot
+from smplan.failure import Failure
+from smplan_pg import adopt, status
+from smplan_pg.database import Database, signed, unsigned, value
+from smplan_pg.records import Cut, Mark, Records
+
+TABLES = "CREATE SCHEMA {0}; CREATE TABLE {0}.things (id bigserial PRIMARY KEY, word text)"
+VECTORS = Path(servers.ROOT) / "build/agent-vectors.txt"
+
+
+def setUpModule():
+    """One server for all."""
+    global FOLDER, POST, DATABASE
+    FOLDER = Path(tempfile.mkdtemp(prefix="pg-test-", dir="/dev/shm"))
+    os.chmod(FOLDER, 0o777)
+    POST = servers.Postgres(FOLDER, "a", servers.free_ports(1)[0], 20, 3)
+    if POST.make().wait():
+        raise SystemExit("initdb failed")
+    POST.start()
+    POST.wait()
+    DATABASE = Database(POST.reach)
+
+
+def tearDownModule():
+    for it in DATABASE.idle:
+        it.close()
+    POST.kill()
+    shutil.rmtree(FOLDER)
+
+
+def serve(shard, cell=Cell.PRIMARY, **rest):
+    """Makes this server number 1, with a slot."""
+    with DATABASE.transaction() as tx:
+        it = Records(tx)
+        tx.execute("UPDATE sm.state SET me = 1, name = 'a'")
+        it.put_base(Base(journal=9, number=0, known=1), 0)
+        it.put_slot(shard, Slot(cell=cell, load=1, **rest))
+        it.put_source(shard, None, True)
+
+
+class Case(unittest.TestCase):
+    """A test with a shard of its own."""
+
+    count = itertools.count()
+
+    def setUp(self):
+        self.shard = f"it{next(Case.count)}"
+        POST.query(TABLES.format(self.shard))
+        self.clients = []
+
+    def tearDown(self):
+        for it in self.clients:
+            it.close()
+
+    def client(self):
+        self.clients.append(psycopg.connect(POST.reach, autocommit=True, row_factory=psycopg.rows.dict_row))
+        return self.clients[-1]
+
+    def adopt(self, **slot):
+        adopt.adopt(DATABASE, [self.shard])
+        if slot:
+            serve(self.shard, **slot)
+
+    def enter(self, c, request, *passed):
+        return c.execute(f"SELECT * FROM sm.enter(%s, %s{', %s' * len(passed)})", (self.shard, request, *passed)).fetchone()
+
+
+class AdoptTest(Case):
+    """What can't be moved is named with its remedy, and nothing is changed."""
+
+    def faults(self, statement):
+        POST.query(statement.format(self.shard))
+        with self.assertRaises(Failure) as told:
+            self.adopt()
+        self.assertFalse(DATABASE.row("SELECT sm.is_adopted(%s) AS it", self.shard)["it"])
+        self.assertIn("Nothing was changed", str(told.exception))
+        return str(told.exception)
+
+    def test_each_thing_that_stays_behind(self):
+        with DATABASE.transaction() as tx:
+            adopt.install(tx)
+        for statement, words in (
+                ("CREATE TABLE {0}.bare (n int)", ("bare has no primary key", "ADD PRIMARY KEY")),
+                ("CREATE TABLE {0}.nobody (n int PRIMARY KEY); ALTER TABLE {0}.nobody REPLICA IDENTITY NOTHING", ("nobody has no replica identity",)),
+                ("CREATE UNLOGGED TABLE {0}.fast (n int PRIMARY KEY)", ("fast is unlogged", "SET LOGGED")),
+                ("CREATE TABLE {0}.large (n int PRIMARY KEY, o oid)", ("large.o may name large objects", "bytea")),
+                ("CREATE TABLE public.{0}_far (n int PRIMARY KEY); CREATE TABLE {0}.near (n int PRIMARY KEY REFERENCES public.{0}_far)", ("leaves the schema",)),
+                ("CREATE TABLE public.{0}_top (n int PRIMARY KEY); CREATE TABLE {0}.below (PRIMARY KEY (n)) INHERITS (public.{0}_top)", ("inherits across",)),
+                ("CREATE MATERIALIZED VIEW {0}.seen AS SELECT 1 AS n", ("materialized view",)),
+                ("CREATE TRIGGER twice BEFORE UPDATE ON {0}.things FOR EACH ROW EXECUTE FUNCTION suppress_redundant_updates_trigger(); "
+                 "ALTER TABLE {0}.things ENABLE ALWAYS TRIGGER twice", ("fires for what replication brings",)),
+                ("CREATE PUBLICATION mine_{0} FOR TABLE {0}.things", ("stays behind", "drop it"))):
+            with self.subTest(statement):
+                told = self.faults(statement)
+                for it in words:
+                    self.assertIn(it, told)
+            POST.query(f"DROP SCHEMA {self.shard} CASCADE")
+            self.setUp()
+
+    def test_a_schema_that_is_not_there_or_has_a_long_name(self):
+        with self.assertRaisesRegex(Failure, "there is no schema nowhere"):
+            adopt.adopt(DATABASE, ["nowhere"])
+        POST.query(TABLES.format("a" * 33))
+        with self.assertRaisesRegex(Failure, "more than 32 bytes"):
+            adopt.adopt(DATABASE, ["a" * 33])
+
+    def test_adopted_twice_and_dropped(self):
+        self.assertEqual(adopt.adopt(DATABASE, [self.shard]), [self.shard])
+        self.assertEqual(adopt.adopt(DATABASE, [self.shard]), [])
+        status.drop(DATABASE, [self.shard], False, False)
+        POST.query(f"INSERT INTO {self.shard}.things (word) VALUES ('plain again')")
+        self.assertEqual(POST.query("SELECT count(*) FROM pg_publication_namespace JOIN pg_namespace n ON n.oid = pnnspid WHERE nspname = %s", (self.shard,)), [(0,)])
+        with self.assertRaisesRegex(Failure, "is no shard"):
+            status.drop(DATABASE, [self.shard], False, False)
+
+    def test_what_is_served_is_not_dropped(self):
+        self.adopt(cell=Cell.PRIMARY)
+        with self.assertRaisesRegex(Failure, "is served or followed here"):
+            status.drop(DATABASE, [self.shard], False, False)
+
+
+class RequestTest(Case):
+    """The guard, identities and counters."""
+
+    def setUp(self):
+        super().setUp()
+        self.adopt(cell=Cell.PRIMARY)
+
+    def test_executed_once(self):
+        c = self.client()
+        for answer, reply in ((12, None), (11, "7")):
+            with c.transaction():
+                told = self.enter(c, "r1")
+                self.assertEqual((told["answer"], told["reply"]), (answer, reply))
+                if answer == 12:
+                    c.execute("INSERT INTO things (word) VALUES ('x')")
+                    c.execute("SELECT sm.reply(%s, 'r1', '7')", (self.shard,))
+        self.assertEqual(value(c.execute("SELECT sm.position(%s)", (self.shard,)).fetchone()), 1)
+        self.assertTrue(value(c.execute("SELECT sm.acknowledged(%s)", (self.shard,)).fetchone()))
+
+    def test_what_is_rolled_back_was_not_executed(self):
+        c = self.client()
+        with c.transaction(force_rollback=True):
+            self.assertEqual(self.enter(c, "r1")["answer"], 12)
+        with c.transaction():
+            self.assertEqual(self.enter(c, "r1")["answer"], 12)
+
+    def test_two_at_once_with_one_identity(self):
+        one, other, told = self.client(), self.client(), []
+        one.execute("BEGIN")
+        self.assertEqual(self.enter(one, "r1")["answer"], 12)
+        waiting = threading.Thread(target=lambda: told.append(self.enter(other, "r1")["answer"]))
+        waiting.start()
+        time.sleep(0.1)
+        self.assertEqual(told, [])
+        one.execute("COMMIT")
+        waiting.join()
+        self.assertEqual(told, [11])
+
+    def test_writers_do_not_queue(self):
+        clients = [self.client() for _ in range(20)]
+        for n, c in enumerate(clients):
+            c.execute("BEGIN; SET LOCAL lock_timeout = '1s'")
+            self.assertEqual(self.enter(c, f"r{n}")["answer"], 12)
+        for c in clients:
+            c.execute("COMMIT")
+        self.assertEqual(value(DATABASE.row("SELECT sm.position(%s)", self.shard)), 20)
+
+    def test_a_read_leaves_no_identity_and_writes_nothing_unguarded(self):
+        c = self.client()
+        with c.transaction():
+            self.assertEqual(self.enter(c, None)["answer"], 12)
+            self.assertEqual(c.execute("SELECT count(*) AS n FROM things").fetchone()["n"], 0)
+        self.assertEqual(POST.query(f"SELECT count(*) FROM {self.shard}.sm_requests"), [(0,)])
+
+    def test_an_older_snapshot_is_refused(self):
+        c = self.client()
+        with self.assertRaisesRegex(psycopg.Error, "read committed"), c.transaction():
+            c.execute("SET TRANSACTION ISOLATION LEVEL REPEATABLE READ")
+            self.enter(c, "r1")
+
+    def test_plain_statements_only_where_it_is_served(self):
+        c = self.client()
+        c.execute(f"INSERT INTO {self.shard}.things (word) VALUES ('x')")
+        self.assertEqual(value(DATABASE.row("SELECT sm.position(%s)", self.shard)), 1)
+        for cell in (Cell.ABSENT, Cell.PREPARED, Cell.SECONDARY, Cell.FORWARDING):
+            serve(self.shard, cell)
+            for statement in ("INSERT INTO {0}.things (word) VALUES ('y')", "UPDATE {0}.things SET word = 'z'", "DELETE FROM {0}.things", "TRUNCATE {0}.things"):
+                with self.assertRaisesRegex(psycopg.Error, "is not served here"):
+                    c.execute(statement.format(self.shard))
+
+    def test_commits_are_durable_though_a_client_wants_them_fast(self):
+        c = self.client()
+        c.execute("SET synchronous_commit = off")
+        with c.transaction():
+            self.enter(c, "r1")
+            self.assertEqual(c.execute("SHOW synchronous_commit").fetchone()["synchronous_commit"], "local")
+
+    def test_not_acknowledged_without_a_member(self):
+        with DATABASE.transaction() as tx:
+            Records(tx).put_members(self.shard, {2: False})
+        c = self.client()
+        self.assertFalse(value(c.execute("SELECT sm.acknowledged(%s, '50 ms')", (self.shard,)).fetchone()))
+        serve(self.shard, Cell.SECONDARY)
+        self.assertFalse(value(c.execute("SELECT sm.acknowledged(%s)", (self.shard,)).fetchone()))
+
+    def test_old_identities_go(self):
+        c = self.client()
+        for it in ("old", "new"):
+            with c.transaction():
+                self.enter(c, it)
+        POST.query(f"UPDATE {self.shard}.sm_requests SET at = now() - interval '2 h' WHERE id = 'old'")
+        self.assertEqual(value(DATABASE.row("SELECT sm.forget_requests(%s, '1 h')", self.shard)), 1)
+        self.assertEqual(POST.query(f"SELECT id FROM {self.shard}.sm_requests"), [("new",)])
+        self.assertEqual(value(DATABASE.row("SELECT sm.position(%s)", self.shard)), 3)
+
+
+class RouteTest(Case):
+    """Routes are those of the agent's port, which passes the proved functions' vectors."""
+
+    def test_all_kinds_and_flags(self):
+        self.adopt()
+        cases = []
+        for known, fenced, cell, at_work, has_cut, passed, party, handover, applied, cut in itertools.product(
+                (0, 1), (0, 1), range(6), (0, 9), (0, 1), (0, 1), (1, 2), (1, 2), (3, 4, 5), (0, 4)):
+            base, slot = Base(journal=1, number=1, known=known, fenced=fenced), Slot(cell, 1, 1, 1, at_work, 1, 4 if has_cut else 0, has_cut)
+            answer, _ = agent.route(base, slot, applied, Request(handover, cut, party, passed))
+            cases.append((known, fenced, int(cell), at_work, 4 if has_cut else 0, has_cut, applied, bool(passed), handover, cut, party, int(answer)))
+        with DATABASE.transaction() as tx:
+            tx.execute("CREATE TEMP TABLE cases (known int, fenced int, cell int, at_work bigint, cut bigint, has_cut int, applied bigint, passed bool, handover bigint, "
+                       "passed_cut bigint, party int, answer int) ON COMMIT DROP")
+            with tx.cursor() as cursor:
+                cursor.executemany(f"INSERT INTO cases VALUES ({', '.join(['%s'] * 12)})", cases)
+            rows = tx.execute("SELECT count(*) AS n FROM cases WHERE answer IS DISTINCT FROM sm.route(known, fenced, ROW('s', cell, 1, 1, 1, at_work, 1, cut, has_cut, "
+                              "NULL, false, NULL, NULL, NULL)::sm.slots, applied, passed, handover, passed_cut, party)").fetchone()
+        self.assertEqual((rows["n"], len(cases)), (0, 4608))
+
+    def test_vectors_through_the_extension(self):
+        self.adopt()
+        if not VECTORS.exists() or value(DATABASE.row("SELECT to_regprocedure('sm.agent(text, bigint[])') IS NULL")):
+            self.skipTest("smplan_agent is not installed")
+        wrong = []
+        with DATABASE.connection() as c:
+            for line in VECTORS.read_text().splitlines():
+                asked, told = line.split(" = ")
+                name, *numbers = asked.split()
+                answer = value(c.execute("SELECT sm.agent(%s, %s::bigint[])", (name, [signed(int(it)) for it in numbers])).fetchone())
+                if [unsigned(it) for it in answer] != [int(it) for it in told.split()]:
+                    wrong.append((line, answer))
+        self.assertEqual(wrong[:3], [])
+
+
+class RecordTest(Case):
+    """Bases, slots and a shard's own tables."""
+
+    def test_numbers_of_64_bits(self):
+        self.adopt(cell=Cell.PRIMARY)
+        with DATABASE.transaction() as tx:
+            Records(tx).put_base(Base(journal=(1 << 64) - 1, number=5, nonce=1 << 63, known=0), 7)
+            self.assertEqual((Records(tx).base(), Records(tx).heard()), (Base((1 << 64) - 1, 5, 1 << 63, 0, 0), 7))
+
+    def test_a_cut_carries_sequences_and_wakes_listeners(self):
+        self.adopt(cell=Cell.PRIMARY)
+        c = self.client()
+        c.execute("LISTEN sm_cut")
+        POST.query(f"INSERT INTO {self.shard}.things (word) VALUES ('x'), ('y')")
+        with DATABASE.transaction() as tx:
+            Records(tx).put_cut(self.shard, Cut(3, 1, 2, {}))
+        with DATABASE.transaction() as tx:
+            self.assertEqual(Records(tx).cut(self.shard), Cut(3, 1, 2, {"things_id_seq": 2}))
+            self.assertEqual(Records(tx).mark(self.shard), Mark(0, 1))
+            tx.execute("SELECT sm.set_sequences(%s, '{\"things_id_seq\": 41}')", (self.shard,))
+            tx.execute("SELECT sm.advance_sequences(%s)", (self.shard,))
+        self.assertEqual(POST.query(f"SELECT nextval('{self.shard}.things_id_seq')"), [(42,)])
+        c.execute("SELECT 1")
+        self.assertEqual(c.pgconn.notifies().extra.decode(), self.shard)
+
+    def test_sequences_go_behind_what_is_there(self):
+        self.adopt(cell=Cell.PRIMARY)
+        POST.query(f"INSERT INTO {self.shard}.things VALUES (90, 'x')")
+        DATABASE.row("SELECT sm.advance_sequences(%s)", self.shard)
+        self.assertEqual(POST.query(f"SELECT nextval('{self.shard}.things_id_seq')"), [(91,)])
+
+    def test_names_of_streams(self):
+        for shard in ("s", "Öl-Schiff 7", "x" * 63):
+            told = [value(DATABASE.row("SELECT sm.stream(%s, %s)", shard, it)) for it in (1, 12, 1 << 30)]
+            self.assertEqual(len(set(told)), 3)
+            for it in told:
+                self.assertRegex(it, r"^sm_[a-z0-9_]{1,60}$")
+
+
+class SchemaTest(Case):
+    """Changes of a schema."""
+
+    def change(self):
+        POST.query(f"ALTER TABLE {self.shard}.things ADD COLUMN more int")
+
+    def test_at_rest_and_alone(self):
+        self.adopt(cell=Cell.PRIMARY)
+        self.change()
+
+    def test_refused_while_it_moves(self):
+        for slot in ({"cell": Cell.FORWARDING}, {"cell": Cell.PREPARED}, {"cell": Cell.ABSENT, "at_work": 7}):
+            self.adopt(**slot)
+            for statement in ("ALTER TABLE {0}.things ADD COLUMN more int", "DROP TABLE {0}.things", "CREATE TABLE {0}.other (n int PRIMARY KEY)", "DROP SCHEMA {0} CASCADE"):
+                with self.assertRaisesRegex(psycopg.Error, "moves"):
+                    POST.query(statement.format(self.shard))
+
+    def test_refused_while_it_is_copied_with_the_time(self):
+        self.adopt(cell=Cell.PRIMARY)
+        POST.query("INSERT INTO sm.copied (shard, server, since) VALUES (%s, 2, now() - interval '12 s')", (self.shard,))
+        with self.assertRaisesRegex(psycopg.Error, r"moves, for 12 s so far.*\n.*Try again"):
+            self.change()
+        POST.query("UPDATE sm.copied SET seen = now() - interval '1 min' WHERE shard = %s", (self.shard,))
+        self.change()
+
+    def test_refused_where_others_would_not_get_it(self):
+        self.adopt(cell=Cell.PRIMARY)
+        with DATABASE.transaction() as tx:
+            Records(tx).put_members(self.shard, {2: False})
+        with self.assertRaisesRegex(psycopg.Error, "smplan-pg ddl"):
+            self.change()
+
+    def test_most_copies_at_once(self):
+        self.adopt(cell=Cell.PRIMARY)
+        POST.query("DELETE FROM sm.copied")
+        told = [value(DATABASE.row("SELECT sm.copy(%s, %s, 2)", self.shard, it)) for it in (2, 3, 4, 3)]
+        self.assertEqual(told, [True, True, False, True])
+        POST.query("DELETE FROM sm.copied")
+
+
+class RefusedServerTest(unittest.TestCase):
+    """Servers on which nothing is changed."""
+
+    def test_no_superuser(self):
+        POST.query("CREATE ROLE small LOGIN; CREATE DATABASE other")
+        database = Database(POST.reach.replace("user=postgres", "user=small").replace("dbname=postgres", "dbname=other"))
+        with self.assertRaisesRegex(Failure, "no superuser.*Nothing was changed"):
+            adopt.adopt(database, ["public"])
+        self.assertTrue(value(database.row("SELECT to_regnamespace('sm') IS NULL")))
+        for it in database.idle:
+            it.close()
+
+    def test_another_version_or_level(self):
+        class Told:
+            """A connection that answers."""
+
+            def __init__(self, **told):
+                self.told = told
+
+            def execute(self, statement, _=()):
+                answer = next((it for key, it in self.told.items() if key in statement), True)
+                return type("Rows", (), {"fetchone": lambda self: {"it": answer}})()
+
+        with self.assertRaisesRegex(Failure, "this is PostgreSQL 14.*Nothing was changed"):
+            adopt.refuse_server(Told(server_version_num="140005"))
+        with self.assertRaisesRegex(Failure, "wal_level is not logical.*Nothing was changed"):
+            adopt.refuse_server(Told(server_version_num="150005", wal_level="replica"))
+        adopt.refuse_server(Told(server_version_num="160001", wal_level="logical"))
+
+
+if __name__ == "__main__":
+    unittest.main()
