@@ -275,6 +275,8 @@ class RecordTest(Case):
     def test_a_cut_carries_sequences_and_wakes_listeners(self):
         self.adopt(cell=Cell.PRIMARY)
         c = self.client()
+        told = []
+        c.add_notify_handler(lambda it: told.append(it.payload))
         c.execute("LISTEN sm_cut")
         POST.query(f"INSERT INTO {self.shard}.things (word) VALUES ('x'), ('y')")
         with DATABASE.transaction() as tx:
@@ -286,7 +288,7 @@ class RecordTest(Case):
             tx.execute("SELECT sm.advance_sequences(%s)", (self.shard,))
         self.assertEqual(POST.query(f"SELECT nextval('{self.shard}.things_id_seq')"), [(42,)])
         c.execute("SELECT 1")
-        self.assertEqual(c.pgconn.notifies().extra.decode(), self.shard)
+        self.assertEqual(told, [self.shard])
 
     def test_sequences_go_behind_what_is_there(self):
         self.adopt(cell=Cell.PRIMARY)
@@ -322,7 +324,7 @@ class SchemaTest(Case):
     def test_refused_while_it_is_copied_with_the_time(self):
         self.adopt(cell=Cell.PRIMARY)
         POST.query("INSERT INTO sm.copied (shard, server, since) VALUES (%s, 2, now() - interval '12 s')", (self.shard,))
-        with self.assertRaisesRegex(psycopg.Error, r"moves, for 12 s so far.*\n.*Try again"):
+        with self.assertRaisesRegex(psycopg.Error, r"moves, for 1\d s so far.*\n.*Try again"):
             self.change()
         POST.query("UPDATE sm.copied SET seen = now() - interval '1 min' WHERE shard = %s", (self.shard,))
         self.change()
@@ -346,7 +348,8 @@ class RefusedServerTest(unittest.TestCase):
     """Servers on which nothing is changed."""
 
     def test_no_superuser(self):
-        POST.query("CREATE ROLE small LOGIN; CREATE DATABASE other")
+        POST.query("CREATE ROLE small LOGIN")
+        POST.query("CREATE DATABASE other")
         database = Database(POST.reach.replace("user=postgres", "user=small").replace("dbname=postgres", "dbname=other"))
         with self.assertRaisesRegex(Failure, "no superuser.*Nothing was changed"):
             adopt.adopt(database, ["public"])

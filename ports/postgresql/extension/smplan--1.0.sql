@@ -236,13 +236,13 @@ END $$;
 
 -- What a follower needs to know of its source. A stream that is past the place where this server's own writes begin can't be joined any more.
 CREATE FUNCTION sm.offers(in_shard text, follower int, OUT cell int, OUT has_cut int, OUT at_work bigint, OUT journal bigint, OUT number bigint, OUT known int,
-  OUT fenced int, OUT place pg_lsn, OUT view bigint, OUT "position" bigint, OUT has_stream bool, OUT is_joinable bool, OUT is_member bool) LANGUAGE plpgsql AS $$
+  OUT fenced int, OUT place pg_lsn, OUT view bigint, OUT "position" bigint, OUT has_stream bool, OUT is_joinable bool, OUT is_member bool, OUT party int) LANGUAGE plpgsql AS $$
 DECLARE b sm.state; s sm.slots; r record;
 BEGIN
   SELECT * INTO b FROM sm.state;
   SELECT * INTO s FROM sm.slots WHERE shard = in_shard;
   SELECT slot_name, confirmed_flush_lsn, wal_status INTO r FROM pg_replication_slots WHERE slot_name = sm.stream(in_shard, follower);
-  cell := coalesce(s.cell, 1); has_cut := coalesce(s.has_cut, 0); at_work := coalesce(s.at_work, 0);
+  cell := coalesce(s.cell, 1); party := coalesce(s.party, 0); has_cut := coalesce(s.has_cut, 0); at_work := coalesce(s.at_work, 0);
   journal := b.journal; number := b.number; known := b.known; fenced := b.fenced;
   place := s.sealed; view := s.sealed_view; "position" := s.sealed_position;
   has_stream := r.slot_name IS NOT NULL AND r.wal_status <> 'lost';

@@ -55,7 +55,7 @@ class Copies:
             with self.server.database.connection() as c:
                 c.execute(said("CREATE PUBLICATION {} FOR TABLES IN SCHEMA {} WITH (publish = '')", publication, shard))
                 streams.follow(c, mine, publication, reach or "")
-            self.wait(there, shard, mine, still, said_of)
+            self.wait(number, shard, mine, still, said_of)
         finally:
             try:
                 there.do("DELETE FROM sm.copied WHERE shard = %s AND server = %s", shard, self.server.number)
@@ -101,25 +101,24 @@ class Copies:
         if told.returncode:
             raise Stuck(f"the schema is not made: {told.stderr.decode(errors='replace').strip()[-300:]}")
 
-    def wait(self, there: Database, shard: str, mine: str, still: Still, said_of: Callable[[str], None]) -> None:
+    def wait(self, number: int, shard: str, mine: str, still: Still, said_of: Callable[[str], None]) -> None:
         """Waits until all tables are copied, and all that the source had executed by then is here."""
-        again = 0.0
+        again, goal = 0.0, None
         while True:
             with self.server.database.connection() as c:
                 lacking = streams.lacks_tables(c, mine)
-            if not lacking:
-                break
-            said_of(f"copies: {lacking} tables to come")
+                position = value(c.execute("SELECT sm.position(%s)", (shard,)).fetchone())
+            if not lacking and goal is None:
+                goal = value(self.server.peer(number).row("SELECT sm.position(%s)", shard))
+            if goal is not None and position >= goal:
+                return
+            said_of(f"copies: {lacking} tables to come" if lacking else "copied; catches up")
             check(still)
             if time.monotonic() > again:
                 again = time.monotonic() + 1.0
-                there.row("SELECT sm.copy(%s, %s, 1000)", shard, self.server.number)
-            time.sleep(0.03)
-        goal = value(there.row("SELECT sm.position(%s)", shard))
-        while value(self.server.database.row("SELECT sm.position(%s)", shard)) < goal:
-            said_of("copied; catches up")
-            check(still)
-            time.sleep(0.01)
+                self.server.sources.check(shard, number)
+                self.server.peer(number).row("SELECT sm.copy(%s, %s, 1000)", shard, self.server.number)
+            time.sleep(0.02)
 
     def end(self, tx: Connection, shard: str) -> None:
         """The copy is whole: nobody needs the old one."""

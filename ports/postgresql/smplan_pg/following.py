@@ -66,6 +66,7 @@ class Following:
     def listen(self) -> None:
         """Looks at a shard as soon as a cut comes to it."""
         with self.server.database.connect() as c:
+            c.add_notify_handler(lambda it: self.wake(it.payload))
             c.execute("LISTEN sm_cut")
             while True:
                 ready = select.select([c.fileno()], [], [], 5.0)[0]

@@ -2,22 +2,37 @@
 from __future__ import annotations
 
 import time
-from typing import TYPE_CHECKING, Dict, Set, Tuple
+from dataclasses import dataclass
+from typing import TYPE_CHECKING, Dict, List, Optional
 
 import psycopg
 from smplan.agent import Cell
 
 from . import streams
 from .copies import REPLACED
+from .database import Row
 from .records import Records
 from .streams import Stuck, said
 
 if TYPE_CHECKING:
     from .server import Server
 
-# The servers whose streams are looked at, with what they are for: the stream of a member, and any other that begins here.
-STREAMS = """SELECT s.shard, p.number AS server, r.slot_name, r.active, r.wal_status = 'lost' AS is_lost, s.cell
-  FROM sm.slots s CROSS JOIN sm.servers p JOIN pg_replication_slots r ON r.slot_name = sm.stream(s.shard, p.number)"""
+# All streams that begin in this database, each with its shard and follower as far as these are known here, and what this server has of the shard.
+STREAMS = """SELECT r.slot_name, r.active, r.wal_status = 'lost' AS is_lost, r.confirmed_flush_lsn::text AS has, w.shard, w.server, w.cell, w.at_work,
+    pg_current_wal_flush_lsn() > r.confirmed_flush_lsn AS is_behind,
+    EXISTS (SELECT FROM sm.copied c WHERE c.shard = w.shard AND c.server = w.server AND seen > clock_timestamp() - interval '10 s') AS is_copied
+  FROM pg_replication_slots r LEFT JOIN (SELECT s.shard, p.number AS server, s.cell, s.at_work FROM sm.slots s CROSS JOIN sm.servers p) w
+    ON r.slot_name = sm.stream(w.shard, w.server)
+  WHERE r.database = current_database() AND r.slot_name ~ '^sm_.*_[0-9a-f]{8}_[0-9]+$'"""
+
+
+@dataclass
+class Watched:
+    """What a stream had when it was seen first without a reader, or without getting on, and since when."""
+
+    has: Optional[str]
+    silent: Optional[float] = None
+    since: float = 0.0
 
 
 class Keeping:
@@ -25,52 +40,61 @@ class Keeping:
 
     def __init__(self, server: "Server") -> None:
         self.server = server
-        self.silent: Dict[Tuple[str, int], float] = {}
+        self.watched: Dict[str, Watched] = {}
 
     def leave_out_the_dead(self) -> None:
-        """A follower that has read nothing for a while counts no more, and has to copy the shard anew; an old owner counts, dead or not. A stream that is lost
-        counts as dead at once."""
+        """A follower that has read nothing for a while, or got on with nothing for long, counts no more, and copies the shard anew; an old owner counts, dead or
+        not. A stream that is lost, or that was never made, is dead at once."""
         with self.server.database.transaction() as tx:
             it = Records(tx)
-            rows = tx.execute(STREAMS).fetchall()
-            served = [shard for shard, slot in it.slots().items() if slot.cell == Cell.PRIMARY]
-            members = {(shard, number) for shard in served for number, was_owner in it.members(shard).items() if not was_owner}
-            copied = {(it["shard"], it["server"]) for it in tx.execute("SELECT * FROM sm.copied WHERE seen > clock_timestamp() - interval '10 s'").fetchall()}
-        reading = {(it["shard"], it["server"]) for it in rows if it["active"]}
-        present = {(it["shard"], it["server"]): it for it in rows}
-        old_owners = self.old_owners(served)
-        watched = (members | {it for it in present if present[it]["cell"] in (Cell.PRIMARY, Cell.SECONDARY, Cell.ABSENT)}) - reading - copied - old_owners
+            rows, known = tx.execute(STREAMS).fetchall(), it.base().known
+            members = {streams.name_of(tx, shard, number): (shard, number, was_owner) for shard, slot in it.slots().items() if slot.cell == Cell.PRIMARY
+                       for number, was_owner in it.members(shard).items()}
+        present = {it["slot_name"]: it for it in rows}
+        self.watched = {name: it for name, it in self.watched.items() if name in present or name in members}
+        for name in {*present, *members} if known else ():
+            if name in members and members[name][2]:
+                continue
+            if self.is_dead(name, present.get(name)):
+                self.leave_out(name, members.get(name))
+
+    def is_dead(self, name: str, row: Optional[Row]) -> bool:
+        """Whether nobody will go on with a stream, as far as can be seen from here."""
         now = time.monotonic()
-        self.silent = {it: self.silent.get(it, now) for it in watched}
-        for key, since in self.silent.items():
-            if now - since > self.server.limits.dead or (key in present and present[key]["is_lost"]):
-                self.leave_out(*key)
+        if row is not None and (row["is_copied"] or row["cell"] in (Cell.PREPARED, Cell.FORWARDING) or row["at_work"]):
+            self.watched.pop(name, None)
+            return False
+        it = self.watched.setdefault(name, Watched(row["has"] if row else None, None, now))
+        if row is None or not row["active"]:
+            it.silent = it.silent or now
+        else:
+            it.silent = None
+        if row is not None and (row["has"] != it.has or not row["is_behind"]):
+            it.has, it.since = row["has"], now
+        limits = self.server.limits
+        return bool((row and row["is_lost"]) or (it.silent and now - it.silent > limits.dead) or now - it.since > limits.stalled)
 
-    def old_owners(self, served: "list[str]") -> Set[Tuple[str, int]]:
-        """The old owners of handovers that have not dropped their shards yet."""
-        with self.server.database.transaction() as tx:
-            it = Records(tx)
-            return {(shard, number) for shard in served for number, was_owner in it.members(shard).items() if was_owner}
-
-    def leave_out(self, shard: str, number: int) -> None:
-        """Goes on without a follower."""
-        with self.server.database.transaction() as tx:
-            it = Records(tx)
-            if it.slot(shard).cell == Cell.PRIMARY and number in it.members(shard):
-                tx.execute(said("DELETE FROM {}.sm_members WHERE server = {number}", shard, number=number))  # type: ignore[arg-type]
-                it.count(shard)
-                self.server.say("goes on without", self.server.names.get(number), "for", shard)
-            name = streams.name_of(tx, shard, number)
+    def leave_out(self, name: str, member: "Optional[tuple[str, int, bool]]") -> None:
+        """Goes on without a follower, and drops its stream."""
+        self.watched.pop(name, None)
+        if member is not None:
+            shard, number, _ = member
+            with self.server.database.transaction() as tx:
+                it = Records(tx)
+                if it.slot(shard).cell == Cell.PRIMARY and number in it.members(shard):
+                    tx.execute(it.own("DELETE FROM {}.sm_members WHERE server = %s", shard), (number,))
+                    it.count(shard)
+                    self.server.say("goes on without", self.server.names.get(number), "for", shard)
         try:
-            streams.drop_stream(self.server.database, name, 0.0)
+            with self.server.database.connection() as c:
+                c.execute("SELECT pg_terminate_backend(active_pid) FROM pg_replication_slots WHERE slot_name = %s AND active", (name,))
+            streams.drop_stream(self.server.database, name, 0.5)
         except (Stuck, psycopg.Error):
-            pass  # (it reads again: it will not be a member, and joins)
+            pass  # (it comes again)
 
     def tidy(self) -> None:
         """Forgets identities that are old enough, guards tables that have come to a shard, and deletes copies that were replaced."""
-        with self.server.database.transaction() as tx:
-            served = [shard for shard, slot in Records(tx).slots().items() if slot.cell == Cell.PRIMARY]
-        for shard in served:
+        for shard in self.served():
             self.server.database.row("SELECT sm.forget_requests(%s, make_interval(secs => %s))", shard, self.server.limits.keeping)
             self.server.database.row("SELECT sm.guard_tables(%s)", shard)
         for row in self.server.database.rows("SELECT schema FROM sm.asides WHERE why = %s", REPLACED):
@@ -78,3 +102,8 @@ class Keeping:
                 tx.execute("SET LOCAL lock_timeout = '1s'")
                 tx.execute(said("DROP SCHEMA IF EXISTS {} CASCADE", row["schema"]))
                 tx.execute("DELETE FROM sm.asides WHERE schema = %s", (row["schema"],))
+
+    def served(self) -> List[str]:
+        """The shards whose primary this server is."""
+        with self.server.database.transaction() as tx:
+            return [shard for shard, slot in Records(tx).slots().items() if slot.cell == Cell.PRIMARY]

@@ -66,16 +66,17 @@ class Orders:
 
     def work(self, shard: str, order: Order, line: Line) -> None:
         """Works until the order is committed, or can't be any more."""
-        live = self.server.live(shard)
+        live, pause = self.server.live(shard), 0.05
         try:
-            with live.hands:
-                while True:
-                    try:
+            while True:
+                try:
+                    with live.hands:
                         self.once(shard, order, line)
-                        return
-                    except (Stuck, OSError, psycopg.Error) as why:
-                        live.said = str(why).strip()
-                    time.sleep(0.1)
+                    return
+                except (Stuck, OSError, psycopg.Error) as why:
+                    live.said = str(why).strip()
+                pause = min(2 * pause, self.limits.resting)
+                time.sleep(pause)
         except (Ended, GivenUp) as why:
             live.said = str(why)
         except Exception as why:  # pylint: disable=broad-exception-caught  (the order comes again)
@@ -111,6 +112,8 @@ class Orders:
         source = order.party if order.call == Call.PREPARE_ADD else self.server.numbers.get(line.get("primary") or "", 0)
         if source in (0, self.server.number):
             raise Stuck("nobody is named who has it")
+        if order.call == Call.ADD:
+            source = self.server.sources.present(shard, source)
         live = self.server.live(shard)
         with self.server.database.transaction() as tx:
             Records(tx).put_slot(shard, self.begin(tx, shard, order))

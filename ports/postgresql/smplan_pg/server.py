@@ -10,6 +10,7 @@ from dataclasses import dataclass, field
 from typing import Any, Callable, Dict, List, Optional, Sequence
 
 import psycopg
+from psycopg.conninfo import make_conninfo
 from smplan.failure import Failure
 from smplan.server_http import Caller, listen
 
@@ -38,6 +39,7 @@ class Limits:
     ending: float = 30.0
     fencing: float = 2.0
     dead: float = 5.0
+    stalled: float = 60.0
     keeping: float = 3600.0
     copies: int = 2
 
@@ -100,7 +102,7 @@ class Server:
 
     def tell_reach(self, _: Line) -> Line:
         """How other servers reach the database."""
-        return {"name": self.name, "reach": self.reach}
+        return {"name": self.name, "reach": make_conninfo(self.reach, **{"connect_timeout": "5", "application_name": f"smplan-{self.name}"})}
 
     def peer(self, number: int) -> Database:
         """Another server's database."""

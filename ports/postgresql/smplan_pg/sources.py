@@ -37,6 +37,21 @@ class Sources:
                 return number
         return None
 
+    def present(self, shard: str, number: int) -> int:
+        """Who may be copied from instead of a server that has handed the shard over: the new owner, once it has sealed."""
+        it = self.offer(number, shard)
+        if it["cell"] != Cell.FORWARDING or it["party"] == self.server.number:
+            return number
+        if not serves(self.offer(it["party"], shard)):
+            raise Stuck(f"{self.server.names.get(number)} has handed the shard over, and the new owner has not sealed yet")
+        return it["party"]
+
+    def check(self, shard: str, number: int) -> None:
+        """Stops what copies from a server that sends nothing any more."""
+        it = self.offer(number, shard)
+        if not serves(it) and not (it["cell"] == Cell.FORWARDING and it["party"] == self.server.number):
+            raise Stuck(f"{self.server.names.get(number)} does not serve the shard any more")
+
     def mark_at(self, number: int, shard: str) -> Mark:
         """What a server has of a shard; of what is not whole nothing."""
         database = self.server.database if number == self.server.number else self.server.peer(number)

@@ -75,10 +75,10 @@ class Whole:
         self.server.say("ends requests of", shard)
 
     def told_slots(self, it: Records) -> List[Line]:
-        """All slots, as they are told."""
+        """All slots, as they are told; not that of a copy that is not whole, from which nobody could go on."""
         told = []
         for shard, slot in it.slots().items():
-            if slot.cell != Cell.ABSENT:
+            if slot.cell != Cell.ABSENT and (slot.cell == Cell.FORWARDING or it.is_whole(shard) or it.kept(shard) is not None):
                 position = it.told_position(shard)
                 told.append(told_of(shard, slot, self.server.names, position, agent.has_reached_cut(slot, position)))
         return told
