@@ -2,7 +2,7 @@
 SHELL := bash
 .SHELLFLAGS := -e -o pipefail -c
 .DEFAULT_GOAL := help
-.PHONY: help run try build agent vectors test edits page-test storm bench install uninstall dist deb cluster cluster-storm check-caught check-program check-tests
+.PHONY: help run try build agent vectors test edits page-test storm bench install uninstall dist deb cluster cluster-storm postgresql check-caught check-program check-tests
 
 PREFIX ?= /usr/local
 
@@ -117,6 +117,9 @@ edits: ## tries all wrong versions, over what make test has proved: hours of a p
 
 cluster: ## a minute of a real cluster of Redis servers, moved and harmed while clients write (it needs Debian's etcd-server and redis-server)
 	scripts/cluster run
+
+postgresql: ## a minute of four PostgreSQL servers whose schemas move while they are written (it needs Debian's postgresql-15 and python3-psycopg)
+	scripts/postgresql
 
 RUNS ?= 200
 cluster-storm: ## RUNS (200) runs of the cluster of 20 seconds, each with other harm, and in how many each situation came up

@@ -231,7 +231,7 @@ def arguments():
     parser.add_argument("--dead", type=float, default=4.0)
     parser.add_argument("--patience", type=float, default=120.0)
     parser.add_argument("--least", type=int, default=100)
-    parser.add_argument("--option", nargs="*", default=[])
+    parser.add_argument("--option", action="append", default=[])
     parser.add_argument("--bug", default="")
     parser.add_argument("--quiet", action="store_true")
     told = parser.parse_args()

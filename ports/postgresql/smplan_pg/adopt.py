@@ -55,6 +55,8 @@ def install(tx: Connection) -> None:
     if value(tx.execute("SELECT to_regclass('sm.state') IS NULL").fetchone()):
         if tx.execute("SELECT FROM pg_available_extensions WHERE name = 'smplan'").fetchone():
             tx.execute("CREATE EXTENSION smplan")
+            if tx.execute("SELECT FROM pg_available_extensions WHERE name = 'smplan_agent'").fetchone():
+                tx.execute("CREATE EXTENSION smplan_agent")
         else:
             tx.execute(EXTENSION.read_text(encoding="utf-8"))
 

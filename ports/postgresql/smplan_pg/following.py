@@ -7,7 +7,6 @@ from dataclasses import dataclass
 from typing import TYPE_CHECKING, Dict, Optional
 
 import psycopg
-from smplan import agent
 from smplan.agent import Base, Cell, Slot
 
 from . import streams
@@ -189,7 +188,7 @@ class Following:
             members = {number: False for number in it.members(shard) if number != self.server.number}
             it.put_members(shard, {**members, slot.party: True})
             streams.publish(tx, shard, streams.ALL)
-            it.put_slot(shard, agent.seal(slot, cut.handover, cut.position))
+            it.put_slot(shard, self.server.agent.seal(slot, cut.handover, cut.position))
             it.put_seal(shard, row["place"], mark)
             it.put_source(shard, None, True)
             it.count(shard)

@@ -6,7 +6,6 @@ import time
 from typing import TYPE_CHECKING, Any, Dict, List
 
 import psycopg
-from smplan import agent
 from smplan.agent import Answer, Call, Cell, Order, Role, Slot
 from smplan.control_agent import order_of
 
@@ -60,7 +59,7 @@ class Orders:
         with self.server.database.transaction() as tx:
             it = Records(tx)
             base = it.base()
-            return agent.judge(base, it.slot(shard, base), it.used(), order)
+            return self.server.agent.judge(base, it.slot(shard, base), it.used(), order)
 
     # -- the thread of an order
 
@@ -100,10 +99,10 @@ class Orders:
         it = Records(tx)
         base = it.base("FOR SHARE")
         slot = it.slot(shard, base)
-        verdict = agent.judge(base, slot, it.used(), order)
+        verdict = self.server.agent.judge(base, slot, it.used(), order)
         if verdict not in (Answer.BEGIN, Answer.WORKING):
             raise Ended(verdict.name.lower())
-        return agent.begin(slot, order)
+        return self.server.agent.begin(slot, order)
 
     # -- copies: they take long, so that their beginning is stored
 
@@ -134,7 +133,7 @@ class Orders:
         except (Stuck, OSError, psycopg.Error):
             with self.server.database.transaction() as tx:
                 it = Records(tx)
-                it.put_slot(shard, agent.abandon(it.slot(shard)))
+                it.put_slot(shard, self.server.agent.abandon(it.slot(shard)))
             raise
 
     def commit_copy(self, shard: str, order: Order, source: int) -> None:
@@ -143,7 +142,7 @@ class Orders:
             raise Stuck(f"{self.server.names[source]} does not serve the shard any more")
         with self.server.database.transaction() as tx:
             it = Records(tx)
-            after = agent.commit(it.base("FOR SHARE"), it.slot(shard), order, it.mark(shard).position)
+            after = self.server.agent.commit(it.base("FOR SHARE"), it.slot(shard), order, it.mark(shard).position)
             if after is None:
                 raise Ended("it is thrown away")
             it.put_slot(shard, after)
@@ -162,14 +161,14 @@ class Orders:
             if needs_rest(order, slot):
                 self.hold(tx, shard, order)
             tx.execute("SELECT FROM sm.slots WHERE shard = %s FOR UPDATE", (shard,))
-            if agent.begin(it.slot(shard), order) != slot:
+            if self.server.agent.begin(it.slot(shard), order) != slot:
                 raise Stuck("the slot has changed")
             before = it.mark(shard)
             is_cut = order.call == Call.PREPARE_DROP or is_demotion(order)
             if is_cut:
                 self.wait_for_members(tx, shard, order)
                 it.count(shard)
-            after = agent.commit(it.base(), slot, order, it.mark(shard).position)
+            after = self.server.agent.commit(it.base(), slot, order, it.mark(shard).position)
             if after is None:
                 raise Stuck("the cut is not reached")
             self.store(tx, shard, order, others, slot, after, before)

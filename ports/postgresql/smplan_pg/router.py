@@ -19,7 +19,7 @@ from typing import Any, Callable, Dict, Mapping, Optional, Union
 
 import psycopg
 
-from .database import Connection, Database, Row
+from .database import Connection, Database, Row, value
 
 EXECUTE, PASS_ON, NOT_HERE, NOT_YET, AGAIN = 12, 13, 14, 15, 11
 Work = Callable[[psycopg.Cursor], Any]
@@ -117,7 +117,7 @@ class Router:
                 c.execute("ROLLBACK")
                 return Told(row["answer"], None, self.onward(c, row))
             self.commit(c)
-            if not c.execute("SELECT sm.acknowledged(%s) AS it", (shard,)).fetchone()["it"]:  # type: ignore[index]
+            if not value(c.execute("SELECT sm.acknowledged(%s, '2 s')", (shard,)).fetchone()):
                 self.counts["not acknowledged"] += 1
                 return Told(NOT_HERE)
             return Told(row["answer"], reply)

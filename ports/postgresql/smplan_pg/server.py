@@ -16,6 +16,7 @@ from smplan.server_http import Caller, listen
 
 from .copies import Copies
 from .database import Database, value
+from .decisions import decisions_of
 from .following import Following
 from .keeping import Keeping
 from .orders import Orders
@@ -64,6 +65,7 @@ class Server:
         self.http = http
         self.call: Callable[[str, Optional[Line], float], Any] = Caller(token).call
         self.beside, self.lock = ThreadPoolExecutor(32), threading.Lock()
+        self.agent = decisions_of(database)
         self.shards: Dict[str, Live] = {}
         self.peers: Dict[int, Peer] = {}
         self.databases: Dict[str, Database] = {}

@@ -59,7 +59,7 @@ class Whole:
                 for shard, slot in it.slots().items():
                     if slot.cell in IN_HANDOVER:
                         tx.execute("SELECT sm.hold(%s)", (shard,))
-            answer, base = agent.fence(it.base("FOR UPDATE"), journal, number, nonce())
+            answer, base = self.server.agent.fence(it.base("FOR UPDATE"), journal, number, nonce())
             if answer == Answer.TAKEN:
                 it.put_base(base, number)
                 self.abandon_all(it)
@@ -80,7 +80,7 @@ class Whole:
         for shard, slot in it.slots().items():
             if slot.cell != Cell.ABSENT and (slot.cell == Cell.FORWARDING or it.is_whole(shard) or it.kept(shard) is not None):
                 position = it.told_position(shard)
-                told.append(told_of(shard, slot, self.server.names, position, agent.has_reached_cut(slot, position)))
+                told.append(told_of(shard, slot, self.server.names, position, self.server.agent.has_reached_cut(slot, position)))
         return told
 
     def tell_slots(self, _: Line) -> Line:
@@ -121,7 +121,7 @@ class Whole:
         with self.server.database.transaction() as tx:
             it = Records(tx)
             before = it.slots()
-            answer, _, after = agent.take(it.base(), told, before, brought)
+            answer, _, after = self.server.agent.take(it.base(), told, before, brought)
         if answer != Answer.TAKEN:
             return answer
         with ExitStack() as hands:
@@ -135,7 +135,7 @@ class Whole:
             with self.server.database.transaction() as tx:
                 it = Records(tx)
                 before = it.slots()
-                answer, base, after = agent.take(it.base("FOR UPDATE"), told, before, brought)
+                answer, base, after = self.server.agent.take(it.base("FOR UPDATE"), told, before, brought)
                 if answer == Answer.TAKEN:
                     number = told.fence if isinstance(told, Restoration) else told.number
                     it.put_base(base, number)
@@ -214,7 +214,7 @@ class Whole:
         with self.server.database.transaction() as tx:
             it = Records(tx)
             base = it.base()
-            if not base.known or agent.heed(base, journal, fence, 1).known:
+            if not base.known or self.server.agent.heed(base, journal, fence, 1).known:
                 if base.known and base.journal == journal and it.heard() < fence:
                     it.put_base(it.base("FOR UPDATE"), fence)
                 return
@@ -241,4 +241,4 @@ class Whole:
         """Gives up all work."""
         for shard, slot in it.slots().items():
             if slot.at_work:
-                it.put_slot(shard, agent.abandon(slot))
+                it.put_slot(shard, self.server.agent.abandon(slot))

@@ -1,0 +1,168 @@
+"""The router over two databases of one PostgreSQL server, whose slots are set by hand."""
+import json
+import os
+import shutil
+import tempfile
+import unittest
+from pathlib import Path
+
+import servers  # (it makes the packages be found)
+import psycopg
+from smplan.agent import Base, Cell, Slot
+from smplan_pg import adopt
+from smplan_pg.database import Database
+from smplan_pg.records import Records
+from smplan_pg.router import NotServed, Router
+
+NUMBERS = {"a": 1, "b": 2}
+
+
+def setUpModule():
+    global FOLDER, POST, DATABASES
+    FOLDER = Path(tempfile.mkdtemp(prefix="pg-test-", dir="/dev/shm"))
+    os.chmod(FOLDER, 0o777)
+    POST = servers.Postgres(FOLDER, "a", servers.free_ports(1)[0], 20, 3)
+    if POST.make().wait():
+        raise SystemExit("initdb failed")
+    POST.start()
+    POST.wait()
+    DATABASES = {}
+    for name in NUMBERS:
+        POST.query(f"CREATE DATABASE {name}")
+        DATABASES[name] = Database(POST.reach.replace("dbname=postgres", f"dbname={name}"))
+        with DATABASES[name].transaction() as tx:
+            tx.execute("CREATE SCHEMA s; CREATE TABLE s.sums (id int PRIMARY KEY, n int NOT NULL); INSERT INTO s.sums VALUES (1, 0)")
+        adopt.adopt(DATABASES[name], ["s"])
+        with DATABASES[name].transaction() as tx:
+            tx.execute("UPDATE sm.state SET me = %s, name = %s", (NUMBERS[name], name))
+            tx.execute("INSERT INTO sm.servers VALUES (1, 'a', ''), (2, 'b', '')")
+            Records(tx).put_base(Base(journal=9, known=1), 0)
+
+
+def tearDownModule():
+    POST.kill()
+    shutil.rmtree(FOLDER)
+
+
+def add(n):
+    """A request that adds to a sum."""
+    def work(cursor):
+        return cursor.execute("UPDATE sums SET n = n + %s WHERE id = 1 RETURNING n", (n,)).fetchone()["n"]
+    return work
+
+
+class RouterTest(unittest.TestCase):
+    """Requests that are executed once, wherever the shard is."""
+
+    def setUp(self):
+        self.map = FOLDER / "map.json"
+        for it in DATABASES.values():
+            with it.transaction() as tx:
+                tx.execute("UPDATE s.sums SET n = 0; DELETE FROM s.sm_requests; DELETE FROM s.sm_cut; UPDATE s.sm_counters SET writes = 0")
+        self.slots(a=Slot(Cell.PRIMARY, load=1), b=Slot(Cell.ABSENT))
+        self.show("a")
+        self.router = Router({name: it.reach for name, it in DATABASES.items()}, self.map, patience=3.0)
+
+    def tearDown(self):
+        for it in self.router.servers.values():
+            for c in it.idle:
+                c.close()
+
+    def slots(self, **slots):
+        for name, slot in slots.items():
+            with DATABASES[name].transaction() as tx:
+                Records(tx).put_slot("s", slot)
+                Records(tx).put_source("s", None, True)
+
+    def show(self, name):
+        self.map.write_text(json.dumps({"entries": {"s": {"to": name, "version": 1}}}))
+
+    def sum(self, name):
+        return DATABASES[name].row("SELECT n FROM s.sums")["n"]
+
+    def test_executed_once(self):
+        self.assertEqual([self.router.run("s", it, add(5)) for it in ("r1", "r1", "r2", "r1")], [5, 5, 10, 5])
+        self.assertEqual(self.sum("a"), 10)
+
+    def test_read(self):
+        self.router.run("s", "r1", add(5))
+        self.assertEqual(self.router.read("s", lambda cursor: cursor.execute("SELECT n FROM sums").fetchone()["n"]), 5)
+
+    def test_passed_on_behind_a_cut(self):
+        self.slots(a=Slot(Cell.FORWARDING, 2, 1, load=1, cut=0, has_cut=1), b=Slot(Cell.PREPARED, 1, 1, load=1, cut=0, has_cut=1))
+        self.assertEqual(self.router.run("s", "r1", add(5)), 5)
+        self.assertEqual((self.sum("a"), self.sum("b")), (0, 5))
+        self.assertEqual(self.router.counts["passed on"], 1)
+
+    def test_not_at_a_new_owner_that_has_not_sealed(self):
+        self.slots(a=Slot(Cell.FORWARDING, 2, 1, load=1, cut=0, has_cut=1), b=Slot(Cell.PREPARED, 1, 1, load=1))
+        with self.assertRaises(NotServed):
+            self.router.run("s", "r1", add(5))
+        self.assertEqual((self.sum("a"), self.sum("b")), (0, 0))
+
+    def test_the_map_is_looked_at_again(self):
+        self.router.run("s", "r1", add(5))
+        self.slots(a=Slot(Cell.ABSENT), b=Slot(Cell.PRIMARY, load=1))
+        self.show("b")
+        self.assertEqual(self.router.run("s", "r2", add(1)), 1)
+        self.assertEqual(self.sum("b"), 1)
+
+    def test_a_lost_commit_is_not_executed_twice(self):
+        lost = [True, True]
+
+        def commit(c):
+            c.execute("COMMIT")
+            if lost:
+                lost.pop()
+                c.close()
+                raise psycopg.OperationalError("lost")
+        self.router.commit = commit
+        self.assertEqual(self.router.run("s", "r1", add(5)), 5)
+        self.assertEqual(self.sum("a"), 5)
+        self.assertEqual(self.router.counts["again"], 2)
+
+    def test_a_commit_that_never_came_is_executed(self):
+        lost = [True]
+
+        def commit(c):
+            if lost:
+                lost.pop()
+                c.close()
+                raise psycopg.OperationalError("lost")
+            c.execute("COMMIT")
+        self.router.commit = commit
+        self.assertEqual(self.router.run("s", "r1", add(5)), 5)
+        self.assertEqual(self.sum("a"), 5)
+
+    def test_what_the_work_raises_comes_back_and_changes_nothing(self):
+        def work(cursor):
+            cursor.execute("UPDATE sums SET n = 99")
+            cursor.execute("INSERT INTO sums VALUES (1, 0)")
+        with self.assertRaises(psycopg.errors.UniqueViolation):
+            self.router.run("s", "r1", work)
+        self.assertEqual(self.sum("a"), 0)
+        self.assertEqual(self.router.run("s", "r1", add(5)), 5)
+
+    def test_not_acknowledged_until_the_members_have_it(self):
+        with DATABASES["a"].transaction() as tx:
+            Records(tx).put_members("s", {2: False})
+        try:
+            with self.assertRaises(NotServed):
+                self.router.patience = 0.5
+                self.router.run("s", "r1", add(5))
+        finally:
+            with DATABASES["a"].transaction() as tx:
+                Records(tx).put_members("s", {})
+        self.router.patience = 3.0
+        self.assertEqual(self.router.run("s", "r1", add(5)), 5)
+        self.assertEqual(self.sum("a"), 5)
+
+    def test_a_server_that_is_not_known(self):
+        self.show("z")
+        self.router.patience = 0.2
+        with self.assertRaises(NotServed):
+            self.router.run("s", "r1", add(5))
+
+
+if __name__ == "__main__":
+    unittest.main()
