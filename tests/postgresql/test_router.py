@@ -2,14 +2,16 @@
 import json
 import os
 import shutil
+import signal
 import tempfile
+import time
 import unittest
 from pathlib import Path
 
 import servers  # (it makes the packages be found)
 import psycopg
 from smplan.agent import Base, Cell, Slot
-from smplan_pg import adopt
+from smplan_pg import adopt, bouncer
 from smplan_pg.database import Database
 from smplan_pg.records import Records
 from smplan_pg.router import NotServed, Router
@@ -18,7 +20,7 @@ NUMBERS = {"a": 1, "b": 2}
 
 
 def setUpModule():
-    global FOLDER, POST, DATABASES
+    global FOLDER, POST, DATABASES, REACH
     FOLDER = Path(tempfile.mkdtemp(prefix="pg-test-", dir="/dev/shm"))
     os.chmod(FOLDER, 0o777)
     POST = servers.Postgres(FOLDER, "a", servers.free_ports(1)[0], 20, 3)
@@ -26,10 +28,10 @@ def setUpModule():
         raise SystemExit("initdb failed")
     POST.start()
     POST.wait()
-    DATABASES = {}
+    DATABASES, REACH = {}, {it: POST.reach.replace("dbname=postgres", f"dbname={it}") for it in NUMBERS}
     for name in NUMBERS:
         POST.query(f"CREATE DATABASE {name}")
-        DATABASES[name] = Database(POST.reach.replace("dbname=postgres", f"dbname={name}"))
+        DATABASES[name] = Database(REACH[name])
         with DATABASES[name].transaction() as tx:
             tx.execute("CREATE SCHEMA s; CREATE TABLE s.sums (id int PRIMARY KEY, n int NOT NULL); INSERT INTO s.sums VALUES (1, 0)")
         adopt.adopt(DATABASES[name], ["s"])
@@ -51,8 +53,8 @@ def add(n):
     return work
 
 
-class RouterTest(unittest.TestCase):
-    """Requests that are executed once, wherever the shard is."""
+class Case(unittest.TestCase):
+    """A test with a shard at a."""
 
     def setUp(self):
         self.map = FOLDER / "map.json"
@@ -61,7 +63,7 @@ class RouterTest(unittest.TestCase):
                 tx.execute("UPDATE s.sums SET n = 0; DELETE FROM s.sm_requests; DELETE FROM s.sm_cut; UPDATE s.sm_counters SET writes = 0")
         self.slots(a=Slot(Cell.PRIMARY, load=1), b=Slot(Cell.ABSENT))
         self.show("a")
-        self.router = Router({name: it.reach for name, it in DATABASES.items()}, self.map, patience=3.0)
+        self.router = Router(REACH, self.map, patience=3.0)
 
     def tearDown(self):
         for it in self.router.servers.values():
@@ -79,6 +81,10 @@ class RouterTest(unittest.TestCase):
 
     def sum(self, name):
         return DATABASES[name].row("SELECT n FROM s.sums")["n"]
+
+
+class RouterTest(Case):
+    """Requests that are executed once, wherever the shard is."""
 
     def test_executed_once(self):
         self.assertEqual([self.router.run("s", it, add(5)) for it in ("r1", "r1", "r2", "r1")], [5, 5, 10, 5])
@@ -162,6 +168,68 @@ class RouterTest(unittest.TestCase):
         self.router.patience = 0.2
         with self.assertRaises(NotServed):
             self.router.run("s", "r1", add(5))
+
+
+@unittest.skipUnless(shutil.which("pgbouncer", path=f"{os.environ['PATH']}:/usr/sbin"), "there is no pgbouncer")
+class BouncerTest(Case):
+    """pgbouncer with pools of transactions in front: each shard is a database, which is wherever the map lists it."""
+
+    def setUp(self):
+        super().setUp()
+        self.port = servers.free_ports(1)[0]
+        self.write()
+        settings = FOLDER / "pgbouncer.ini"
+        settings.write_text(f"""%include {FOLDER}/shards.ini
+[pgbouncer]
+listen_addr = 127.0.0.1
+listen_port = {self.port}
+auth_type = any
+pool_mode = transaction
+unix_socket_dir = {FOLDER}
+ignore_startup_parameters = extra_float_digits, options
+""")
+        self.process = servers.Process("pgbouncer", [shutil.which("pgbouncer", path="/usr/sbin"), str(settings)], FOLDER / "pgbouncer.log", **servers.as_postgres())
+        self.process.start()
+        self.reach = f"host=127.0.0.1 port={self.port} dbname=s user=postgres"
+        for _ in range(200):
+            try:
+                psycopg.connect(self.reach, connect_timeout=10).close()
+                break
+            except psycopg.Error:
+                time.sleep(0.05)
+
+    def tearDown(self):
+        self.process.stop()
+        super().tearDown()
+
+    def write(self):
+        (FOLDER / "shards.ini").write_text("\n".join(bouncer.databases_of(str(self.map), REACH)) + "\n")
+
+    def plain(self):
+        with psycopg.connect(self.reach, prepare_threshold=None) as c:
+            return c.execute("UPDATE sums SET n = n + 1 RETURNING n, current_database()").fetchone()
+
+    def test_plain_clients_go_where_the_map_says(self):
+        self.assertEqual(self.plain(), (1, "a"))
+        self.slots(a=Slot(Cell.ABSENT), b=Slot(Cell.PRIMARY, load=1))
+        with self.assertRaisesRegex(psycopg.Error, "is not served here"):
+            self.plain()
+        self.show("b")
+        self.write()
+        os.kill(self.process.process.pid, signal.SIGHUP)
+        for _ in range(100):
+            try:
+                self.assertEqual(self.plain(), (1, "b"))
+                return
+            except psycopg.Error:
+                time.sleep(0.05)
+        self.fail("not within 5 s")
+
+    def test_the_router_through_it(self):
+        router = Router({"a": self.reach}, self.map, patience=5.0)
+        self.assertEqual([router.run("s", it, add(5)) for it in ("r1", "r1", "r2")], [5, 5, 10])
+        for c in router.servers["a"].idle:
+            c.close()
 
 
 if __name__ == "__main__":

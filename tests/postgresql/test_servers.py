@@ -13,7 +13,7 @@ import psycopg
 from smplan import agent
 from smplan.agent import Base, Cell, Request, Slot
 from smplan.failure import Failure
-from smplan_pg import adopt, status
+from smplan_pg import adopt, status, streams
 from smplan_pg.database import Database, signed, unsigned, value
 from smplan_pg.records import Cut, Mark, Records
 
@@ -302,6 +302,33 @@ class RecordTest(Case):
             self.assertEqual(len(set(told)), 3)
             for it in told:
                 self.assertRegex(it, r"^sm_[a-z0-9_]{1,60}$")
+
+
+class StreamTest(Case):
+    """What a stream tells: the changes of a transaction as the publication was at each of them, so that a cut is the last, and what a primary begins with the
+    first."""
+
+    def told(self, c, name):
+        rows = c.execute("SELECT data FROM pg_logical_slot_get_binary_changes(%s, NULL, NULL, 'proto_version', '1', 'publication_names', %s)",
+                         (name, streams.name_of(c, self.shard))).fetchall()
+        return [chr(it["data"][0]) for it in rows if it["data"][:1] in (b"I", b"D", b"U")]
+
+    def test_around_a_change_of_the_publication(self):
+        self.adopt(cell=Cell.PRIMARY)
+        streams.make_stream(DATABASE, self.shard, 2)
+        c = self.client()
+        name = streams.name_of(c, self.shard, 2)
+        for before, after in (("", streams.ALL), (streams.ALL, "")):
+            with c.transaction():
+                streams.publish(c, self.shard, before)
+            with c.transaction():
+                c.execute(f"DELETE FROM {self.shard}.sm_views")
+                c.execute(f"INSERT INTO {self.shard}.sm_cut VALUES (7, 1, 1, '{{}}')" if after == "" else "SELECT 1")
+                streams.publish(c, self.shard, after)
+                c.execute(f"INSERT INTO {self.shard}.sm_views VALUES (1, 1)")
+            found = self.told(c, name)
+            self.assertEqual(found, ["I"] if after else ["D", "I"])
+        streams.drop_stream(DATABASE, name)
 
 
 class SchemaTest(Case):

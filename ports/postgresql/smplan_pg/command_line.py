@@ -11,6 +11,7 @@ import psycopg
 from smplan.failure import Failure
 
 from .adopt import adopt, install, load_of, refuse_server
+from .bouncer import databases_of, servers_of
 from .database import Database
 from .ddl import change
 from .server import Limits, Server
@@ -59,6 +60,14 @@ def run_ddl(told: argparse.Namespace) -> int:
     return 0
 
 
+def run_pgbouncer(told: argparse.Namespace) -> int:
+    """Prints the published map for pgbouncer."""
+    servers = servers_of(Database(told.dsn)) if told.dsn else {}
+    servers.update(dict(it.split("=", 1) for it in told.server))
+    print("\n".join(databases_of(told.map, servers)))
+    return 0
+
+
 def run_settings(told: argparse.Namespace) -> int:
     """Prints what postgresql.conf needs."""
     print(settings(told.shards, told.servers))
@@ -101,6 +110,11 @@ def parser_of() -> argparse.ArgumentParser:
     it.add_argument("--dsn", required=True, help=DSN)
     it.add_argument("--wait", type=float, default=30.0, metavar="SECONDS", help="for requests that run (30)")
     it.set_defaults(run=run_ddl)
+    it = subparsers.add_parser("pgbouncer", help="prints the published map as [databases] of pgbouncer, for fleet.json's `then`")
+    it.add_argument("map", metavar="MAP", help="the map's file")
+    it.add_argument("--dsn", help="a server that knows how all are reached: " + DSN)
+    it.add_argument("--server", action="append", default=[], metavar="NAME=DSN", help="how clients reach a server, if not so")
+    it.set_defaults(run=run_pgbouncer)
     it = subparsers.add_parser("drop", help="makes a shard a plain schema again, or deletes what was set aside")
     it.add_argument("schema", nargs="*")
     it.add_argument("--dsn", required=True, help=DSN)

@@ -183,11 +183,11 @@ class Following:
             row = tx.execute("SELECT pg_current_wal_insert_lsn()::text AS place").fetchone()
             assert row is not None
             mark = it.mark(shard)
+            streams.publish(tx, shard, streams.ALL)  # (first: what a transaction has written before is not told)
             streams.drop_subscription(tx, mine)
             tx.execute("SELECT sm.set_sequences(%s, sequences) FROM (SELECT sequences FROM " + quoted(shard) + ".sm_cut) it", (shard,))
             members = {number: False for number in it.members(shard) if number != self.server.number}
             it.put_members(shard, {**members, slot.party: True})
-            streams.publish(tx, shard, streams.ALL)
             it.put_slot(shard, self.server.agent.seal(slot, cut.handover, cut.position))
             it.put_seal(shard, row["place"], mark)
             it.put_source(shard, None, True)

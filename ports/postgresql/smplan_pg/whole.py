@@ -189,6 +189,7 @@ class Whole:
         """From now on the shard is written here. What it followed is halted already."""
         it = Records(tx)
         place, mark, cut = value(tx.execute("SELECT pg_current_wal_insert_lsn()::text").fetchone()), it.mark(shard), it.cut(shard)
+        streams.publish(tx, shard, streams.ALL)  # (first: what a transaction has written before is not told)
         streams.drop_subscription(tx, streams.name_of(tx, shard, self.server.number))
         if cut is not None:
             tx.execute("SELECT sm.set_sequences(%s, %s::jsonb)", (shard, psycopg.types.json.Jsonb(cut.sequences)))
@@ -196,7 +197,6 @@ class Whole:
         it.end_cut(shard)
         it.put_members(shard, members)
         it.put_view(shard, view, mark.position)
-        streams.publish(tx, shard, streams.ALL)
         it.count(shard)
         it.put_seal(shard, place, mark)
         it.put_source(shard, None, True)
