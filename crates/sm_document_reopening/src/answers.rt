@@ -3,7 +3,7 @@ ghost use Rattle.std.specs.Prelude.{◌≡◌, ◌↔◌, ◌⊎◌, IfOk, OnOk,
 ghost use Rattle.sm_network.specs.Reopening.{Entries, MapOwner, Server, Told, Took, entered, is_first};
 ghost use Rattle.sm_network.specs.ReopeningLaws.{AllTook};
 ghost use Rattle.sm_reopening.specs.States.{fits_told, net_inventory};
-ghost use Rattle.sm_reopening.specs.Ongoing.{net_reopening, shards_of};
+ghost use Rattle.sm_reopening.specs.Ongoing.{net_reopening, position_after, shards_of, told_positions};
 ghost use Rattle.sm_reopening.specs.Settles.{is_due_settle, net_party, settle_messages, settle_sent, settled_of, what_settles};
 ghost use Rattle.sm_document_reopening.specs.Reopening.{IsUnder};
 ghost use Rattle.sm_document_reopening.specs.Told.{has_told_of};
@@ -52,6 +52,7 @@ impl DocumentReopening {
         ensures old { IfOk result (λ effect. (effect ≡ FencedEffect.Old) ↔ (is_first (net_reopening self.old.ongoing) (Server server) base ≡ false)) }
         ensures unchanged { IfOk result (λ effect. effect ≡ FencedEffect.Old → self.new ≡ self.old) }
         ensures reopening { OnOk result (net_reopening self.new.ongoing ≡ entered (Told (Server server) base (net_inventory inventory)) (net_reopening self.old.ongoing)) }
+        ensures positions { OnOk result (told_positions self.new.ongoing ≡ position_after self.old.ongoing server base inventory) }
         ensures under { OnOk result (IsUnder self.old self.new) }
     {
         if !self.is_first(&Party::Server(server), base) {
@@ -66,6 +67,7 @@ impl DocumentReopening {
         requires { fits_told (shards_of self.old.ongoing) (Some inventory) ≡ true }
         ensures old { (result ≡ FencedEffect.Old) ↔ (is_first (net_reopening self.old.ongoing) (Server server) base ≡ false) }
         ensures reopening { net_reopening self.new.ongoing ≡ entered (Told (Server server) base (net_inventory inventory)) (net_reopening self.old.ongoing) }
+        ensures positions { told_positions self.new.ongoing ≡ position_after self.old.ongoing server base inventory }
         ensures under { IsUnder self.old self.new }
     {
         self.ongoing.fenced(server, base, inventory)
