@@ -1,14 +1,16 @@
 -- The effects of lines on a reopening.
-use Rattle.std.specs.Prelude.{◌≡◌, ℕ, List, Option, Some, None, option_map, true}
+use Rattle.std.specs.Prelude.{◌≡◌, ℕ, List, [], Option, Some, None, option_map, true}
 use Rattle.std.specs.Borrow.{Bor}
+use Rattle.json_tree.specs.declared.tree.Tree.{Tree}
 use Rattle.sm_placement.specs.Setup.{Setup, server_named}
 use Rattle.sm_network.specs.Reopening.{Confirm, Entries, Inventory, MapOwner, Party, Server, Settlement, Slots, Told, Took, Unknown, entered, is_first}
 use Rattle.sm_reopening.specs.Faults.{MayConfirm}
-use Rattle.sm_reopening.specs.Ongoing.{net_reopening}
+use Rattle.sm_reopening.specs.Ongoing.{net_reopening, told_positions}
 use Rattle.sm_reopening.specs.Settles.{is_due_settle}
 use Rattle.sm_document_reopening.specs.Reopening.{IsUnder, ReopeningModel}
 use Rattle.sm_commands.specs.declared.command.ToldText.{ToldText}
 use Rattle.sm_commands.specs.declared.command.ToldText.TheVariants as told
+use Rattle.sm_reopening_lines.specs.Slots.{AreSlotsOf}
 
 -- A party has told what it has, for the first time at the fence with this base.
 pub record TakesToldOf (party : Party) (base : ℕ) (inventory : Inventory) (old new : ReopeningModel) : Type 0 where
@@ -44,26 +46,27 @@ abbrev pub party_named : Setup → Option (Bor (List ℕ)) → Option Party
 party_named numbering (Some name) = option_map Server (server_named numbering name.now)
 party_named numbering None = Some MapOwner
 
--- an inventory has slots
-abbrev pub ListsSlots : Inventory → Type 0
-ListsSlots (Slots _ _) = Unit {0}
-ListsSlots (Unknown _) = ⊥
-ListsSlots Entries = ⊥
+-- an inventory, with the positions of its slots, is of the slots that rows tell
+abbrev pub ListsSlots : Setup → List Tree → Inventory → (ℕ → ℕ) → Type 0
+ListsSlots numbering rows (Slots cells reached) positions =
+    AreSlotsOf numbering rows (λ s. record { cell = cells s; position = positions s; reached = reached s })
+ListsSlots numbering rows (Unknown _) positions = ⊥
+ListsSlots numbering rows Entries positions = ⊥
 
 -- the inventory of a server is what a line tells: slots, or the nonce under which it asks for them
-abbrev pub IsToldAs : ToldText → Inventory → Type 0
-IsToldAs (told.Unknown nonce) inventory = inventory ≡ Unknown nonce
-IsToldAs (told.Slots _) inventory = ListsSlots inventory
-IsToldAs told.Map inventory = ListsSlots inventory
+abbrev pub IsToldAs : Setup → ToldText → Inventory → (ℕ → ℕ) → Type 0
+IsToldAs numbering (told.Unknown nonce) inventory positions = inventory ≡ Unknown nonce
+IsToldAs numbering (told.Slots rows) inventory positions = ListsSlots numbering rows.now inventory positions
+IsToldAs numbering told.Map inventory positions = ListsSlots numbering [] inventory positions
 
 -- that of the map's owner is the map
-abbrev pub IsInventoryOf : Party → ToldText → Inventory → Type 0
-IsInventoryOf (Server _) told inventory = IsToldAs told inventory
-IsInventoryOf MapOwner told inventory = inventory ≡ Entries
+abbrev pub IsInventoryOf : Party → ToldText → Inventory → ReopeningModel → Type 0
+IsInventoryOf (Server v) told inventory new = IsToldAs new.numbering told inventory (λ s. told_positions new.ongoing s v)
+IsInventoryOf MapOwner told inventory new = inventory ≡ Entries
 
--- a party has told what a line tells
+-- a party has told what a line tells, by the names that have numbers
 abbrev pub TakesToldBy : Party → ℕ → ToldText → ReopeningModel → ReopeningModel → Type 0
-TakesToldBy party base told old new = (inventory : Inventory) × IsInventoryOf party told inventory × TakesToldOf party base inventory old new
+TakesToldBy party base told old new = (inventory : Inventory) × IsInventoryOf party told inventory new × TakesToldOf party base inventory old new
 
 -- the party that a line names has told what it tells
 abbrev pub TakesFenced : Option (Bor (List ℕ)) → ℕ → ToldText → ReopeningModel → ReopeningModel → Type 0

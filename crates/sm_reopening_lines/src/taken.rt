@@ -2,7 +2,7 @@
 ghost use Rattle.std.specs.Prelude.{◌≡◌, IfOk, Some, option_map, true};
 ghost use Rattle.sm_commands.specs.declared.command.ToldText.{ToldText};
 ghost use Rattle.sm_network.specs.Reopening.{MapOwner, Server};
-ghost use Rattle.sm_reopening.specs.States.{fits_told, net_inventory};
+ghost use Rattle.sm_reopening.specs.States.{fits_told, net_inventory, told_position};
 ghost use Rattle.sm_reopening.specs.Ongoing.{net_reopening, shards_of};
 ghost use Rattle.sm_reopening.specs.Settles.{net_party};
 ghost use Rattle.sm_reopening_lines.specs.Outcomes.{DoesConfirm, DoesFenced, DoesFencedOf, DoesSettled, DoesSettledOf};
@@ -38,7 +38,8 @@ fn read_told<'a>(
 ) -> Result<Result<Told, BadLine<'a>>, AllocError>
     ensures fits { IfOk result (λ read. IfOk read (λ t.
         fits_told (shards_of reopening.now.ongoing) (Some t.inventory) ≡ true)) }
-    ensures said { IfOk result (λ read. IfOk read (λ t. IsToldAs told.entry (net_inventory t.inventory))) }
+    ensures said { IfOk result (λ read. IfOk read (λ t.
+        IsToldAs reopening.now.numbering told.entry (net_inventory t.inventory) (told_position (Some t.inventory)))) }
 {
     let numbering = reopening.numbering();
     match told {
