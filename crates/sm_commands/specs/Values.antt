@@ -1,5 +1,5 @@
 -- The values of the members of a line's object.
--- `is_hexadecimal` and `truth_at` are internal: you need not read them for the public contracts.
+-- `is_hexadecimal` is internal: you need not read it for the public contracts.
 use Rattle.std.specs.Prelude.{◌&&◌, ◌||◌, ℕ, List, Bool, Option, nat_le, option_and_then, option_map, unwrap_or}
 use Rattle.std.specs.Str.Parse.{digits_value}
 use Rattle.serde_json.specs.Data.{Data, Items, no_items}
