@@ -1,7 +1,7 @@
 """Reads documents, plans and reports from files or from standard input."""
 import sys
 from dataclasses import dataclass
-from typing import Any, Optional
+from typing import Any, List, Optional
 
 from .failure import Failure
 from .faults import answered
@@ -26,7 +26,20 @@ def read_bytes(path: str) -> bytes:
 
 def read_value(path: str) -> Any:
     """Returns the JSON value of a file. If there is none, a first line that says why no plan was made is told."""
+    return value_of(read_bytes(path), path)
+
+
+def read_values(path: str) -> List[Any]:
+    """Returns the JSON values of a file: one for each line, or one in all."""
     data = read_bytes(path)
+    lines = data.splitlines()
+    if len(lines) < 2 or read_text(lines[0]).fault:
+        return [value_of(data, path)]
+    return [value_of(it, f"{name_of(path)}, line {number}") for number, it in enumerate(lines, 1) if it]
+
+
+def value_of(data: bytes, path: str) -> Any:
+    """Returns the JSON value of what was read. If there is none, a first line that says why no plan was made is told."""
     text = read_text(data)
     if text.fault is None:
         return text.value
@@ -66,12 +79,21 @@ class PlanText:
     document: Optional[Document]
 
 
-def read_plan_or_document(path: str) -> PlanText:
-    """Reads a document, or a plan by itself."""
-    value = read_value(path)
+def plan_or_document(value: Any, path: str) -> PlanText:
+    """Returns what a JSON value says that is to be a document, or a plan by itself."""
     if not is_plan(value):
         return PlanText(value, document_from(value, path))
     fault = answered(plan_faults(value))
     if fault:
         raise Failure(f"{name_of(path)}: {fault.line}: {fault.place}: {fault.what}")
     return PlanText(value, None)
+
+
+def read_plan_or_document(path: str) -> PlanText:
+    """Reads a document, or a plan by itself."""
+    return plan_or_document(read_value(path), path)
+
+
+def read_plans_or_documents(path: str) -> List[PlanText]:
+    """Reads one of them, or several, one a line."""
+    return [plan_or_document(it, path) for it in read_values(path)]

@@ -10,8 +10,8 @@ from typing import AbstractSet, Dict, List, Optional, Sequence, Tuple
 
 from .model import Document, Spot
 from .placement import Finding, Placement
-from .story import Story
-from .width import most_at_once
+from .story import Story, led, servers_of
+from .width import AtOnce, most_at_once, most_in_turn
 from .words import carried, counted, in_words, label, rights_in_words
 
 FOLDER = Path(__file__).parent
@@ -45,11 +45,12 @@ def esc(text: object) -> str:
 
 @dataclass(frozen=True)
 class PlanPage:
-    """A plan of a page: its story, what the program says of it, and why it is refused, if it is."""
+    """A plan of a page: its story, what the program says of it, why it is refused, if it is, and the load that a copy moves in a second, if that is known."""
 
     story: Story
     verdict: Optional[str]
     findings: Sequence[Finding]
+    rate: Optional[int] = None
 
 
 # ---- lanes
@@ -295,12 +296,11 @@ def servers_html(placements: Sequence[Placement], names: Sequence[str], shards: 
     rows, known = [], set(shards)
     for name in names:
         region = placements[0].document.servers[name].region
-        led = " → ".join(dict.fromkeys(str(list(it.replicas[name].values()).count("primary")) for it in placements))
         bars = []
         for it in placements:
             other = next((one for one in placements if one is not it), None)
             bars.append(f"<td>{bar_html(it, name, known, other)}</td>")
-        rows.append(f'<tr data-server="{esc(name)}"><th scope="row"><b>{esc(name)}</b><em>{esc(region)}</em></th>{"".join(bars)}<td class="number">{led}</td></tr>')
+        rows.append(f'<tr data-server="{esc(name)}"><th scope="row"><b>{esc(name)}</b><em>{esc(region)}</em></th>{"".join(bars)}<td class="number">{" → ".join(map(str, led(name, placements)))}</td></tr>')
     head = f'<tr><th>server</th>{"".join(f"<th>{it}</th>" for it in heads)}<th>primaries</th></tr>'
     return folded(rows, "server", f'<div class="wide"><table class="servers">{head}', "</table></div>")
 
@@ -327,6 +327,10 @@ def shards_html(placements: Sequence[Placement], shards: Sequence[str]) -> str:
 
 # ---- the parts of a page
 
+# A number, with its noun.
+Tile = Tuple[int, str]
+
+
 def badge_html(verdict: Optional[str]) -> str:
     if verdict is None:
         return '<span class="badge unknown">not checked</span>'
@@ -334,18 +338,33 @@ def badge_html(verdict: Optional[str]) -> str:
     return f'<span class="badge {kind}">{esc(verdict)}</span>'
 
 
-def tiles_html(story: Story) -> str:
-    plan = story.plan
-    tiles = [(len(plan.streams), "stream"), (plan.calls, "call"), (len(plan.signals), "signal"), (len(story.rounds), "round")]
-    if story.document:
-        changes = story.changes()
-        added = [it for it in changes if it.before is None]
-        dropped = sum(it.after is None for it in changes)
-        at_once = most_at_once(plan, story.document)
-        if at_once:
-            tiles += [(at_once.in_all, "most copies at once"), (at_once.at_server, "most at a server"), (at_once.chain, "load copied one after the other")]
-        tiles += [(len(added), "replica to add"), (dropped, "replica to drop"), (sum(story.document.shards[it.shard].load for it in added), "load to copy")]
+def tiles_html(tiles: Sequence[Tile]) -> str:
     return '<div class="tiles">' + "".join(f'<div class="tile"><b>{count}</b><span>{tile_name(count, name)}</span></div>' for count, name in tiles) + "</div>"
+
+
+def at_once_tiles(at_once: Optional[AtOnce], rate: Optional[int]) -> List[Tile]:
+    """How many copies are made at once, and how long they take."""
+    if at_once is None:
+        return []
+    found = [(at_once.in_all, "most copies at once"), (at_once.at_server, "most at a server"), (at_once.chain, "load copied one after the other")]
+    return found + ([(-(-at_once.chain // rate), "second at least")] if rate else [])
+
+
+def change_tiles(stories: Sequence[Story]) -> List[Tile]:
+    """What becomes of the replicas, and what is copied."""
+    changes = [it for story in stories for it in story.changes()]
+    added, dropped = [it for it in changes if it.before is None], sum(it.after is None for it in changes)
+    copied = sum(stories[0].before.document.shards[it.shard].load for it in added)
+    return [(len(added), "replica to add"), (dropped, "replica to drop"), (copied, "load to copy")]
+
+
+def plan_tiles(plan: PlanPage) -> List[Tile]:
+    """What a plan comes to, in numbers."""
+    story = plan.story
+    found = [(len(story.plan.streams), "stream"), (story.plan.calls, "call"), (len(story.plan.signals), "signal"), (len(story.rounds), "round")]
+    if story.document:
+        found += at_once_tiles(most_at_once(story.plan, story.document), plan.rate) + change_tiles([story])
+    return found
 
 
 def tile_name(count: int, name: str) -> str:
@@ -402,10 +421,25 @@ def player_html(story: Story) -> str:
     )
 
 
+def ends_html(ends: Sequence[Placement], names: Sequence[str], shards: Sequence[str]) -> str:
+    return f'<section><h2>Servers, before and after</h2><p class="note">A bar is as long as the server\'s room. Outlined replicas come, go, or change their role. ' \
+           f'Point at one for its name.</p>{legend_html(REPLICAS)}{servers_html(ends, names, shards)}</section>'
+
+
+def campaign_html(stories: Sequence[Story], heading: str, rate: Optional[int]) -> str:
+    """What plans come to of which each is of the placement that the one before leaves."""
+    at_once = most_in_turn([(it.plan, it.document) for it in stories if it.document])
+    tiles = [(len(stories), "plan"), (sum(it.plan.calls for it in stories), "call"), *at_once_tiles(at_once, rate), *change_tiles(stories)]
+    touched = {name for it in stories for name in it.shards_touched()}
+    shards = [name for name in stories[0].before.document.shards if name in touched]
+    body = ends_html([stories[0].before, stories[-1].after], servers_of(stories), shards)
+    return f'<article class="plan"><header><h1>{esc(heading)}</h1></header>{tiles_html(tiles)}{body}</article>'
+
+
 def plan_html(plan: PlanPage, heading: str) -> str:
     story = plan.story
     boxes = boxes_of(story)
-    head = f'<article class="plan"><header><h1>{esc(heading)}</h1>{badge_html(plan.verdict)}</header>{tiles_html(story)}{findings_html(plan.findings)}'
+    head = f'<article class="plan"><header><h1>{esc(heading)}</h1>{badge_html(plan.verdict)}</header>{tiles_html(plan_tiles(plan))}{findings_html(plan.findings)}'
     lanes = f'<section><h2>Streams</h2><p class="note">In each round, every stream that is able to makes one step. An arrow is a signal, which hands rights on.</p>' \
             f'{legend_html(LEGEND)}{player_html(story)}{overview_html(story, boxes)}{lanes_html(story, boxes)}</section>'
     body = ""
@@ -414,8 +448,7 @@ def plan_html(plan: PlanPage, heading: str) -> str:
         names, shards = fullest_first(story), story.shards_touched()
         if names:
             body += f'<section><h2>Load over the rounds</h2><p class="note">The dashed line is the server\'s room.</p>{charts_html(story)}</section>'
-            body += f'<section><h2>Servers, before and after</h2><p class="note">A bar is as long as the server\'s room. Outlined replicas come, go, or change their role. ' \
-                    f'Point at one for its name.</p>{legend_html(REPLICAS)}{servers_html(ends, names, shards)}</section>'
+            body += ends_html(ends, names, shards)
         if shards:
             body += f"<section><h2>Shards, before and after</h2>{shards_html(ends, shards)}</section>"
     return head + lanes + body + signals_html(story) + words_html(story) + "</article>"

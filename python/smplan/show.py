@@ -12,12 +12,12 @@ from . import mermaid, page, program
 from .documents import with_plan
 from .explain import findings_in
 from .failure import Failure
-from .files import PlanText, read_plan_or_document
-from .model import CALLS, Document, Json, Spot, plan_of
+from .files import PlanText, read_plans_or_documents
+from .model import CALLS, Document, Instruction, Json, Spot, plan_of
 from .placement import Finding, Placement, opening_findings
-from .story import Change, Story
+from .story import Change, Story, led, servers_of
 from .verdict import holding_findings, plan_findings
-from .width import most_at_once
+from .width import AtOnce, most_at_once, most_in_turn
 from .words import counted, in_words, label, rights_in_words
 
 SIGNS = {"add": "+", "drop": "-", "change": "~"}
@@ -37,22 +37,40 @@ def kind_of(change: Change) -> str:
     return "add" if change.before is None else "drop" if change.after is None else "change"
 
 
+def calls_of(story: Story) -> List[Instruction]:
+    return [it for stream in story.plan.streams for it in stream.code if it.do in CALLS]
+
+
+def copies_in_words(stories: Sequence[Story]) -> str:
+    """Returns what becomes of the replicas, and what is copied, in words."""
+    changes = [it for story in stories for it in story.changes()]
+    kinds = [kind_of(it) for it in changes]
+    copied = sum(stories[0].before.document.shards[it.shard].load for it in changes if it.before is None)
+    return f"{counted(kinds.count('add'), 'replica')} to add, {kinds.count('drop')} to drop, {kinds.count('change')} to change role; load {copied} to copy"
+
+
+def at_once_lines(at_once: Optional[AtOnce], rate: Optional[int], indent: str) -> List[str]:
+    """Returns how many copies are made at once, and how long they take at a rate, the load that a copy moves in a second."""
+    return [f"{indent}{at_once}" + (f", at least {at_once.chain / rate:.0f} s" if rate else "")] if at_once else []
+
+
 def summary(story: Story, rate: Optional[int] = None) -> List[str]:
-    """Returns what the plan comes to, in a few lines. `rate` is the load that a copy moves in a second."""
-    plan = story.plan
-    calls = [it for stream in plan.streams for it in stream.code if it.do in CALLS]
+    """Returns what the plan comes to, in a few lines."""
+    plan, calls = story.plan, calls_of(story)
     size = f"{counted(len(plan.streams), 'stream')}, {counted(len(calls), 'call')} to {counted(len({it.server for it in calls}), 'server')}, " \
            f"{counted(len(story.shards_touched()), 'shard')}, {counted(len(plan.signals), 'signal')}"
     if not story.document:
         return [f"Plan: {size}"]
-    kinds = [kind_of(it) for it in story.changes()]
-    copied = sum(story.document.shards[it.shard].load for it in story.changes() if it.before is None)
-    at_once = most_at_once(story.plan, story.document)
-    return [
-        f"Plan: {counted(kinds.count('add'), 'replica')} to add, {kinds.count('drop')} to drop, {kinds.count('change')} to change role; load {copied} to copy",
-        f"      {size}",
-        *([f"      {at_once}" + (f", at least {at_once.chain / rate:.0f} s" if rate else "")] if at_once else []),
-    ]
+    return [f"Plan: {copies_in_words([story])}", f"      {size}", *at_once_lines(most_at_once(story.plan, story.document), rate, "      ")]
+
+
+def campaign_lines(stories: Sequence[Story], rate: Optional[int] = None) -> List[str]:
+    """Returns what plans come to of which each is of the placement that the one before leaves."""
+    indent = " " * len("Campaign: ")
+    calls = sum(len(calls_of(it)) for it in stories)
+    at_once = most_in_turn([(it.plan, it.document) for it in stories if it.document])
+    return [f"Campaign: {copies_in_words(stories)}", f"{indent}{counted(len(stories), 'plan')}, {counted(calls, 'call')}", *at_once_lines(at_once, rate, indent),
+            "", *server_lines(stories)]
 
 
 def replica_lines(story: Story) -> List[str]:
@@ -69,14 +87,14 @@ def replica_lines(story: Story) -> List[str]:
     return table(rows)
 
 
-def server_lines(story: Story) -> List[str]:
-    """Returns the load of each server that the plan touches: before, after, and the most under way."""
-    loads = story.loads
+def server_lines(stories: Sequence[Story]) -> List[str]:
+    """Returns the load of each server that plans touch, and how many shards it leads: before the first, and after the last; and the most load under way."""
+    before, after = stories[0].before, stories[-1].after
     rows = [["server", "region", "room", "load", "after", "most", "primaries"]]
-    for name in story.servers_touched():
-        server = story.before.document.servers[name]
-        over = "  above its room" if max(it[name] for it in loads) > server.room else ""
-        rows.append([name, server.region, str(server.room), str(loads[0][name]), str(loads[-1][name]), str(max(it[name] for it in loads)), story.led(name) + over])
+    for name in servers_of(stories):
+        server, most = before.document.servers[name], max(it[name] for story in stories for it in story.loads if name in it)
+        over = "  above its room" if most > server.room else ""
+        rows.append([name, server.region, str(server.room), str(before.loads[name]), str(after.loads[name]), str(most), " -> ".join(map(str, led(name, (before, after)))) + over])
     return table(rows, right=(2, 3, 4, 5))
 
 
@@ -102,7 +120,7 @@ def text_of(story: Story, rate: Optional[int] = None) -> str:
     """Returns a plan for people."""
     lines = summary(story, rate)
     if story.document:
-        lines += ["", *(replica_lines(story) or ["  no replica moves"]), "", *server_lines(story)]
+        lines += ["", *(replica_lines(story) or ["  no replica moves"]), "", *server_lines([story])]
     for number in range(len(story.plan.streams)):
         lines += ["", *stream_lines(story, number)]
     return "\n".join(lines)
@@ -188,10 +206,15 @@ def pictures_or_none(text: PlanText, given: Optional[str] = None) -> List[Pictur
         return []
 
 
-def texts_of(text: PlanText, pictures: List[Picture], rate: Optional[int] = None) -> List[str]:
-    """Returns what is printed of each plan, or of a document without one."""
-    if not pictures and text.document:
-        return [placement_text(text.document)]
+def campaign_of(pictures: List[Picture]) -> List[Story]:
+    """Returns the plans' stories, if there are several of which each has its own document."""
+    stories = [it.story for it in pictures]
+    documents = {id(it.document) for it in stories if it.document}
+    return stories if len(documents) == len(stories) > 1 else []
+
+
+def texts_of(pictures: List[Picture], rate: Optional[int] = None) -> List[str]:
+    """Returns what is printed of each plan."""
     found = []
     for number, picture in enumerate(pictures):
         head = f"== plan {number} of {len(pictures)} ==\n" if len(pictures) > 1 else ""
@@ -200,16 +223,23 @@ def texts_of(text: PlanText, pictures: List[Picture], rate: Optional[int] = None
     return found
 
 
-def summaries_of(text: PlanText, pictures: List[Picture], rate: Optional[int] = None) -> List[str]:
-    """Returns what each plan comes to, without its replicas and steps; of a document without one the servers' loads."""
-    if not pictures and text.document:
-        return ["\n".join(room_lines(text.document))]
+def summaries_of(pictures: List[Picture], rate: Optional[int] = None) -> List[str]:
+    """Returns what each plan comes to, without its replicas and steps."""
     found = []
     for it in pictures:
-        loads = ["", *server_lines(it.story)] if it.story.document else []
+        loads = ["", *server_lines([it.story])] if it.story.document else []
         said = ["", f"smplan check: {it.verdict}"] if it.verdict else []
         found.append("\n".join([*summary(it.story, rate), *loads, *said]))
     return found
+
+
+def text_shown(arguments: argparse.Namespace, text: PlanText, pictures: List[Picture]) -> str:
+    """Returns what is printed of plans, or of a document without one."""
+    if not pictures and text.document:
+        return "\n".join(room_lines(text.document)) if arguments.summary else placement_text(text.document)
+    campaign = campaign_of(pictures)
+    first = ["\n".join(campaign_lines(campaign, arguments.rate))] if campaign else []
+    return "\n\n".join(first + (summaries_of if arguments.summary else texts_of)(pictures, arguments.rate))
 
 
 def findings_of(picture: Picture) -> List[Finding]:
@@ -221,12 +251,13 @@ def findings_of(picture: Picture) -> List[Finding]:
     return opening or plan_findings(picture.story.plan, Placement(document)) or holding_findings(picture.story.plan, Placement(document))
 
 
-def page_of(text: PlanText, pictures: List[Picture], name: str) -> str:
-    """Returns the page of a file's plans, or of a document without one."""
-    articles = []
+def page_of(text: PlanText, pictures: List[Picture], name: str, rate: Optional[int] = None) -> str:
+    """Returns the page of plans, or of a document without one."""
+    campaign = campaign_of(pictures)
+    articles = [page.campaign_html(campaign, name, rate)] if campaign else []
     for number, it in enumerate(pictures):
         heading = f"{name}: plan {number}" if len(pictures) > 1 else name
-        articles.append(page.plan_html(page.PlanPage(it.story, it.verdict, findings_of(it)), heading))
+        articles.append(page.plan_html(page.PlanPage(it.story, it.verdict, findings_of(it), rate), heading))
     if not pictures and text.document:
         articles.append(page.placement_html(text.document, name, findings_in(text.document, None)))
     return page.page(name, articles)
@@ -251,18 +282,18 @@ def painted(text: str) -> str:
 
 
 def show(arguments: argparse.Namespace) -> int:
-    text = read_plan_or_document(arguments.document)
-    if arguments.html:
+    texts, is_page = read_plans_or_documents(arguments.document), arguments.html is not None
+    pictures = [it for text in texts for it in (pictures_or_none if is_page else pictures_of)(text, arguments.program)]
+    if is_page:
         name = "plan" if arguments.document == "-" else Path(arguments.document).name
-        write_page(arguments.html, page_of(text, pictures_or_none(text, arguments.program), arguments.title or name))
+        write_page(arguments.html, page_of(texts[0], pictures, arguments.title or name, arguments.rate))
         return 0
-    pictures = pictures_of(text, arguments.program)
     if arguments.mermaid:
         if not pictures:
             raise Failure("the document has no plan", 1)
         print("\n".join(mermaid.chart(it.story) for it in pictures))
         return 0
-    shown = "\n\n".join((summaries_of if arguments.summary else texts_of)(text, pictures, arguments.rate))
+    shown = text_shown(arguments, texts[0], pictures)
     print(painted(shown) if sys.stdout.isatty() and "NO_COLOR" not in os.environ else shown)
     return 0
 
@@ -281,10 +312,11 @@ def add_parser(subparsers: Any) -> None:
         epilog="example: smplan-tools show --html plan.html placement.json",
         help="show a plan for people",
         description="Shows the plan of a document, or a plan by itself: what it comes to, and each stream's steps in words. For a document with moves or a "
-        "server to empty, and no plan, smplan makes the plan. The last line is what 'smplan check' says of it.",
+        "server to empty, and no plan, smplan makes the plan. The last line is what 'smplan check' says of it. Of several documents, one a line, as 'drain --batch' "
+        "prints them, it first tells what they come to together.",
     )
     program.add_option(parser)
-    parser.add_argument("document", nargs="?", default="-", metavar="DOCUMENT", help="a document, or a plan by itself (standard input)")
+    parser.add_argument("document", nargs="?", default="-", metavar="DOCUMENT", help="a document, a plan by itself, or several, one a line (standard input)")
     parser.add_argument("--summary", action="store_true", help="print what the plan comes to, and the servers' loads, without each replica and step")
     parser.add_argument("--mermaid", action="store_true", help="print a Mermaid chart")
     parser.add_argument("--html", metavar="FILE", help="write a page that needs no network")

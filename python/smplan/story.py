@@ -3,7 +3,7 @@
 A plan that passes the check comes to one end, whatever the schedule is; the rounds are the schedule in which all streams are equally fast.
 """
 from dataclasses import dataclass
-from typing import Dict, List, Optional, Set, Tuple
+from typing import Dict, List, Optional, Sequence, Set, Tuple
 
 from .model import Document, Parcel, Plan, Spot
 from .placement import Placement
@@ -91,11 +91,6 @@ class Story:
         order = list(self.document.servers) if self.document else sorted(named)
         return [name for name in order if name in named]
 
-    def led(self, server: str) -> str:
-        """Returns how many shards a server leads, before and after if that changes."""
-        counts = [list(it.replicas[server].values()).count("primary") for it in (self.before, self.after)]
-        return " -> ".join(map(str, dict.fromkeys(counts)))
-
     def shards_touched(self) -> List[str]:
         named = {it.shard for stream in self.plan.streams for it in stream.code if it.shard}
         order = list(self.document.shards) if self.document else sorted(named)
@@ -111,3 +106,14 @@ def followed(plan: Plan, before: Placement, rounds: List[List[Spot]], servers: L
             placement.make(plan.at(spot))
         rows.append({name: placement.loads[name] for name in servers})
     return placement, rows
+
+
+def servers_of(stories: Sequence[Story]) -> List[str]:
+    """Returns the servers that plans touch, in the document's order."""
+    touched = {name for it in stories for name in it.servers_touched()}
+    return [name for name in stories[0].before.document.servers if name in touched]
+
+
+def led(server: str, placements: Sequence[Placement]) -> List[int]:
+    """Returns how many shards a server leads in each of the placements, once if that stays."""
+    return list(dict.fromkeys(list(it.replicas[server].values()).count("primary") for it in placements))

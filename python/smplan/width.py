@@ -127,3 +127,18 @@ def most_at_once(plan: Plan, document: Document) -> Optional[AtOnce]:
     servers = [name for name in document.servers if any(it.burdens(name) for it in copies)]
     chain = longest(copies, {name: it.load for name, it in document.shards.items()})
     return AtOnce(widest(copies), {name: widest([it for it in copies if it.burdens(name)]) for name in servers}, chain)
+
+
+def most_in_turn(plans: Sequence[Tuple[Plan, Document]]) -> Optional[AtOnce]:
+    """The most copies at once of plans that run one after the other; none if they have none, or one has too many to look."""
+    found = []
+    for plan, document in plans:
+        at_once = most_at_once(plan, document)
+        if at_once is None and copies_of(plan, document):
+            return None
+        found += [at_once] if at_once else []
+    if not found:
+        return None
+    servers = {name for it in found for name in it.by_server}
+    by_server = {name: max(it.by_server.get(name, 0) for it in found) for name in servers}
+    return AtOnce(max(it.in_all for it in found), by_server, sum(it.chain for it in found))

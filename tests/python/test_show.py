@@ -92,6 +92,44 @@ class Text(unittest.TestCase):
         self.assertEqual(3, out.count("== plan "))
 
 
+class Campaigns(unittest.TestCase):
+    """Several documents, one a line, each of the placement that the plan before leaves."""
+
+    def setUp(self):
+        self.text = tools("drain", str(example("drain-berlin-1")), "berlin-1", "--batch", "1").out
+
+    def test_what_plans_come_to_together_stands_first(self):
+        out = tools("show", "--summary", "--rate", "10", text=self.text).out
+        self.assertTrue(out.startswith(
+            "Campaign: 2 replicas to add, 2 to drop, 0 to change role; load 70 to copy\n"
+            "          2 plans, 6 calls\n"
+            "          at most 1 copy at once, 1 at a server; load 70 is copied one after the other, at least 7 s\n\n"
+            "  server    region  room  load  after  most  primaries\n"
+            "  berlin-1  berlin   100    70      0    70  1 -> 0\n"
+            "  berlin-2  berlin   100    40     70    70  1 -> 2\n"
+            "  berlin-3  berlin   100     0     40    40  0\n\n"
+            "Plan: 1 replica to add, 1 to drop"), out)
+        self.assertEqual(2, tools("show", text=self.text).out.count("== plan "))
+
+    def test_a_page_has_them_too(self):
+        with written(self.text) as path, tempfile.TemporaryDirectory() as folder:
+            page = pathlib.Path(folder) / "page.html"
+            self.assertEqual(0, tools("show", "--html", str(page), "--rate", "8", path).status)
+            text = page.read_text()
+        self.assertEqual(["document.json", "document.json: plan 0", "document.json: plan 1"], re.findall("<h1>(.*?)</h1>", text))
+        self.assertEqual(["9", "4", "5"], re.findall('<b>([0-9]*)</b><span>seconds at least', text))
+        self.assertIn('<td class="number">1 → 2</td>', text.split("<article")[1])
+
+    def test_plans_of_one_document_are_no_campaign(self):
+        self.assertNotIn("Campaign", tools("show", str(example("play-two-plans"))).out)
+
+    def test_each_line_is_read(self):
+        done = tools("show", text=self.text + "{")
+        self.assertEqual((2, ""), (done.status, done.out))
+        self.assertIn("standard input, line 3: bad input: 2 NotJson", done.err)
+        self.assertEqual(tools("show", text=self.text).out, tools("show", text=self.text.replace("\n", "\n\n")).out)
+
+
 class Rounds(unittest.TestCase):
     def test_rounds_keep_the_order_of_streams_and_signals(self):
         plan = document_of(load(example("plan-two-streams"))).plan
