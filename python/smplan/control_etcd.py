@@ -99,6 +99,14 @@ def object_of(text: bytes) -> dict[str, Any]:
     return answer
 
 
+def refusal_of(text: bytes) -> dict[str, Any]:
+    """Reads an answer that is none of the request, which may be bare words."""
+    try:
+        return object_of(text)
+    except ValueError:
+        return {"message": text.decode(errors="replace").strip()[:200]}
+
+
 def entries_of(answer: dict[str, Any]) -> list[Entry]:
     """Returns the keys of an answer."""
     with reading():
@@ -139,7 +147,7 @@ class Etcd:
         used: List[Connection] = []
         try:
             status, text = await asyncio.wait_for(self.exchange_once(used, path, body), self.timeout)
-            answer = object_of(text)
+            answer = object_of(text) if status == 200 else refusal_of(text)
         except (OSError, EOFError, LookupError, ValueError, RecursionError, asyncio.LimitOverrunError, asyncio.TimeoutError) as why:
             self.leave_member(used[0] if used else None)
             raise EtcdFault(f"etcd: {type(why).__name__} {why}") from None

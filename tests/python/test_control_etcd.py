@@ -4,7 +4,9 @@ import json
 import logging
 import os
 import pathlib
+import shutil
 import signal
+import subprocess
 import sys
 import tempfile
 import unittest
@@ -17,14 +19,17 @@ from cluster.controllers.etcd import Etcd, EtcdFault  # noqa: E402  (the path co
 from cluster.controllers.journal import LEADER, EtcdJournal, JournalLost, key_of  # noqa: E402
 from cluster.controllers.member import Member, Settings  # noqa: E402
 from cluster.wire import Cluster  # noqa: E402
+from smplan import control_commands  # noqa: E402
 from smplan.control import Pace, StoreLost, StoreRefused  # noqa: E402
-from smplan.control_etcd import EtcdRefused  # noqa: E402
+from smplan.control_etcd import EtcdRefused, encoded  # noqa: E402
 from smplan.control_etcd_journal import Keys  # noqa: E402
+from smplan.control_etcd_lease import Lease  # noqa: E402
 from smplan.control_etcd_map import EtcdMap  # noqa: E402
 from smplan.control_store import Trial, check  # noqa: E402
-from smplan.control_run import Settings as RunSettings  # noqa: E402
+from smplan.control_run import Settings as RunSettings, etcd_of  # noqa: E402
 from smplan.control_run_etcd import AmongOthers, EtcdSettings  # noqa: E402
 from test_controllers import FakeEtcd  # noqa: E402
+from test_server_frame import free_ports  # noqa: E402
 
 # (asyncio tells in its debug mode of each step that a busy machine made slow)
 logging.getLogger("asyncio").setLevel(logging.ERROR)
@@ -70,6 +75,9 @@ class OddEtcd(unittest.IsolatedAsyncioTestCase):
             etcd = await self.client(answer)
             with self.subTest(answer=answer[:60]), self.assertRaises(EtcdFault):
                 await etcd.transact([], [])
+        etcd = await self.client(page("no certificates with names here", "400 Bad Request"))
+        with self.assertRaisesRegex(EtcdFault, "no certificates with names here"):
+            await etcd.transact([], [])
 
     async def test_answers_without_their_members_are_faults(self):
         for text in ('{"kvs":[{}]}', '{"kvs":[{"key":"x","version":"1","mod_revision":"1"}]}', '{"kvs":7}', '{"result":[]}'):
@@ -292,6 +300,68 @@ class MemberTest(unittest.IsolatedAsyncioTestCase):
         self.assertEqual(sum('"do":"confirm","base":200' in it for it in self.stored()), 1)
         self.assertEqual(sum('"do":"confirm"' in it for it in self.stored()), 1)
         self.assertEqual([it for it in self.log if it.startswith("leaves")], ["leaves the proposal of base 100 to an operator: shards that nobody has whole: s, t"])
+
+
+@unittest.skipUnless(shutil.which("etcd") and shutil.which("openssl"), "there is no etcd or no openssl")
+class SecretEtcdTest(unittest.IsolatedAsyncioTestCase):
+    """A real etcd, which asks for certificates, and lets a user have the keys of one prefix."""
+
+    async def asyncSetUp(self):
+        folder = tempfile.TemporaryDirectory()
+        self.addCleanup(folder.cleanup)
+        self.folder, (port, peer) = pathlib.Path(folder.name), free_ports(2)
+        self.certificate("server")
+        self.certificate("other")
+        (self.folder / "user").write_text("k0:secret\n")
+        self.url, peers = f"https://127.0.0.1:{port}", f"http://127.0.0.1:{peer}"
+        self.etcd = subprocess.Popen(
+            ["etcd", "--data-dir", f"{folder.name}/data", "--listen-client-urls", self.url, "--advertise-client-urls", self.url, "--listen-peer-urls", peers,
+             "--initial-advertise-peer-urls", peers, "--initial-cluster", f"default={peers}", "--cert-file", f"{folder.name}/server.cert",
+             "--key-file", f"{folder.name}/server.key", "--client-cert-auth", "--trusted-ca-file", f"{folder.name}/server.cert", "--bcrypt-cost", "4", "--log-level", "error"],
+            stdout=subprocess.DEVNULL, stderr=subprocess.DEVNULL)
+        self.addCleanup(self.etcd.wait)
+        self.addCleanup(self.etcd.kill)
+        await self.let_in()
+
+    def certificate(self, name):
+        subprocess.run(["openssl", "req", "-x509", "-newkey", "ec", "-pkeyopt", "ec_paramgen_curve:prime256v1", "-nodes", "-keyout", self.folder / f"{name}.key", "-out", self.folder / f"{name}.cert",
+                        "-subj", "/O=it", "-addext", "subjectAltName=IP:127.0.0.1", "-days", "1"], check=True, capture_output=True)
+
+    def settings(self, ca="server", cert="server", user="user"):
+        words = ["run", "fleet.json", "--session", "it", "--name", "k0", "--etcd-prefix", "x/", "--etcd", self.url, "--etcd-ca", f"{self.folder}/{ca}.cert"]
+        words += ["--etcd-cert", f"{self.folder}/{cert}.cert", f"{self.folder}/{cert}.key"] if cert else []
+        return etcd_of(control_commands.parser().parse_args(words + (["--etcd-user", f"{self.folder}/{user}"] if user else [])))
+
+    async def let_in(self):
+        """Makes the user, whose are the keys of its prefix."""
+        client = self.settings(user=None).client(30.0)
+        asked = [("user/add", {"name": "root", "password": "it"}), ("role/add", {"name": "root"}), ("user/grant", {"user": "root", "role": "root"}),
+                 ("user/add", {"name": "k0", "password": "secret"}), ("role/add", {"name": "of-x"}), ("user/grant", {"user": "k0", "role": "of-x"}),
+                 ("role/grant", {"name": "of-x", "perm": {"permType": "READWRITE", "key": encoded("x/"), "range_end": encoded("x0")}}), ("enable", {})]
+        for path, line in asked:
+            await client.post_again(f"/v3/auth/{path}", line, 200)
+        await client.close()
+
+    async def kept(self, settings, prefix="x/"):
+        """Leads and appends, as a controller does, and returns what a follower reads."""
+        keys, client = Keys(prefix), settings.client(10.0)
+        try:
+            lease = Lease(client, "k0", 60, keys, is_told=True)
+            if not await lease.campaign():
+                raise EtcdFault("nobody leads")
+            await EtcdJournal(client, lease.leader, 2, keys).append(["a"])
+            await lease.leave()
+            return await EtcdJournal(client, "", keys=keys).read()
+        finally:
+            await client.close()
+
+    async def test_a_user_and_certificates_are_asked_for(self):
+        self.assertEqual(await self.kept(self.settings()), ["a"])
+        (self.folder / "wrong").write_text("k0:guessed\n")
+        for what, settings, prefix in (("prefix", self.settings(), "y/"), ("user", self.settings(user=None), "x/"), ("password", self.settings(user="wrong"), "x/"),
+                                       ("certificate", self.settings(cert=None), "x/"), ("authority", self.settings(ca="other"), "x/")):
+            with self.subTest(what), self.assertRaises(EtcdFault):
+                await self.kept(settings, prefix)
 
 
 class AmongOthersTest(unittest.IsolatedAsyncioTestCase):

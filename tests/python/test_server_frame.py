@@ -113,7 +113,7 @@ class Fleet:
         """Makes a token and a certificate."""
         token, cert, key = (self.folder / it for it in ("token", "cert", "key"))
         token.write_text("0123456789abcdef")
-        subprocess.run(["openssl", "req", "-x509", "-newkey", "rsa:2048", "-nodes", "-keyout", key, "-out", cert, "-subj", "/CN=kv",
+        subprocess.run(["openssl", "req", "-x509", "-newkey", "ec", "-pkeyopt", "ec_paramgen_curve:prime256v1", "-nodes", "-keyout", key, "-out", cert, "-subj", "/CN=kv",
                         "-addext", "subjectAltName=IP:127.0.0.1", "-days", "1"], check=True, capture_output=True)
         self.token, self.context = token.read_text(), ssl.create_default_context(cafile=str(cert))
         self.words, self.go_words = ("--token", token, "--tls", cert, key), ("-token", token, "-cert", cert, "-key", key)
