@@ -40,15 +40,18 @@ PARTS_OF = {
 # For a bug that breaks a rule, the parts that this rule is about. A run draws from them, and nothing else is made for the bug.
 RULE_OF = {
     "feed-before-store": LEADERS, "map-write-without-compare": ("freeze_leader", "reopen_behind_leader", "reopen_before_write"),
-    "map-not-fenced": ("reopen_before_write", "reopen_behind_leader"), "confirm-moves-primary": ("reopen_amid_passing", "reopen_behind_cut", "lose_server"),
+    "map-not-fenced": ("reopen_before_write", "reopen_behind_leader"), "confirm-moves-primary": ("reopen_amid_passing", "reopen_behind_cut",
+    "lose_server"),
     "restart-without-approval": ("restart_server", "forget", "drain"), "new-journal-without-reopening": ("open_anew",),
-    "no-numbers": LATE, "slot-deleted": LATE, "execute-prepared": HANDOVERS, "commit-before-copy": COPIES, "drop-while-writing": HANDOVERS, "tail-not-copied": COPIES,
+    "no-numbers": LATE, "slot-deleted": LATE, "execute-prepared": HANDOVERS, "commit-before-copy": COPIES, "drop-while-writing": HANDOVERS,
+    "tail-not-copied": COPIES,
     "no-identities": ("hand_over_unheard", "stop_server", "isolate_server", "crash_server"), "restore-without-nonce": ("forget_twice",),
     "commit-after-fence": REOPENING_AT_WORK, "settle-twice": REOPENING_AT_WORK, "fence-while-passed": ("reopen_amid_passing",),
     "add-without-cut": HANDOVERS, "cut-unheeded": ("break_following",), "change-while-writing": ("kill_leader", "crash_server", "stop_store"),
     "not-synced": ("cut_to_last_sync",), "lease-unheeded": LEASED, "confirm-before-lease-ends": LEASED,
     "acknowledge-alone": ("lose_lagging",), "impatient": ("lose_lagging",), "newcomers-not-waited-for": ("lose_lagging",),
-    "who-ends-leaves": ("lose_beside_restart",), "old-owner-not-waited-for": ("lose_behind_cut",), "dead-at-once": MEMBERS, "answer-before-done": MEMBERS, "any-reply-counts": MEMBERS,
+    "who-ends-leaves": ("lose_beside_restart",), "old-owner-not-waited-for": ("lose_behind_cut",), "dead-at-once": MEMBERS,
+    "answer-before-done": MEMBERS, "any-reply-counts": MEMBERS,
     "copy-without-identities": ("hand_over_unheard",), "copy-counts-twice": COPIES, "copy-without-meanwhile": COPIES,
     "copy-without-values": COPIES, "joined-at-once": COPIES,
     "heed-nothing": ("reopen_while_down",), "forgets-and-rests": ("reopen_while_down",),
@@ -56,14 +59,16 @@ RULE_OF = {
 }
 # How many of the moves are changes of roles, if not as many as otherwise.
 SWAPS_OF = {"change-while-writing": 0.9, "no-numbers": 0.5}
-# What befalls messages, if not the same as otherwise: an order that is not told by its number does harm if a copy of it comes when its cell is there again.
+# What befalls messages, if not the same as otherwise: an order that is not told by its number does harm if a copy of it comes when its cell is there
+# again.
 MANY_COPIES = {**ROUGH, "order": {**ROUGH["order"], "repeat": 0.5}}
 # Nobody is asked twice unless a reply is lost.
 MANY_LOSSES = {**ROUGH, "client": {**ROUGH["client"], "drop": 0.02}}
 RATES_OF = {"no-numbers": MANY_COPIES, "slot-deleted": MANY_COPIES, "no-identities": MANY_LOSSES}
 # How many plans there are at once, if not as many as otherwise. (then there are shards that the parts can hand over)
 WORKERS_OF = {"fence-while-passed": 1, "cut-unheeded": 1, "commit-after-fence": 4, "settle-twice": 2}
-# How many moves a plan has at most, if not as many as otherwise. (a plan of many stands still where one of its servers hears no order, and then no order is at work)
+# How many moves a plan has at most, if not as many as otherwise. (a plan of many stands still where one of its servers hears no order, and then no
+# order is at work)
 MOVES_OF = {"commit-after-fence": 1}
 
 
@@ -88,7 +93,8 @@ async def first_violation(bug: str, seed: int, told: argparse.Namespace) -> str 
     parts = storm_of(seed) if told.storm else PARTS_OF.get(bug, PARTS) if told.recipe else of_rule(RULE_OF[bug], seed)
     recipe = recipe if told.recipe else ""
     settings = Settings(directory, shape, program_of(told.program), told.seconds, RATES_OF.get(recipe, ROUGH), parts, () if told.sound else (bug,),
-                        WORKERS_OF.get(recipe, 3), MOVES_OF.get(recipe, 4), pause=told.pause, is_quiet=True, swaps=SWAPS_OF.get(recipe, 0.2), is_busy=told.busy,
+                        WORKERS_OF.get(recipe, 3), MOVES_OF.get(recipe, 4), pause=told.pause, is_quiet=True, swaps=SWAPS_OF.get(recipe, 0.2),
+                        is_busy=told.busy,
                         ending=25.0, patience=40.0, lease=told.lease or LEASE_OF.get(bug, 0.0), store=told.store, is_slow=told.recipe)
     try:
         result = await Run(settings).run()

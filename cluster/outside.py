@@ -1,5 +1,5 @@
-"""`python3 -m cluster.outside [PART..]`: a run for each of the things that the rules do not survive. A controller's page gives the alarm within ten seconds, and the
-checkers count what was lost. With `--lease` a server that was given up serves nobody, and nothing may be lost by that."""
+"""`python3 -m cluster.outside [PART..]`: a run for each of the things that the rules do not survive. A controller's page gives the alarm within ten
+seconds, and the checkers count what was lost. With `--lease` a server that was given up serves nobody, and nothing may be lost by that."""
 from __future__ import annotations
 
 import argparse

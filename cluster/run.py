@@ -44,7 +44,8 @@ REST = 0.08
 # What begins only when everything else of the story has ended: without a server that is lost for good, no other one may be restarted.
 LAST = ("lose_server",)
 JOURNAL_BITS = 64
-# For how many seconds a shard may be without service, if no server that had it was given up; on a busy machine longer by as much as a request waits longer at
+# For how many seconds a shard may be without service, if no server that had it was given up; on a busy machine longer by as much as a request waits
+# longer at
 # rest than it usually does, up to the second.
 OUTAGE, OUTAGE_IF_BUSY, USUAL = 12.0, 60.0, 0.03
 # The exit status of a run that a slow machine kept from its end.
@@ -233,7 +234,8 @@ class Run:
             await asyncio.sleep(0.5)
 
     def judge_service(self, asked: list[dict], gaps: dict[str, float]) -> None:
-        """Who is slow is a violation, too: on a machine with other work only a shard without service for long, as what a request waits at rest tells."""
+        """Who is slow is a violation, too: on a machine with other work only a shard without service for long, as what a request waits at rest
+        tells."""
         assert self.verdict is not None
         failures = unacknowledged(asked, self.story.forsaken)
         if failures and not self.settings.is_busy:

@@ -1,5 +1,5 @@
-"""Servers that a reopening gives up. With a lease who leads lets each server serve, again and again, but for those; and it confirms nothing before they have
-ceased to serve, or an operator has said that they are off."""
+"""Servers that a reopening gives up. With a lease who leads lets each server serve, again and again, but for those; and it confirms nothing before
+they have ceased to serve, or an operator has said that they are off."""
 from __future__ import annotations
 
 import time
@@ -7,7 +7,8 @@ from dataclasses import dataclass, field
 
 from smplan.control import Line
 
-# How many times as fast as one clock another one may run. The wait of a controller is so many times as long as the lease of a server, and a moment longer.
+# How many times as fast as one clock another one may run. The wait of a controller is so many times as long as the lease of a server, and a moment
+# longer.
 CLOCKS, MOMENT = 1.1, 0.2
 
 

@@ -130,7 +130,8 @@ class AbsenceStory(ServerStory, LossStory):
             await process.start()
 
     async def cut_to_last_sync(self) -> None:
-        """Kills a server and its store as they are, and cuts the store's log to what was synced last, as a disk does that loses power. Then it starts again."""
+        """Kills a server and its store as they are, and cuts the store's log to what was synced last, as a disk does that loses power. Then it starts
+        again."""
         if not self.cluster.notes_syncs:
             self.counts["logs that nobody cut, without a compiler or over SQLite"] += 1
             return
@@ -144,7 +145,8 @@ class AbsenceStory(ServerStory, LossStory):
             await self.cluster.processes[name].start()
 
     async def replace_disk(self) -> None:
-        """A server's disk is replaced, with slots and data: it is killed once others have all that it has, starts with nothing, and a reopening gives its replicas up."""
+        """A server's disk is replaced, with slots and data: it is killed once others have all that it has, starts with nothing, and a reopening gives
+        its replicas up."""
         async with self.restarting, self.reopening:
             if not await self.may_lose():
                 return
@@ -161,8 +163,8 @@ class AbsenceStory(ServerStory, LossStory):
             await self.reopen(without(state, self.document, self.lost, frozenset({name})), [], f"the disk of {name} was replaced")
 
     async def replace_disk_under_permit(self) -> None:
-        """The disk of a server is replaced while it is down under a permit: it has no data of what it is to serve, takes no slots, and says so; then a reopening
-        gives its replicas up."""
+        """The disk of a server is replaced while it is down under a permit: it has no data of what it is to serve, takes no slots, and says so; then
+        a reopening gives its replicas up."""
         async with self.restarting, self.reopening:
             name = self.most_primaries(await self.state()) if await self.may_lose() else None
             permit = None if name is None else await self.approved(name, self.name("rollout"))
@@ -179,7 +181,8 @@ class AbsenceStory(ServerStory, LossStory):
             self.keep_old(name)
             await self.cluster.processes[name].start()
             self.counts["disks replaced under a permit"] += 1
-            if not await self.wait_until_told(f"the disk of {name} is replaced while it is down under permit {permit}", {name}):
+            what = f"the disk of {name} is replaced while it is down under permit {permit}"
+            if not await self.wait_until_told(what, {name}, self.operator.patience / 4):
                 self.counts["disks that nobody told"] += 1
             await self.reopen(without(state, self.document, self.lost, frozenset({name})), [], f"the disk of {name} was replaced")
             if await self.is_up(name, permit):
@@ -195,7 +198,8 @@ class AbsenceStory(ServerStory, LossStory):
     # Down under a permit while the service is reopened.
 
     async def reopen_while_down(self) -> None:
-        """Reopens while a server is down under its permit, which is carried over; then it comes up, with or without its slots, and hears that it was left behind."""
+        """Reopens while a server is down under its permit, which is carried over; then it comes up, with or without its slots, and hears that it was
+        left behind."""
         async with self.restarting, self.reopening:
             name = self.dice.choice(self.alive)
             self.mover.avoided.add(name)

@@ -44,8 +44,8 @@ class LossStory(ReopeningStory):
         return replicas is not None and has_all(replicas, written)
 
     async def wait_for_replicas(self, servers: list[str], seconds: float = 20.0) -> bool:
-        """Waits until all replicas have what these servers have, and tells whether they do. Writes did not wait for a server that was away for long: if
-        another one were lost now, acknowledged writes would be, too."""
+        """Waits until all replicas have what these servers have, and tells whether they do. Writes did not wait for a server that was away for long:
+        if another one were lost now, acknowledged writes would be, too."""
         until = time.monotonic() + seconds
         while time.monotonic() < until:
             written, replicas = await self.replicas(servers), await self.replicas(self.alive)
@@ -70,8 +70,8 @@ class LossStory(ReopeningStory):
         return False
 
     async def kill_at_rest(self, server: str, seconds: float = 4.0) -> bool:
-        """Kills a server once nobody else lacks a write that it executed, and lets it acknowledge none meanwhile: a secondary that it has ceased to wait for would
-        not have it. Tells whether it came to that."""
+        """Kills a server once nobody else lacks a write that it executed, and lets it acknowledge none meanwhile: a secondary that it has ceased to
+        wait for would not have it. Tells whether it came to that."""
         async with self.cut(f"client clients {server}"):
             if not await self.wait_for_replicas([server], seconds):
                 return False

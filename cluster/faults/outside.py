@@ -1,5 +1,5 @@
-"""What the rules do not survive: a given-up server that goes on, a server or the journal that is rolled back. The story tells who gives the alarm, and after how
-long; the checkers count what was lost."""
+"""What the rules do not survive: a given-up server that goes on, a server or the journal that is rolled back. The story tells who gives the alarm,
+and after how long; the checkers count what was lost."""
 from __future__ import annotations
 
 import asyncio
@@ -100,7 +100,8 @@ class OutsideStory(LeaderStory, AbsenceStory):
         await self.look_for_alarm(f"{lines} lines of the journal are lost, which no controller knows", {"the journal", *self.alive})
 
     async def roll_back_etcd(self, controllers: tuple[str, ...] = ()) -> int:
-        """Makes a backup of etcd, and puts it back once there are some lines more, while these controllers are down; how many lines of the journal are lost."""
+        """Makes a backup of etcd, and puts it back once there are some lines more, while these controllers are down; how many lines of the journal
+        are lost."""
         members = [name for name, _ in self.cluster.members]
         backups = self.cluster.directory / "backups"
         await self.stop_etcd(members)

@@ -10,7 +10,8 @@ Parts = tuple[tuple[float, str], ...]
 USUAL = (("kill_leader", 1), ("freeze_leader", 1), ("kill_member", 1), ("crash_server", 2), ("restart_server", 4), ("drain", 1))
 # What is drawn beside that: servers, controllers and members of etcd that are away, all at once or in part.
 AWAY = (
-    "crash_two", "crash_all", "stop_server", "stop_store", "lose_answers", "isolate_server", "black_hole", "fill_disk", "cut_to_last_sync", "kill_controllers", "lose_answers_of_etcd", "kill_members",
+    "crash_two", "crash_all", "stop_server", "stop_store", "lose_answers", "isolate_server", "black_hole", "fill_disk", "cut_to_last_sync",
+    "kill_controllers", "lose_answers_of_etcd", "kill_members",
     "lose_quorum", "kill_first_member", "stop_first_member", "compact", "ask_too_much",
 )
 # Reopenings without a loss.
@@ -44,7 +45,8 @@ def of_rule(names: tuple[str, ...], seed: int) -> Parts:
 
 
 def storm_of(seed: int) -> Parts:
-    """The parts of a run of a storm: nearly all that is usual, some of everything else, and at the end a server that is lost, or a reopening in handovers."""
+    """The parts of a run of a storm: nearly all that is usual, some of everything else, and at the end a server that is lost, or a reopening in
+    handovers."""
     dice = random.Random(f"parts {seed}")
     names = [name for name, count in USUAL for _ in range(count)]
     for _ in range(2):

@@ -16,9 +16,9 @@ Relay = Callable[[Reader, Writer, Reader, Writer, "Link"], Awaitable[None]]
 
 @dataclass
 class Link:
-    """A way through a proxy. Nothing gets through if it is cut, and nothing comes back if it is mute. If it is a hole nothing comes through either way, and its
-    connections stand. A message that has all texts of `held` does not
-    get through (a line) or waits (a request of HTTP). If there are `copies`, each message that is seldom sent is kept among them, to come again."""
+    """A way through a proxy. Nothing gets through if it is cut, and nothing comes back if it is mute. If it is a hole nothing comes through either
+    way, and its connections stand. A message that has all texts of `held` does not get through (a line) or waits (a request of HTTP). If there are
+    `copies`, each message that is seldom sent is kept among them, to come again."""
 
     name: str
     dice: Dice
@@ -65,7 +65,8 @@ def is_rare(line: bytes) -> bool:
 
 
 async def relay_lines(reader: Reader, writer: Writer, link: Link, outlives: bool = False, is_back: bool = False) -> None:
-    """Carries lines one way, or back, each by its own luck. A late one may outlive the connection: it comes all the same when the far end runs again."""
+    """Carries lines one way, or back, each by its own luck. A late one may outlive the connection: it comes all the same when the far end runs
+    again."""
     late: set[asyncio.Task[None]] = set()
 
     def send(line: bytes, seconds: float) -> None:
@@ -196,8 +197,8 @@ class Side(asyncio.Protocol):
             self.end()
 
     def data_received(self, data: bytes) -> None:
-        """Hands bytes on, at once or late, or loses them. What comes back on a mute link, or goes into a hole, waits until it is that no more, as it is sent
-        again and again."""
+        """Hands bytes on, at once or late, or loses them. What comes back on a mute link, or goes into a hole, waits until it is that no more, as it
+        is sent again and again."""
         if self.is_held:
             self.is_late = True
             self.read_on()

@@ -40,7 +40,8 @@ class ReopeningStory(Story):
             raise NotOpened(f"the first opening was refused: {self.refusal}" if self.refusal else "the first opening did not come to its end")
 
     async def reopen(self, document: Line, lost: list[str], why: str, replaces: bool = False, **more: Any) -> bool:
-        """Reopens, until the opening is in force; tells whether it is. If it `replaces`, it begins again in place of the first one while that is under way."""
+        """Reopens, until the opening is in force; tells whether it is. If it `replaces`, it begins again in place of the first one while that is
+        under way."""
         line = {"do": "reopen", "document": document, "lost": lost, "why": why}
         base = await self.begin_reopening({**line, **more})
         if base is not None and replaces:
@@ -103,8 +104,9 @@ class ReopeningStory(Story):
     # Shards without a primary.
 
     async def promote(self, state: Line) -> None:
-        """Makes the secondary that has most writes the primary of each shard that a reopening left without one, each by a plan of its own. A shard whose replicas
-        change roles has none for a moment either: then the plan is refused, as a cell is another one by then, or taken, and the shard is looked at again."""
+        """Makes the secondary that has most writes the primary of each shard that a reopening left without one, each by a plan of its own. A shard
+        whose replicas change roles has none for a moment either: then the plan is refused, as a cell is another one by then, or taken, and the shard
+        is looked at again."""
         promoted: set[str] = set()
         until = time.monotonic() + self.operator.patience / 6
         while (bare := without_primary(state, promoted)) and time.monotonic() < until:
@@ -135,7 +137,8 @@ class ReopeningStory(Story):
                 self.counts["replicas added after a loss"] += "begun" in reply
 
     async def wait_until_whole(self, seconds: float = 15.0) -> bool:
-        """Waits until each shard has as many replicas as it is to have, and tells whether it has: the loss of one more server may take the last one otherwise."""
+        """Waits until each shard has as many replicas as it is to have, and tells whether it has: the loss of one more server may take the last one
+        otherwise."""
         until = time.monotonic() + seconds
         while time.monotonic() < until:
             state = await self.state()
@@ -155,8 +158,8 @@ class ReopeningStory(Story):
 
 
 def without_primary(state: Line, promoted: set[str]) -> list[Line]:
-    """Returns the shards that have replicas, and all of them secondaries, but for those that were promoted. (The old owner of a handover is no primary either,
-    and serves its shard.)"""
+    """Returns the shards that have replicas, and all of them secondaries, but for those that were promoted. (The old owner of a handover is no
+    primary either, and serves its shard.)"""
     return [it for it in state.get("shards", [])
             if it["cells"] and it["shard"] not in promoted and all(cell["state"] == "secondary" for cell in it["cells"])]
 
@@ -179,8 +182,8 @@ def most_written(shard: Line, positions: dict[tuple[str, str], int]) -> str:
 
 
 def without(state: Line, document: Line, lost: set[str], emptied: frozenset[str] = frozenset()) -> Line:
-    """The document of a reopening without servers that are lost. Its cells count for servers alone that have forgotten theirs: those that are recorded, but for
-    servers that have lost their data as well."""
+    """The document of a reopening without servers that are lost. Its cells count for servers alone that have forgotten theirs: those that are
+    recorded, but for servers that have lost their data as well."""
     recorded = {it["shard"]: it["cells"] for it in state.get("shards", [])}
     shards = []
     for shard in document["shards"]:

@@ -23,7 +23,8 @@ TELLING = 10.0
 
 
 class Story:
-    """Does harm to a cluster, by a seed, and what an operator does afterwards. The mover moves replicas meanwhile, and is told what to leave alone."""
+    """Does harm to a cluster, by a seed, and what an operator does afterwards. The mover moves replicas meanwhile, and is told what to leave
+    alone."""
 
     def __init__(self, cluster: LocalCluster, operator: Operator, mover: Mover, seed: int, tell: Callable[[str], None]) -> None:
         self.cluster, self.operator, self.mover, self.tell = cluster, operator, mover, tell
@@ -83,10 +84,10 @@ class Story:
         finally:
             channel.close()
 
-    async def wait_until_told(self, what: str, about: set[str]) -> bool:
+    async def wait_until_told(self, what: str, about: set[str], seconds: float = TELLING) -> bool:
         """Waits until some controller's page gives an alarm about one of these; tells which one, and after how long, and whether one does in time."""
         begun = time.monotonic()
-        while time.monotonic() - begun < TELLING:
+        while time.monotonic() - begun < seconds:
             for name in self.operator.pages:
                 page = await self.operator.post(name, "/state", None) or {}
                 for alarm in page.get("alarms", []):
@@ -94,7 +95,7 @@ class Story:
                         self.tell(f"{what}: told after {time.monotonic() - begun:.1f} s, by {name}: {alarm['about']} {alarm['what']}: {alarm['text']}")
                         return True
             await asyncio.sleep(0.1)
-        self.tell(f"{what}: nobody told in {TELLING:.0f} s")
+        self.tell(f"{what}: nobody told in {seconds:.0f} s")
         return False
 
     # Links between processes.

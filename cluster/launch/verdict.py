@@ -51,8 +51,8 @@ class Verdict:
 
 @dataclass
 class Evidence:
-    """What a run knows beside what its processes tell: the servers that are not given up, the fewest replicas that each shard may have, when servers were down or given
-    up, and when each line of the journal, by its key, was seen first."""
+    """What a run knows beside what its processes tell: the servers that are not given up, the fewest replicas that each shard may have, when servers
+    were down or given up, and when each line of the journal, by its key, was seen first."""
 
     alive: list[str]
     floors: dict[str, int]
@@ -186,8 +186,8 @@ def entries_said(told: list[Line]) -> set[tuple[str, str | None, int]]:
 
 
 def false_alarms(page: Line) -> list[str]:
-    """The alarms that a controller gave, if nothing was wrong. (After a loss a replica may have writes that were never acknowledged, and that its source lacks. A
-    disk that was replaced has no data.)"""
+    """The alarms that a controller gave, if nothing was wrong. (After a loss a replica may have writes that were never acknowledged, and that its
+    source lacks. A disk that was replaced has no data.)"""
     return [it for it in page.get("given", []) if " lacks writes: " not in it and " no data: " not in it]
 
 

@@ -30,8 +30,8 @@ class Hearsay:
             self.server.begin(self.hear(message))
 
     def is_news(self, message: Message) -> bool:
-        """Whether a message names a later reopening of its journal than the one that it was fenced or settled at last. (One at which it is fenced will bring
-        it its slots.)"""
+        """Whether a message names a later reopening of its journal than the one that it was fenced or settled at last. (One at which it is fenced
+        will bring it its slots.)"""
         told, base = message.get("heard"), self.store.base
         return bool(told) and bool(base.known) and base.journal == int(told["journal"], 16) and base.number < told["base"]
 
@@ -54,8 +54,8 @@ class Hearsay:
 
 
 class Lease:
-    """For how long a server serves without a controller's answer; for ever if it has no time. It counts from when it asked, so that who leads may give it up
-    once this time is over, and somewhat more as clocks differ, since the last time when a controller answered it."""
+    """For how long a server serves without a controller's answer; for ever if it has no time. It counts from when it asked, so that who leads may
+    give it up once this time is over, and somewhat more as clocks differ, since the last time when a controller answered it."""
 
     def __init__(self, server: "Server", seconds: float) -> None:
         self.server, self.seconds = server, seconds

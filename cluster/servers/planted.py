@@ -328,13 +328,16 @@ def with_parts(kind: type[Server] = Server, **parts: type) -> type[Server]:
 
 
 PLANTED = {
-    "no-numbers": with_parts(orders=WithoutNumbers), "execute-prepared": with_parts(requests=ExecutingPrepared), "slot-deleted": with_parts(orders=DeletingSlots),
+    "no-numbers": with_parts(orders=WithoutNumbers), "execute-prepared": with_parts(requests=ExecutingPrepared),
+    "slot-deleted": with_parts(orders=DeletingSlots),
     "commit-before-copy": with_parts(orders=CommittingBeforeCopy), "drop-while-writing": with_parts(orders=NotHolding),
     "tail-not-copied": with_parts(orders=NotWaitingForCut, following=WithoutTail), "no-identities": with_parts(requests=WithoutIdentities),
-    "restore-without-nonce": with_parts(reopenings=RestoringWithoutNonce), "commit-after-fence": with_parts(orders=CommittingBehindFence, reopenings=KeepingWork),
+    "restore-without-nonce": with_parts(reopenings=RestoringWithoutNonce), "commit-after-fence": with_parts(orders=CommittingBehindFence,
+    reopenings=KeepingWork),
     "settle-twice": with_parts(reopenings=SettlingTwice), "add-without-cut": with_parts(orders=NotWaitingForCut),
     "fence-while-passed": with_parts(reopenings=NotWaitingForPassed), "cut-unheeded": with_parts(requests=NotHeedingCuts),
-    "change-while-writing": with_parts(orders=ChangingWhileWriting), "acknowledge-alone": with_parts(sources=Alone), "impatient": with_parts(sources=Impatient),
+    "change-while-writing": with_parts(orders=ChangingWhileWriting), "acknowledge-alone": with_parts(sources=Alone),
+    "impatient": with_parts(sources=Impatient),
     "answer-before-done": with_parts(orders=AnsweringBefore), "heed-nothing": Deaf, "copy-without-identities": with_parts(sources=WithoutPart),
     "copy-counts-twice": with_parts(following=CountingTwice), "copy-without-meanwhile": with_parts(following=WithoutMeanwhile),
     "copy-without-values": with_parts(sources=WithoutValues), "joined-at-once": with_parts(sources=JoiningAtOnce),
@@ -372,7 +375,8 @@ class LateNewOwners(Server):
 SLOW = {
     "drop-while-writing": with_parts(SlowRequests, orders=NotHolding),
     "change-while-writing": type("Slow", (SlowRequests,), {"longest": 0.1, "longest_passed": 0.1, "orders_type": ChangingWhileWriting}),
-    "fence-while-passed": with_parts(SlowPassed, reopenings=NotWaitingForPassed, orders=Slow), "add-without-cut": with_parts(LateNewOwners, orders=NotWaitingForCut),
+    "fence-while-passed": with_parts(SlowPassed, reopenings=NotWaitingForPassed, orders=Slow), "add-without-cut": with_parts(LateNewOwners,
+    orders=NotWaitingForCut),
     "commit-after-fence": with_parts(orders=SlowBehindFence, reopenings=KeepingWork),
 }
 

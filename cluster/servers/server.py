@@ -264,7 +264,8 @@ class Server:
     # -- asking for slots
 
     async def ask_for_slots(self) -> None:
-        """While it is Unknown it asks one controller after the other, also if it is fenced: a late fence of the opening in force is followed by no settle."""
+        """While it is Unknown it asks one controller after the other, also if it is fenced: a late fence of the opening in force is followed by no
+        settle."""
         turn = random.randrange(1 << 16)
         controllers = {name: Channel(address) for name, address in self.cluster.controllers.items()}
         names = sorted(controllers)

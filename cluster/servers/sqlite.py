@@ -1,5 +1,5 @@
-"""A store in SQLite, which takes the commands that servers send to a redis-server, and replies the same. A transaction is durable before it is answered;
-those that come together are stored together."""
+"""A store in SQLite, which takes the commands that servers send to a redis-server, and replies the same. A transaction is durable before it is
+answered; those that come together are stored together."""
 from __future__ import annotations
 
 import asyncio

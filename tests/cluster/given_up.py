@@ -1,5 +1,5 @@
-"""A server that was given up is told so by the others, also by one that was restored meanwhile, and serves nobody any longer; with a lease it does not
-either if nobody tells it. Who takes part in a reopening is told nothing that makes it forget its slots. A server that has
+"""A server that was given up is told so by the others, also by one that was restored meanwhile, and serves nobody any longer; with a lease it does
+not either if nobody tells it. Who takes part in a reopening is told nothing that makes it forget its slots. A server that has
 lost its data takes no restore by which it is to serve.
 
 `python3 tests/cluster/given_up.py`

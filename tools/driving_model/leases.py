@@ -1,5 +1,5 @@
-"""Leases: a server that is given up may be out of reach of controllers and of other servers, and clients come to it all the same. With a lease it serves
-for so long, by its own clock, since it asked a controller that answered; who gives it up waits for longer before anything is confirmed.
+"""Leases: a server that is given up may be out of reach of controllers and of other servers, and clients come to it all the same. With a lease it
+serves for so long, by its own clock, since it asked a controller that answered; who gives it up waits for longer before anything is confirmed.
 
 All that is known of clocks is that none runs more than CLOCKS times as fast as another one: a premise."""
 from __future__ import annotations

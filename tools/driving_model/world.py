@@ -20,8 +20,8 @@ from .server import Commit, Judgement, Pass, Route, Server, Shown
 
 @dataclass(slots=True)
 class Host:
-    """A server with its service: data, requests that run, and orders at work. A lost one is lost for good. One that is apart is reached by clients alone, and
-    serves nobody once its lease is over."""
+    """A server with its service: data, requests that run, and orders at work. A lost one is lost for good. One that is apart is reached by clients
+    alone, and serves nobody once its lease is over."""
 
     server: Server
     data: list[list[int]]
