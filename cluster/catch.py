@@ -40,8 +40,8 @@ PARTS_OF = {
 # For a bug that breaks a rule, the parts that this rule is about. A run draws from them, and nothing else is made for the bug.
 RULE_OF = {
     "feed-before-store": LEADERS, "map-write-without-compare": ("freeze_leader", "reopen_behind_leader", "reopen_before_write"),
-    "map-not-fenced": ("reopen_before_write", "reopen_behind_leader"), "confirm-moves-primary": ("reopen_amid_passing", "reopen_behind_cut",
-    "lose_server"),
+    "map-not-fenced": ("reopen_before_write", "reopen_behind_leader"),
+    "confirm-moves-primary": ("reopen_amid_passing", "reopen_behind_cut", "lose_server"),
     "restart-without-approval": ("restart_server", "forget", "drain"), "new-journal-without-reopening": ("open_anew",),
     "no-numbers": LATE, "slot-deleted": LATE, "execute-prepared": HANDOVERS, "commit-before-copy": COPIES, "drop-while-writing": HANDOVERS,
     "tail-not-copied": COPIES,

@@ -332,8 +332,8 @@ PLANTED = {
     "slot-deleted": with_parts(orders=DeletingSlots),
     "commit-before-copy": with_parts(orders=CommittingBeforeCopy), "drop-while-writing": with_parts(orders=NotHolding),
     "tail-not-copied": with_parts(orders=NotWaitingForCut, following=WithoutTail), "no-identities": with_parts(requests=WithoutIdentities),
-    "restore-without-nonce": with_parts(reopenings=RestoringWithoutNonce), "commit-after-fence": with_parts(orders=CommittingBehindFence,
-    reopenings=KeepingWork),
+    "restore-without-nonce": with_parts(reopenings=RestoringWithoutNonce),
+    "commit-after-fence": with_parts(orders=CommittingBehindFence, reopenings=KeepingWork),
     "settle-twice": with_parts(reopenings=SettlingTwice), "add-without-cut": with_parts(orders=NotWaitingForCut),
     "fence-while-passed": with_parts(reopenings=NotWaitingForPassed), "cut-unheeded": with_parts(requests=NotHeedingCuts),
     "change-while-writing": with_parts(orders=ChangingWhileWriting), "acknowledge-alone": with_parts(sources=Alone),
@@ -375,8 +375,8 @@ class LateNewOwners(Server):
 SLOW = {
     "drop-while-writing": with_parts(SlowRequests, orders=NotHolding),
     "change-while-writing": type("Slow", (SlowRequests,), {"longest": 0.1, "longest_passed": 0.1, "orders_type": ChangingWhileWriting}),
-    "fence-while-passed": with_parts(SlowPassed, reopenings=NotWaitingForPassed, orders=Slow), "add-without-cut": with_parts(LateNewOwners,
-    orders=NotWaitingForCut),
+    "fence-while-passed": with_parts(SlowPassed, reopenings=NotWaitingForPassed, orders=Slow),
+    "add-without-cut": with_parts(LateNewOwners, orders=NotWaitingForCut),
     "commit-after-fence": with_parts(orders=SlowBehindFence, reopenings=KeepingWork),
 }
 
