@@ -37,6 +37,8 @@ class Hearsay:
 
     async def hear(self, message: Message) -> None:
         """Turns Unknown if it was left behind at a reopening that others were settled at."""
+        if not self.is_news(message):
+            return
         async with self.server.changing:
             if self.is_news(message):
                 told = message["heard"]
