@@ -7,7 +7,7 @@ import shutil
 import signal
 import time
 
-from cluster.controllers.etcd import Etcd, end_of
+from cluster.controllers.etcd import Etcd, EtcdFault, end_of
 from cluster.controllers.journal import PREFIX
 
 from .absences import AbsenceStory
@@ -129,12 +129,18 @@ class OutsideStory(LeaderStory, AbsenceStory):
         await asyncio.gather(*(self.cluster.processes[it].kill() for it in members))
 
     async def count_lines(self) -> int:
-        """How many lines the journal has in etcd."""
-        etcd = Etcd([("127.0.0.1", port) for _, port in self.cluster.members], timeout=3.0)
-        try:
-            count, after = 0, PREFIX
-            while found := await etcd.range(after, end_of(PREFIX), limit=500):
-                count, after = count + len(found), found[-1].key + "0"
-            return count
-        finally:
-            await etcd.close()
+        """How many lines the journal has in etcd, once etcd answers."""
+        until = time.monotonic() + self.operator.patience
+        while True:
+            etcd = Etcd([("127.0.0.1", port) for _, port in self.cluster.members], timeout=3.0)
+            try:
+                count, after = 0, PREFIX
+                while found := await etcd.range(after, end_of(PREFIX), limit=500):
+                    count, after = count + len(found), found[-1].key + "0"
+                return count
+            except EtcdFault:
+                if time.monotonic() > until:
+                    raise
+                await asyncio.sleep(0.2)
+            finally:
+                await etcd.close()
