@@ -269,7 +269,7 @@ def report(result: Result, details: bool = False) -> str:
     """Writes the figures and the verdict."""
     verdict, counts, waits = result.verdict, result.counts, result.waits
     harm = {it: count for it, count in counts.items() if it.split(" ")[-1] in ("dropped", "repeated", "delayed")}
-    harmed = {it: count for it, count in counts.items() if any(word in it for word in ("killed", "stopped", "lost", "replaced", "crash", "restarts", "full", "went on", "rolled back", "cut off", "hole", "put back"))}
+    harmed = {it: count for it, count in counts.items() if any(word in it for word in ("killed", "stopped", "lost", "replaced", "crash", "restarts", "full", "went on", "rolled back", "cut", "hole", "put back"))}
     compared = {it: verdict.counts[f"servers: {it}"] for it in ("answers compared", "replicas compared")} | {"audits": verdict.counts["servers audited"]}
     lines = [
         f"requests     {result.clients.get('requests', 0):,}; {', '.join(f'{rate:.0f} a second {name}' for name, rate in result.rates.items())}",
