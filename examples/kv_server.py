@@ -33,7 +33,7 @@ class Server(Store):
             self.abandon_all()
 
     def abandon_all(self):
-        self.questions = {}  # by shard the question for leave that is open: its number, the copy's mark, and who has given leave
+        self.questions = {}  # by shard the question for leave that is open: its number, the copy's mark, and who gave leave: a primary, or not
         for shard in self.shards():
             self.store_slot(shard, agent.abandon(self.slot(shard)))
 
@@ -166,26 +166,28 @@ class Server(Store):
         primary, others = self.replicas(shard)
         if not others:
             return True
-        number, mark, given = self.questions.setdefault(shard, (secrets.randbits(63), self.mark(shard), set()))
+        number, mark, given = self.questions.setdefault(shard, (secrets.randbits(63), self.mark(shard), {}))
         for it in [primary] if primary in others else others:
             self.ask(it, "give_leave", shard, self.number, number, mark)
-        return len(given) >= (1 if primary in others else self.copies) and shard in self.questions
+        enough = any(given.values()) if primary in others else len(given) >= self.copies
+        return enough and shard in self.questions
 
     def give_leave(self, shard, number, question, mark):
-        """Gives a peer leave if enough others have all that is here, or, where it does not serve, if it has all that the peer has."""
+        """Gives a peer leave: who serves if enough others have all that is here, a secondary if it has all that the peer has."""
         if shard in self.questions and self.number < number:
             return
         self.questions.pop(shard, None)  # (of two that ask each other the one with the higher number answers, and asks anew)
-        mine = self.mark(shard)
-        if self.replicate(shard, but=number) if self.serves(shard) else None not in (mine, mark) and mine >= mark:
+        is_it, mine = self.serves(shard), self.mark(shard)
+        has_all = self.slot(shard).cell == Cell.SECONDARY and None not in (mine, mark) and mine >= mark
+        if self.replicate(shard, but=number) if is_it else has_all:
             with self.db:
                 if self.old_owner(shard) == number:
                     self.put_old_owner(shard, 0)
-            self.ask(number, "take_leave", shard, question, self.number)
+            self.ask(number, "take_leave", shard, question, self.number, is_it)
 
-    def take_leave(self, shard, question, number):
+    def take_leave(self, shard, question, number, is_primary):
         if question == self.questions.get(shard, (None,))[0]:
-            self.questions[shard][2].add(number)
+            self.questions[shard][2][number] = is_primary
 
     # -- requests
 

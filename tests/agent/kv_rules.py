@@ -269,10 +269,25 @@ def drop_without_its_primary(kind):
     want(read(b), "x")
 
 
+class GivesLeaveAnyway(Server):
+    """Gives leave while it hands the shard over, since it has all itself."""
+    def give_leave(self, shard, number, question, mark):
+        self.ask(number, "take_leave", shard, question, self.number, True)
+
+
+def drop_below_the_cut(kind):
+    a, b, c = three(kind, Cell.ABSENT, copies=2)
+    push(a, "r1", "x")
+    want(answered(b, HANDOVER[0]), True)
+    with lost(b, "pull"):
+        want((push(a, "r2", "y"), answered(a, HANDOVER[1])), ("xy", True))
+    want(is_dropped(c, 1, 2, 3), False)
+
+
 class TakesAnyLeave(Server):
     """Takes the answer to an earlier question."""
-    def take_leave(self, shard, question, number):
-        super().take_leave(shard, self.questions.get(shard, (None,))[0], number)
+    def take_leave(self, shard, question, *words):
+        super().take_leave(shard, self.questions.get(shard, (None,))[0], *words)
 
 
 def asked(kind):
@@ -634,9 +649,9 @@ def old_owner_is_down(kind):
 
 RULES = ((CommitsFirst, crash_amid_copy), (KeepsTheRest, late_after_settle), (ForgetsRequests, repeat_after_handover), (AnswersAtOnce, crash_at_work),
          (IgnoresTheCut, write_under_way), (TakesBehindTheCut, crash_behind_the_cut), (GivesBelowItsCut, new_disk_below_the_cut),
-         (DropsAtOnce, drop_without_its_primary), (TakesAnyLeave, leave_comes_late), (TellsWhileItAsks, written_while_it_asks),
-         (WaitsForever, both_are_dropped), (GoesOnFromItsCache, dropped_and_added), (ComparesPositions, change_of_a_returned_one),
-         (GoesOnAnywhere, follower_of_another_list), (DeletesWhatItBringsBack, only_copy_comes_back),
+         (DropsAtOnce, drop_without_its_primary), (GivesLeaveAnyway, drop_below_the_cut), (TakesAnyLeave, leave_comes_late),
+         (TellsWhileItAsks, written_while_it_asks), (WaitsForever, both_are_dropped), (GoesOnFromItsCache, dropped_and_added),
+         (ComparesPositions, change_of_a_returned_one), (GoesOnAnywhere, follower_of_another_list), (DeletesWhatItBringsBack, only_copy_comes_back),
          (BeginsBeside, first_primary_beside_a_secondary), (KeepsWork, crash_and_repeat), (DeletesAtDrop, late_order), (ComesBackEmpty, lost_state),
          (KeepsItsNonce, given_up), (TakesWhatItLost, lost_disk), (AcknowledgesAlone, lost_for_good), (AsksForOne, acknowledged_at_one),
          (CountsTheGivenUp, given_up_and_counted), (SendsFirst, crash_with_a_write_sent), (ShowsAtOnce, read_of_what_is_lost),

@@ -1,5 +1,5 @@
-"""The model's servers answer as the agent does: in random schedules each judgement, commit, route, fence, settle and restore is made by its port to
-Python, too, which passes the vectors of the proved functions (tests/agent)."""
+"""The model's servers answer as the agent does: in random schedules each judgement, commit, route, fence, settle and
+restore is made by its port to Python, too, which passes the vectors of the proved functions (tests/agent)."""
 import sys
 import unittest
 from collections import Counter
