@@ -99,10 +99,12 @@ class Controller(base.Controller):
 
     def begin(self, command: driving.Begin) -> Outcome:
         """Begins a plan."""
-        if command.name not in self.begun and self.is_open and self.rules.drops_leave_copies:
-            shard = self.record.short_of_copies(command.plan)
-            if shard is not None:
-                raise refuse("ShortCopies", shard=shard)
+        if command.name not in self.begun and self.is_open:
+            record, rules, plan = self.record, self.rules, command.plan
+            for shard in record.shards:
+                is_short = rules.drops_leave_copies and record.is_short_of_copies(shard, plan)
+                if is_short or (rules.last_is_alone and record.adds_beside_the_last(shard, plan)):
+                    raise refuse("ShortCopies", shard=shard)
         return super().begin(command)
 
     def answered(self, command: driving.Answered) -> Outcome:

@@ -3,6 +3,7 @@ copies."""
 from __future__ import annotations
 
 from driving_model.cells import ABSENT, PRIMARY, SECONDARY
+from driving_model.clients import Write
 from driving_model.commands import Reopen
 from driving_model.messages import BASE_STEP, Fence, MAP, Restore, Settle
 
@@ -354,6 +355,27 @@ def drop_that_gets_no_leave(rules: Rules) -> None:
     must(not any(True for _ in play.controller.record.running()), "a drop waits for leave for ever")
 
 
+def added_beside_the_last(rules: Rules) -> None:
+    """A shard's one replica is to be dropped, while a request runs there. Another plan adds a secondary, which copies
+    it. The request ends, and is acknowledged; then the drop is done, whose order named nobody else."""
+    play = Play(rules, ALONE, want=2, cap=2)
+    write = Write(0, 7)
+    play.request(0, write)
+    play.drop_primary()
+    for _ in range(2):
+        play.step()
+    play.add_secondary(1)
+    for order in play.controller.orders():
+        if order.server == 1:
+            play.world.deliver(order)
+            play.copy(1, 0)
+            play.work([play.host(1)])
+    play.world.finish(play.host(0), write)
+    play.host(0).copy(0).flush()
+    play.acknowledge()
+    play.work([play.host(0)])
+
+
 PLAYS = (
     Worked(disk_of_a_primary, "primary_has_data"),
     Worked(disk_lost_while_it_asks, "loss_renews"),
@@ -381,4 +403,5 @@ PLAYS = (
     Worked(copied_of_an_earlier_permit, "copied_named"),
     Worked(copied_in_a_handover, "copied_at_rest"),
     Worked(drop_that_gets_no_leave, "drops_leave_copies"),
+    Worked(added_beside_the_last, "last_is_alone"),
 )

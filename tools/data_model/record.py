@@ -69,17 +69,26 @@ class Record(driving.Record):
             self.replicas(shard) | ordered, self.former[shard],
         )
 
-    def short_of_copies(self, plan: Plan) -> int | None:
-        """The first shard of which the plan's drops may leave fewer replicas than are wanted, if that is more than
-        one."""
-        begun = [it.code for it in plan.streams]
-        running = [state.stream.code[state.at:] for _, _, state in self.running()]
-        for shard in self.shards:
-            most = sum(most_gone(shard, it) for it in (*begun, *running))
-            drops = any(most_gone(shard, it) for it in begun)
-            if drops and 1 < self.wanted[shard] and len(self.replicas(shard)) - most < self.wanted[shard]:
-                return shard
-        return None
+    def codes(self, plan: Plan) -> list[Sequence[Instruction]]:
+        """What the plan's streams do, and those of other plans from where they are."""
+        return [it.code for it in plan.streams] + [state.stream.code[state.at:] for _, _, state in self.running()]
+
+    def is_short_of_copies(self, shard: int, plan: Plan) -> bool:
+        """The plan's drops may leave fewer replicas of the shard than are wanted, if these are more than one."""
+        left = len(self.replicas(shard)) - sum(most_gone(shard, it) for it in self.codes(plan))
+        return left < self.wanted[shard] != 1 and any(most_gone(shard, it.code) for it in plan.streams)
+
+    def adds_beside_the_last(self, shard: int, plan: Plan) -> bool:
+        """With this plan streams may drop the shard's last replica, and another one adds a replica."""
+        codes = self.codes(plan)
+        most = [most_gone(shard, it) for it in codes]
+        adds = any(not gone and brings(shard, it) for gone, it in zip(most, codes))
+        return sum(most) >= max(1, len(self.replicas(shard))) and adds
+
+
+def brings(shard: int, code: Sequence[Instruction]) -> bool:
+    """A stream adds a replica of the shard."""
+    return any(it.shard == shard and it.verb in (Verb.ADD, Verb.PREPARE_ADD) for it in code)
 
 
 def most_gone(shard: int, code: Sequence[Instruction]) -> int:

@@ -114,6 +114,9 @@ class Rules(driving.Rules):
         "`copied` is not taken while an unfinished stream names the shard: its orders carry a number."
     )
     drops_leave_copies: bool = rule("A plan may not begin if its drops may leave fewer replicas than wanted.")
+    last_is_alone: bool = rule(
+        "Nor if a stream may drop a shard's last replica while another one adds a replica of the shard."
+    )
     # Fences.
     fence_bounded: bool = rule("A server with slots takes no fence further than 2^20 epochs above its base.")
 

@@ -282,10 +282,11 @@ class World(Following, Asking, Serving, base.World):
         if cell.kind is not Kind.PRIMARY:
             replica.replies = []
         if cell == ABSENT:
-            if not is_last and not has_leave:
+            others = [it for it in self.hosts if it is not host and it.cell(shard) != ABSENT]
+            if (others or not is_last) and not has_leave:
                 laws.last_copy_stays(self, host, shard)
             replica.copy.clear()
-            if is_last:
+            if is_last and not others:
                 self.writes.drop(shard)
         elif was == ABSENT and (cell.kind is Kind.PRIMARY or (begins and not replica.copy.is_whole)):
             replica.copy.begin_empty(order.number)
