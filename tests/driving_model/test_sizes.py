@@ -1,4 +1,4 @@
-"""Sizes that change: each rule is needed, no law is broken with all of them, and what changes is refused where it must."""
+"""Sizes that change: each rule is needed, no law is broken with all of them, and what may not change is refused."""
 import unittest
 from collections import Counter
 from dataclasses import dataclass, replace
@@ -12,7 +12,7 @@ from driving_model.replies import Ignored, Opened, Refused
 from driving_model.sized_controller import SizedController
 from driving_model.sized_plays import PLAYS, SizedPlay, played
 from driving_model.sized_schedule import OWN, SizedSchedule, run_schedule
-from driving_model.sized_world import begins_a_journal, nobody_has_what_is_not_there
+from driving_model.sized_world import begins_a_journal, nobody_has_what_is_not_there, what_counts_is_recorded
 from driving_model.sizes import NewEpoch, Order, Resize, Resized, SOUND, SizedDocument, sentence_of, sized_rule_names
 
 STEPS = 220
@@ -20,8 +20,9 @@ RUNS = {"": 60} | {it: 20 for it in sorted(OWN)}
 # What happens in some schedule of these.
 MET = (
     "a late ask", "carried over", "forgot", "grown", "journal replaced", "new sizes", "not resized: Engaged",
-    "not resized: OverRoom", "refused: OverRoom", "refused: Running", "refused: Short", "refused: StillThere", "reopened",
-    "resized beside a plan", "restored", "server added", "server taken away", "shard added", "shard taken away", "shrunk",
+    "not resized: OverRoom", "refused: OverRoom", "refused: Running", "refused: Short", "refused: StillThere",
+    "reopened", "resized beside a plan", "restored", "server added", "server taken away", "shard added",
+    "shard taken away", "shrunk",
 )
 
 
@@ -170,6 +171,13 @@ class ServersCount(unittest.TestCase):
         self.assertEqual(server.counted(order), 6)
         with self.assertRaises(Violation):
             play.world.deliver(replace(order, room=11))
+
+    def test_what_counts_is_as_recorded(self):
+        play = SizedPlay(SOUND, ((PRIMARY, SECONDARY, ABSENT),), loads=(6,))
+        play.resize(loads={0: 5})
+        self.assertIsNone(what_counts_is_recorded(Sight(play.world)))
+        play.world.hosts[1].server.slots[0].last = 1
+        self.assertIsNotNone(what_counts_is_recorded(Sight(play.world)))
 
     def test_a_shard_that_is_not_there_is_had_by_nobody(self):
         play = SizedPlay(SOUND, ((PRIMARY, ABSENT, ABSENT), (ABSENT,) * 3), loads=(6, 6), left_out=frozenset({1}))

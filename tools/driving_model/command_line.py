@@ -96,7 +96,8 @@ def tell_plays(has_sizes: bool) -> int:
         play = sized_plays.played if has_sizes else played
         sound, broken = play(worked, with_rule=True), play(worked, with_rule=False)
         wrong += sound is not None or (broken is None and bool(worked.rule))
-        print(f"{worked.name}: {sound or 'no violation'}; without {worked.rule or 'nothing'}: {broken or 'no violation'}")
+        away = worked.rule or "nothing"
+        print(f"{worked.name}: {sound or 'no violation'}; without {away}: {broken or 'no violation'}")
     return 1 if wrong else 0
 
 

@@ -21,13 +21,12 @@ class SizedPlay(Play):
     world: SizedWorld
 
     def __init__(
-        self, rules: SizedRules, rows: tuple[Row, ...], loads: tuple[int, ...], left_out: frozenset[int] = frozenset(),
-        servers: frozenset[int] = frozenset({0, 1, 2}), limit: int = 2,
+        self, rules: SizedRules, rows: tuple[Row, ...], loads: tuple[int, ...],
+        left_out: frozenset[int] = frozenset(), servers: frozenset[int] = frozenset({0, 1, 2}), limit: int = 2,
     ) -> None:
         wants = tuple(max(1, sum(cell != ABSENT for cell in row)) for row in rows)
-        self.document = SizedDocument(
-            servers, (10,) * 4, loads, wants, wants, limit, tuple(row + (ABSENT,) * (4 - len(row)) for row in rows), left_out=left_out
-        )
+        cells = tuple(row + (ABSENT,) * (4 - len(row)) for row in rows)
+        self.document = SizedDocument(servers, (10,) * 4, loads, wants, wants, limit, cells, left_out=left_out)
         self.world = SizedWorld(self.document, rules, keeps_trace=True)
         self.plans = 0
 
@@ -68,7 +67,7 @@ def must(reply: Reply, kind: type) -> None:
 
 
 def shrunk_at_rest(rules: SizedRules) -> None:
-    """A secondary of load 6 shrinks to 3. Now another shard of load 6 has room beside it, and its server must see so."""
+    """A secondary of load 6 shrinks to 3. Now another shard of load 6 has room beside it, as its server has to see."""
     play = SizedPlay(rules, ((PRIMARY, SECONDARY, ABSENT), (ABSENT, ABSENT, PRIMARY)), loads=(6, 6))
     must(play.change(loads=(3, 6)), Opened)
     must(play.add(1, 1), Begun)
@@ -246,8 +245,8 @@ def shard_comes_and_goes(rules: SizedRules) -> None:
 
 
 def reopening_after_a_change(rules: SizedRules) -> None:
-    """Loads shrink, and a reopening follows that carries a server over. It comes back with its old slots, turns Unknown,
-    is restored, and takes what has room beside the smaller load."""
+    """Loads shrink, and a reopening follows that carries a server over. It comes back with its old slots, turns
+    Unknown, is restored, and takes what has room beside the smaller load."""
     play = SizedPlay(rules, ((PRIMARY, SECONDARY, ABSENT), (ABSENT, ABSENT, PRIMARY)), loads=(6, 6))
     approved = play.do(commands.Approve(1, "by"))
     must(approved, Approved)

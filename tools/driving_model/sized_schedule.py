@@ -17,8 +17,8 @@ WEIGHTS = schedule.WEIGHTS | {"sizes": 0.05, "resize": 0.04}
 REST = {"plan": 0.5, "answer": 2, "deliver": 1.3, "work": 2, "sizes": 2, "resize": 0.3, "epoch": 0.5, "fault": 0.6}
 BUSY = {"plan": 2, "sizes": 0.3, "resize": 3, "fault": 0.5, "epoch": 0.5}
 TIGHT = {
-    "plan": 4, "deliver": 2, "work": 3, "answer": 2, "sizes": 0.5, "resize": 5, "fault": 0.2, "epoch": 0.3, "request": 0.3,
-    "approve": 0.3, "restart": 0.5,
+    "plan": 4, "deliver": 2, "work": 3, "answer": 2, "sizes": 0.5, "resize": 5, "fault": 0.2, "epoch": 0.3,
+    "request": 0.3, "approve": 0.3, "restart": 0.5,
 }
 # How much more often something happens in a schedule that is about changes at rest, beside running plans, and so on.
 PROFILES: dict[str, dict[str, float]] = schedule.PROFILES | {"rest": REST, "busy": BUSY, "tight": TIGHT}
@@ -50,8 +50,9 @@ def wider_document(dice: random.Random, profile: str) -> SizedDocument:
     rooms = document.rooms + tuple(dice.choice([7, 9, 12]) for _ in range(width - len(document.rooms)))
     cells = tuple(row + (ABSENT,) * (width - len(row)) for row in document.cells) + ((ABSENT,) * width,) * more
     return SizedDocument(
-        document.servers, rooms, document.loads + (2,) * more, document.wants + (1,) * more, document.caps + (1,) * more,
-        document.limit, cells, document.down, document.log, left_out=frozenset(range(height - more, height)),
+        document.servers, rooms, document.loads + (2,) * more, document.wants + (1,) * more,
+        document.caps + (1,) * more, document.limit, cells, document.down, document.log,
+        left_out=frozenset(range(height - more, height)),
     )
 
 

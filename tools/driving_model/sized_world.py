@@ -62,7 +62,7 @@ class SizedWorld(World):
             self.away &= set(record.permits)
         if outcome.has_changed and isinstance(command, NewEpoch):
             self.count(self.document, command.document)
-            self.given_up = (self.given_up | self.document.servers - command.document.servers) - command.document.servers
+            self.given_up = (self.given_up | self.document.servers) - command.document.servers
         self.see()
         return outcome
 
@@ -154,9 +154,26 @@ def nobody_has_what_is_not_there(sight: Sight) -> str | None:
     return None
 
 
+def what_counts_is_recorded(sight: Sight) -> str | None:
+    """A load that counts against orders at its server is the shard's load as recorded."""
+    world, controller = sight.world, sight.world.controller
+    if not controller.is_open:
+        return None
+    document = controller.record.document
+    for number in sorted(document.servers):
+        server = world.hosts[number].server
+        if not world.hosts[number].is_up or server.is_fenced or server.base < controller.fence:
+            continue
+        for shard, slot in enumerate(server.slots):
+            counts = slot.cell != ABSENT and max(slot.last, server.base) >= controller.sized
+            if counts and slot.load != document.loads[shard] and world.rules.old_loads_left:
+                return f"server {number} counts {slot.load} of shard {shard}, recorded is {document.loads[shard]}"
+    return None
+
+
 STANDING = tuple(
     loads_fit if it is laws.loads_fit else it for it in laws.STANDING
-) + (away_is_recorded, nobody_has_what_is_not_there)
+) + (away_is_recorded, nobody_has_what_is_not_there, what_counts_is_recorded)
 
 
 class SizedOperator(Operator):

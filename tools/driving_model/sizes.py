@@ -72,7 +72,7 @@ class SizedRules(Rules):
     leaver_is_up: bool = rule("A server that it takes away is not down.")
     shard_is_bare: bool = rule("A shard that it takes away has nothing at any server.")
     newcomer_restored: bool = rule("A plan names no server that neither a restore nor a settle has made known.")
-    restore_dropped: bool = rule("With a server that is taken away goes its restore, so it is restored when it returns.")
+    restore_dropped: bool = rule("With a server that is taken away goes its restore, so it gets one when it returns.")
     # Beside running plans.
     named_loads_stay: bool = rule("The load of a shard that an unfinished stream names stays.")
     named_rooms_stay: bool = rule("The room of a server that an unfinished stream names stays.")
