@@ -39,7 +39,7 @@ def run_serve(told: argparse.Namespace) -> int:
     with database.transaction() as tx:
         refuse_server(tx)
         install(tx)
-    limits = Limits(copies=told.copies, dead=told.dead, keeping=told.keeping, ending=told.ending)
+    limits = Limits(copies=told.copies, dead=told.dead, stalled=told.stalled, keeping=told.keeping, ending=told.ending)
     Server(told.name, database, told.reach or told.dsn, told.controller, token, limits, told.http).run()
     return 0
 
@@ -96,6 +96,7 @@ def parser_of() -> argparse.ArgumentParser:
     it.add_argument("--token", metavar="FILE", help="the controller's token")
     it.add_argument("--copies", type=int, default=2, help="how many copies are made from one server at once (2)")
     it.add_argument("--dead", type=float, default=5.0, metavar="SECONDS", help="a follower that reads nothing for so long counts no more, and copies anew (5)")
+    it.add_argument("--stalled", type=float, default=60.0, metavar="SECONDS", help="so does one that reads and gets on with nothing for so long (60)")
     it.add_argument("--keeping", type=float, default=3600.0, metavar="SECONDS", help="for how long identities of requests are kept (3600)")
     it.add_argument("--ending", type=float, default=30.0, metavar="SECONDS", help="requests that keep an order waiting for so long are ended (30)")
     it.set_defaults(run=run_serve)

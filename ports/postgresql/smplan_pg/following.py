@@ -185,7 +185,7 @@ class Following:
             mark = it.mark(shard)
             streams.publish(tx, shard, streams.ALL)  # (first: what a transaction has written before is not told)
             streams.drop_subscription(tx, mine)
-            tx.execute("SELECT sm.set_sequences(%s, sequences) FROM (SELECT sequences FROM " + quoted(shard) + ".sm_cut) it", (shard,))
+            tx.execute(it.own("SELECT sm.set_sequences(%s, sequences) FROM {}.sm_cut", shard), (shard,))
             members = {number: False for number in it.members(shard) if number != self.server.number}
             it.put_members(shard, {**members, slot.party: True})
             it.put_slot(shard, self.server.agent.seal(slot, cut.handover, cut.position))
@@ -207,8 +207,13 @@ class Following:
         primary = self.server.sources.primary_of(shard, told.base)
         if primary is None or (told.is_whole and self.join(shard, primary)):
             return
-        if told.slot.cell == Cell.SECONDARY:
+        if told.slot.cell == Cell.SECONDARY and not self.may_get_on(shard, told, primary):
             self.copy_anew(shard, primary, told)
+
+    def may_get_on(self, shard: str, told: State, primary: int) -> bool:
+        """Whether a source that serves no more, or is away for a moment, may still bring the last writes."""
+        since = self.unserved.setdefault(shard, time.monotonic())
+        return told.is_whole and told.cut is None and told.source not in (None, primary) and time.monotonic() - since < CUT_COMES
 
     def go_over(self, shard: str, owner: int, seconds: float = 3.0) -> bool:
         """Follows the new owner as soon as it has sealed. Whether it does."""
@@ -238,8 +243,7 @@ class Following:
             if not it["is_member"] and told.slot.cell == Cell.SECONDARY and not self.server.live(shard).worker:
                 self.server.peer(told.source).row("SELECT sm.join(%s, %s)", shard, self.server.number)
             return True
-        since = self.unserved.setdefault(shard, time.monotonic())
-        return told.cut is None and it["cell"] in (Cell.FORWARDING, Cell.SECONDARY) and time.monotonic() - since < CUT_COMES
+        return False
 
     def is_enabled(self, shard: str) -> bool:
         """Whether the shard's subscription works."""
@@ -285,6 +289,7 @@ class Following:
         def tell(words: str) -> None:
             live.said = words
 
+        self.unserved.pop(shard, None)
         self.server.say("copies", shard, "anew from", self.server.names[source])
         self.server.copies.make(shard, source, still, tell)
         with self.server.database.transaction() as tx:
@@ -295,11 +300,3 @@ class Following:
             it.put_source(shard, source, True)
         if told.slot.cell == Cell.SECONDARY:
             self.server.peer(source).row("SELECT sm.join(%s, %s)", shard, self.server.number)
-
-
-
-def quoted(name: str) -> str:
-    """A name as a statement has it."""
-    return '"' + name.replace('"', '""') + '"'
-
-

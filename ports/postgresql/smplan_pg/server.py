@@ -64,7 +64,7 @@ class Server:
         self.name, self.database, self.reach, self.controllers, self.token, self.limits = name, database, reach, list(controllers), token, limits
         self.http = http
         self.call: Callable[[str, Optional[Line], float], Any] = Caller(token).call
-        self.beside, self.lock = ThreadPoolExecutor(32), threading.Lock()
+        self.beside, self.lock = ThreadPoolExecutor(256), threading.Lock()
         self.agent = decisions_of(database)
         self.shards: Dict[str, Live] = {}
         self.peers: Dict[int, Peer] = {}

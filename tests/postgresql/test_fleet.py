@@ -1,0 +1,134 @@
+"""Three PostgreSQL servers with a controller, from their opening on: what befalls followers, changes of a schema, and what a server that was given up brings
+back. The tests go on from each other, in the order of their names."""
+import os
+import subprocess
+import tempfile
+import unittest
+from pathlib import Path
+
+import servers  # (it makes the packages be found)
+import psycopg
+from smplan_pg.adopt import adopt
+from smplan_pg.database import Database
+
+TABLES = """CREATE SCHEMA s; CREATE TABLE s.accounts (id int PRIMARY KEY, balance bigint NOT NULL DEFAULT 0);
+CREATE TABLE s.history (id bigserial PRIMARY KEY, request text); INSERT INTO s.accounts SELECT it FROM generate_series(1, 1000) it"""
+DEAD = "3"
+SUM = ("SELECT (SELECT count(*) FROM s.accounts) || ' ' || (SELECT sum(balance) FROM s.accounts) || ' ' || (SELECT count(*) FROM s.history) || ' ' || "
+       "(SELECT sum(writes) FROM s.sm_counters)")
+
+
+def setUpModule():
+    global FLEET, FOLDER
+    FOLDER = tempfile.TemporaryDirectory(prefix="pg-test-", dir="/dev/shm")
+    os.chmod(FOLDER.name, 0o711)
+    FLEET = servers.Fleet(Path(FOLDER.name) / "fleet", ["a", "b", "c"], options=["--dead", DEAD, "--stalled", "5"])
+    FLEET.make()
+    FLEET.posts["a"].query(TABLES)
+    database = Database(FLEET.posts["a"].reach)
+    adopt(database, ["s"])
+    for it in database.idle:
+        it.close()
+    FLEET.open({"limit": 1, "servers": [{"name": it, "region": "r", "room": 9} for it in "abc"], "shards": [
+        {"name": "s", "load": 1, "want": 2, "cap": 1, "spread": 1, "listed": "a", "cells": [{"server": "a", "state": "primary"}, {"server": "b", "state": "secondary"}]}]})
+
+
+def tearDownModule():
+    FLEET.close()
+    FOLDER.cleanup()
+
+
+class FleetTest(unittest.TestCase):
+    """One shard, s, at a and b."""
+
+    def follows(self, primary="a", follower="b"):
+        """Whether a follower counts, and has what the primary has."""
+        members = FLEET.posts[primary].query("SELECT name FROM s.sm_members JOIN sm.servers ON number = server")
+        return members == [(follower,)] and FLEET.posts[primary].query(SUM) == FLEET.posts[follower].query(SUM)
+
+    def settle(self, *words):
+        FLEET.wait_for("the follower has all", lambda: self.follows(*words), 120)
+
+    def write(self, name="a", request="x"):
+        FLEET.posts[name].query("INSERT INTO s.history (request) VALUES (%s)", (request,))
+
+    def pg(self, *words):
+        return subprocess.run([str(servers.ROOT / "ports/postgresql/smplan-pg"), *words], capture_output=True, text=True, check=False)
+
+    def test_1_opened(self):
+        self.settle()
+        self.write()
+        self.settle()
+        told = self.pg("status", "--dsn", FLEET.posts["a"].reach)
+        self.assertEqual(told.returncode, 0, told.stdout)
+        self.assertIn("followed by b", told.stdout)
+        self.assertIn("follows a", self.pg("status", "--dsn", FLEET.posts["b"].reach).stdout)
+
+    def test_2_one_side_alone(self):
+        told = self.pg("serve", "--name", "a", "--dsn", FLEET.posts["a"].reach, "--controller", f"http://127.0.0.1:{FLEET.page}")
+        self.assertEqual(told.returncode, 2)
+        self.assertIn("another smplan-pg serves", told.stderr)
+
+    def test_3_a_stream_that_is_gone(self):
+        FLEET.agents["b"].kill()
+        FLEET.posts["b"].query("ALTER SUBSCRIPTION " + FLEET.posts["b"].query("SELECT sm.stream('s', 2)")[0][0] + " DISABLE")
+        FLEET.wait_for("a goes on without b", lambda: FLEET.posts["a"].query("SELECT count(*) FROM s.sm_members") == [(0,)])
+        self.write()
+        FLEET.agents["b"].start()
+        self.settle()
+        FLEET.wait_for("the old copy is deleted", lambda: FLEET.posts["b"].query("SELECT count(*) FROM sm.asides") == [(0,)])
+
+    def test_4_a_copy_that_is_spoiled(self):
+        FLEET.posts["b"].query("SET sm.own = on; INSERT INTO s.accounts VALUES (2000, 5)")
+        FLEET.posts["a"].query("INSERT INTO s.accounts VALUES (2000, 7)")
+        self.settle()
+        self.assertEqual(FLEET.posts["b"].query("SELECT balance FROM s.accounts WHERE id = 2000"), [(7,)])
+
+    def test_5_a_change_of_the_schema(self):
+        for name in ("a", "b"):
+            with self.assertRaisesRegex(psycopg.Error, "smplan-pg ddl"):
+                FLEET.posts[name].query("ALTER TABLE s.accounts ADD COLUMN word text")
+        file = Path(FOLDER.name) / "change.sql"
+        file.write_text("ALTER TABLE accounts ADD COLUMN word text; CREATE TABLE more (id int PRIMARY KEY, n int); CREATE INDEX ON history (request);")
+        words = ("ddl", "s", str(file), "--name", "v2", "--dsn", FLEET.posts["a"].reach)
+        for _ in range(2):
+            told = self.pg(*words)
+            self.assertEqual(told.returncode, 0, told.stderr)
+        FLEET.posts["a"].query("INSERT INTO s.more VALUES (1, 2)")
+        FLEET.posts["a"].query("UPDATE s.accounts SET word = 'w' WHERE id = 1")
+        FLEET.wait_for("rows of a new table", lambda: FLEET.posts["b"].query("SELECT n FROM s.more") == [(2,)])
+        FLEET.wait_for("a new column", lambda: FLEET.posts["b"].query("SELECT word FROM s.accounts WHERE id = 1") == [("w",)])
+        for name in ("b", "c"):
+            with self.assertRaises(psycopg.Error):
+                FLEET.posts[name].query("INSERT INTO s.more VALUES (3, 4)")
+        told = self.pg("ddl", "s", str(file), "--name", "v3", "--dsn", FLEET.posts["b"].reach)
+        self.assertEqual((told.returncode, "is not served here" in told.stderr), (1, True))
+
+    def test_6_moved_with_all_of_it(self):
+        self.assertEqual(FLEET.command("drain", "a").wait(120), 0)
+        FLEET.wait_for("b or c serves", lambda: any(self.follows(*it) for it in (("b", "c"), ("c", "b"))), 60)
+        owner = "b" if self.follows("b", "c") else "c"
+        FLEET.posts[owner].query("INSERT INTO s.more VALUES (9, 9)")
+        self.assertEqual(FLEET.posts["a"].query("SELECT to_regnamespace('s')"), [(None,)])
+
+    def test_7_what_a_server_that_was_given_up_brings_back(self):
+        owner, other = ("b", "c") if self.follows("b", "c") else ("c", "b")
+        for it in (FLEET.agents, FLEET.posts):
+            it[owner].kill()
+        self.assertEqual(FLEET.command("reopen", "--lost", owner, "--yes", "--wait", "60").wait(120), 0)
+        FLEET.wait_for("the other one serves", lambda: FLEET.posts[other].query("SELECT cell FROM sm.slots WHERE shard = 's'") == [(4,)])
+        self.write(other, "behind")
+        self.assertEqual(FLEET.posts[other].query("SELECT n FROM s.more WHERE id = 9"), [(9,)])
+        self.assertEqual(FLEET.command("repair").wait(120), 0)
+        self.settle(other, "a")
+        FLEET.posts[owner].start()
+        FLEET.posts[owner].wait()
+        FLEET.agents[owner].start()
+        FLEET.wait_for("it answers", lambda: FLEET.answers(owner))
+        self.assertEqual(FLEET.command("add-server", owner, "--region", "r", "--room", "9", "--yes", "--wait", "60").wait(120), 0)
+        FLEET.wait_for("it has nothing any more", lambda: FLEET.posts[owner].query("SELECT to_regnamespace('s')") == [(None,)])
+        self.settle(other, "a")
+
+
+if __name__ == "__main__":
+    unittest.main()
