@@ -27,8 +27,7 @@ def setUpModule():
     FLEET.posts["a"].query(TABLES)
     database = Database(FLEET.posts["a"].reach)
     adopt(database, ["s"])
-    for it in database.idle:
-        it.close()
+    database.close()
     FLEET.open({"limit": 1, "servers": [{"name": it, "region": "r", "room": 9} for it in "abc"], "shards": [
         {"name": "s", "load": 1, "want": 2, "cap": 1, "spread": 1, "listed": "a", "cells": [{"server": "a", "state": "primary"}, {"server": "b", "state": "secondary"}]}]})
 

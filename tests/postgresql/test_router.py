@@ -67,8 +67,7 @@ class Case(unittest.TestCase):
 
     def tearDown(self):
         for it in self.router.servers.values():
-            for c in it.idle:
-                c.close()
+            it.close()
 
     def slots(self, **slots):
         for name, slot in slots.items():
@@ -228,8 +227,7 @@ ignore_startup_parameters = extra_float_digits, options
     def test_the_router_through_it(self):
         router = Router({"a": self.reach}, self.map, patience=5.0)
         self.assertEqual([router.run("s", it, add(5)) for it in ("r1", "r1", "r2")], [5, 5, 10])
-        for c in router.servers["a"].idle:
-            c.close()
+        router.servers["a"].close()
 
 
 if __name__ == "__main__":

@@ -35,8 +35,7 @@ def setUpModule():
 
 
 def tearDownModule():
-    for it in DATABASE.idle:
-        it.close()
+    DATABASE.close()
     POST.kill()
     shutil.rmtree(FOLDER)
 
@@ -381,8 +380,7 @@ class RefusedServerTest(unittest.TestCase):
         with self.assertRaisesRegex(Failure, "no superuser.*Nothing was changed"):
             adopt.adopt(database, ["public"])
         self.assertTrue(value(database.row("SELECT to_regnamespace('sm') IS NULL")))
-        for it in database.idle:
-            it.close()
+        database.close()
 
     def test_another_version_or_level(self):
         class Told:

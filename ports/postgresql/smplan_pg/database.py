@@ -6,8 +6,9 @@ the protocol by itself, and has errors outside its documented classes when a ser
 from __future__ import annotations
 
 import threading
+import time
 from contextlib import contextmanager
-from typing import Any, Dict, Iterator, List, Optional
+from typing import Any, Dict, Iterator, List, Optional, Tuple
 
 import psycopg
 from psycopg.conninfo import make_conninfo
@@ -30,6 +31,9 @@ def unsigned(number: int) -> int:
 # How smplan-pg itself connects: guards let it pass, and what it stores is durable.
 OWN = "-c sm.own=on -c synchronous_commit=local"
 
+# A connection that has rested for so long, in seconds, is tried before it is used.
+RESTED = 1.0
+
 
 class Database:
     """One database, over connections that are kept."""
@@ -37,7 +41,7 @@ class Database:
     def __init__(self, reach: str, patience: Optional[float] = None, options: str = OWN) -> None:
         options += f" -c statement_timeout={int(patience * 1000)}" if patience else ""
         self.reach = make_conninfo(reach, **{"connect_timeout": 3, "application_name": "smplan-pg"}, **({"options": options} if options else {}))
-        self.idle: List[Connection] = []
+        self.idle: List[Tuple[Connection, float]] = []
         self.lock = threading.Lock()
 
     def connect(self) -> Connection:
@@ -48,10 +52,8 @@ class Database:
     def connection(self) -> Iterator[Connection]:
         """A connection, which is kept afterwards if nothing went wrong."""
         with self.lock:
-            c = self.idle.pop() if self.idle else None
-        if c is not None and not is_alive(c):
-            c = None
-        if c is None:
+            c, rested = self.idle.pop() if self.idle else (None, 0.0)
+        if c is None or (time.monotonic() - rested > RESTED and not is_alive(c)):
             c = self.connect()
         try:
             yield c
@@ -59,7 +61,14 @@ class Database:
             c.close()
             raise
         with self.lock:
-            self.idle.append(c)
+            self.idle.append((c, time.monotonic()))
+
+    def close(self) -> None:
+        """Closes what is kept."""
+        with self.lock:
+            idle, self.idle = self.idle, []
+        for c, _ in idle:
+            c.close()
 
     @contextmanager
     def transaction(self) -> Iterator[Connection]:

@@ -24,6 +24,9 @@ FOLLOWING = (Cell.PREPARED, Cell.SECONDARY, Cell.FORWARDING)
 # For how long a follower waits for the last writes of a source that serves no more, in seconds.
 CUT_COMES = 5.0
 
+# How often it is looked whether a source still serves, in seconds. (A cut tells itself.)
+AT_REST = 3.0
+
 
 @dataclass(frozen=True)
 class State:
@@ -203,6 +206,7 @@ class Following:
             if self.go_over(shard, told.cut.party):
                 return
         if told.source is not None and told.is_whole and self.is_served(shard, told):
+            self.next_look[shard] = time.monotonic() + AT_REST
             return
         primary = self.server.sources.primary_of(shard, told.base)
         if primary is None or (told.is_whole and self.join(shard, primary)):
