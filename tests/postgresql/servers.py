@@ -161,8 +161,9 @@ class Fleet:
 
     def command(self, *words, **rest):
         """Begins a command of an operator."""
-        log = (self.folder / "commands.log").open("a")
-        return subprocess.Popen([str(ROOT / "scripts/smplan-control"), *words, "--controller", f"http://127.0.0.1:{self.page}"], stdout=log, stderr=log, **rest)
+        words = [str(ROOT / "scripts/smplan-control"), *words, "--controller", f"http://127.0.0.1:{self.page}"]
+        with (self.folder / "commands.log").open("a") as log:
+            return subprocess.Popen(words, stdout=log, stderr=log, **rest)
 
     def ask(self, line):
         """Asks the controller."""

@@ -51,6 +51,11 @@ class FleetTest(unittest.TestCase):
     def write(self, name="a", request="x"):
         FLEET.posts[name].query("INSERT INTO s.history (request) VALUES (%s)", (request,))
 
+    def command(self, *words):
+        """A command of an operator that has to end well."""
+        status = FLEET.command(*words).wait(120)
+        self.assertEqual(status, 0, (FLEET.folder / "commands.log").read_text()[-600:])
+
     def pg(self, *words):
         return subprocess.run([str(servers.ROOT / "ports/postgresql/smplan-pg"), *words], capture_output=True, text=True, check=False)
 
@@ -104,7 +109,7 @@ class FleetTest(unittest.TestCase):
         self.assertEqual((told.returncode, "is not served here" in told.stderr), (1, True))
 
     def test_6_moved_with_all_of_it(self):
-        self.assertEqual(FLEET.command("drain", "a").wait(120), 0)
+        self.command("drain", "a")
         FLEET.wait_for("b or c serves", lambda: any(self.follows(*it) for it in (("b", "c"), ("c", "b"))), 60)
         owner = "b" if self.follows("b", "c") else "c"
         FLEET.posts[owner].query("INSERT INTO s.more VALUES (9, 9)")
@@ -114,17 +119,17 @@ class FleetTest(unittest.TestCase):
         owner, other = ("b", "c") if self.follows("b", "c") else ("c", "b")
         for it in (FLEET.agents, FLEET.posts):
             it[owner].kill()
-        self.assertEqual(FLEET.command("reopen", "--lost", owner, "--yes", "--wait", "60").wait(120), 0)
+        self.command("reopen", "--lost", owner, "--yes", "--wait", "60")
         FLEET.wait_for("the other one serves", lambda: FLEET.posts[other].query("SELECT cell FROM sm.slots WHERE shard = 's'") == [(4,)])
         self.write(other, "behind")
         self.assertEqual(FLEET.posts[other].query("SELECT n FROM s.more WHERE id = 9"), [(9,)])
-        self.assertEqual(FLEET.command("repair").wait(120), 0)
+        self.command("repair")
         self.settle(other, "a")
         FLEET.posts[owner].start()
         FLEET.posts[owner].wait()
         FLEET.agents[owner].start()
         FLEET.wait_for("it answers", lambda: FLEET.answers(owner))
-        self.assertEqual(FLEET.command("add-server", owner, "--region", "r", "--room", "9", "--yes", "--wait", "60").wait(120), 0)
+        self.command("add-server", owner, "--region", "r", "--room", "9", "--yes", "--wait", "60")
         FLEET.wait_for("it has nothing any more", lambda: FLEET.posts[owner].query("SELECT to_regnamespace('s')") == [(None,)])
         self.settle(other, "a")
 

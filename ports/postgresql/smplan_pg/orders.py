@@ -21,6 +21,10 @@ if TYPE_CHECKING:
 Line = Dict[str, Any]
 
 
+# For how long an order is tried without a new message, in seconds.
+TRYING = 2.0
+
+
 class Ended(Exception):
     """An order has no work any more."""
 
@@ -64,8 +68,8 @@ class Orders:
     # -- the thread of an order
 
     def work(self, shard: str, order: Order, line: Line) -> None:
-        """Works until the order is committed, or can't be any more."""
-        live, pause = self.server.live(shard), 0.05
+        """Works until the order is committed, or can't be any more, or for a moment: then it comes again, and tells what is so by then."""
+        live, pause, until = self.server.live(shard), 0.01, time.monotonic() + TRYING
         try:
             while True:
                 try:
@@ -74,6 +78,8 @@ class Orders:
                     return
                 except (Stuck, OSError, psycopg.Error) as why:
                     live.said = str(why).strip()
+                if time.monotonic() > until:
+                    return
                 pause = min(2 * pause, self.limits.resting)
                 time.sleep(pause)
         except (Ended, GivenUp) as why:
