@@ -33,13 +33,15 @@ impl Applies for Keeper {
     ghost use Rattle.sm_session.specs.declared.session.LineEffect.TheVariants as did;
     ghost use Rattle.sm_session.specs.Asked.{DoesAsSaid};
     ghost use Rattle.sm_session.specs.Changes.{SessionChanges};
-    ghost use Rattle.sm_session.specs.Replies.{RepliesTo};
+    ghost use Rattle.sm_session.specs.Declines.{DeclinesBy};
+    ghost use Rattle.sm_session.specs.Replies.{IsLineReply, RepliesTo};
 
     ghost takes = { λ old x new. (x.effect ≡ effect.Changed → SessionChanges old.session new.session)
         × (x.effect ≡ effect.Changed → DoesAsSaid x.line old.session new.session)
         × (x.effect ≡ effect.Changed → RepliesTo x.line old.session new.session did.Changed x.reply)
         × (x.effect ≡ effect.Unchanged → new.session ≡ old.session)
-        × (x.effect ≡ effect.Unchanged → RepliesTo x.line old.session new.session did.Unchanged x.reply) };
+        × (x.effect ≡ effect.Unchanged → IsLineReply x.line old.session new.session did.Unchanged x.reply)
+        × (x.effect ≡ effect.Unchanged → DeclinesBy x.reply x.line old.session) };
 
     fn apply(
         &mut self,
@@ -53,10 +55,12 @@ impl Applies for Keeper {
         }
     }
 
+    /// Applies an entry again. One that changes nothing, as only a damaged journal has, is declined as a line is.
     fn replay(&mut self, alloc: Global, entry: &[u8]) -> Result<Applied, AllocError> {
-        Ok(match self.session.replay(alloc, entry)? {
-            LineEffect::Changed => Applied::Changed,
-            LineEffect::Unchanged => Applied::Unchanged,
-        })
+        if let LineEffect::Changed = self.session.replay(alloc, entry)? {
+            return Ok(Applied::Changed);
+        }
+        let mut unread = Vec::new(alloc);
+        self.apply(alloc, entry, &mut unread)
     }
 }

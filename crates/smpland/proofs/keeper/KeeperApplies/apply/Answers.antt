@@ -1,7 +1,8 @@
-use Rattle.std.proofs.Common.{◌≡◌, subst}
+use Rattle.std.proofs.Common.{◌≡◌, ◌∙◌, ℕ, List, subst, sym}
+use Rattle.std.proofs.lemmas.List.{append_cancel_left}
 use Rattle.journal_session.specs.declared.applies.Applied.TheVariants as effect
 use Rattle.sm_session.specs.declared.session.LineEffect.{LineEffect}
-use Rattle.sm_session.specs.declared.session.LineEffect.TheVariants as did
+use Rattle.sm_session.specs.Declines.{DeclinesBy}
 use Rattle.sm_session.specs.Replies.{RepliesTo}
 use Rattle.smpland.proofs.keeper.KeeperApplies.apply.Goals as goal
 
@@ -18,6 +19,7 @@ returns-in-Changed-clause-takes c =
         (λ _. reply),
         (λ (is : effect.Changed ≡ effect.Unchanged). absurd (let z = is in cc)),
         (λ (is : effect.Changed ≡ effect.Unchanged). absurd (let z = is in cc)),
+        (λ (is : effect.Changed ≡ effect.Unchanged). absurd (let z = is in cc)),
       ),
     )
 
@@ -25,7 +27,10 @@ pub returns-in-Unchanged-clause-takes : goal.returns-in-Unchanged-clause-takes
 returns-in-Unchanged-clause-takes c =
     let done = c.in_ok-apply.ensures in
     let told = done.told in
-    let reply = subst (λ (e : LineEffect). RepliesTo c.args.line.now c.args.self.now.session c.apply.new.self e told.0) c.in-Unchanged.is told.2.0 in (
+    let reply = subst (λ (e : LineEffect). RepliesTo c.args.line.now c.args.self.now.session c.apply.new.self e told.0) c.in-Unchanged.is told.2.0 in
+    let declines = done.declined c.in-Unchanged.is in
+    let same = append_cancel_left c.args.reply.now.items declines.0 told.0 (sym declines.1 ∙ told.1) in
+    let declined = subst (λ (text : List ℕ). DeclinesBy text c.args.line.now c.args.self.now.session) same declines.2 in (
       told.0,
       told.1,
       (
@@ -33,6 +38,7 @@ returns-in-Unchanged-clause-takes c =
         (λ (is : effect.Unchanged ≡ effect.Changed). absurd (let z = is in cc)),
         (λ (is : effect.Unchanged ≡ effect.Changed). absurd (let z = is in cc)),
         (λ _. done.unchanged c.in-Unchanged.is),
-        (λ _. reply),
+        (λ _. (reply, told.2.1)),
+        (λ _. declined),
       ),
     )
