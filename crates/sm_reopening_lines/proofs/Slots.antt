@@ -32,9 +32,9 @@ use Rattle.sm_commands.specs.declared.slots.PartyText.TheVariants.{Missing, Null
 use Rattle.sm_commands.specs.declared.slots.SlotNeeds.{SlotNeeds}
 use Rattle.sm_commands.specs.declared.slots.SlotNeeds.TheVariants as needs
 use Rattle.sm_commands.specs.declared.slots.SlotText.{SlotText}
-use Rattle.sm_reopening_lines.specs.Slots.{AreSlotsOf, IsCellOf, IsPartyOf, IsSlotOf, IsToldBy, cell_by, cell_told, is_row_of, is_text_of, last_with, party_told, slot_by, slot_told}
+use Rattle.sm_reopening_lines.specs.Slots.{AreSlotsOf, IsCellOf, IsPartyOf, IsSlotOf, IsToldByRow, cell_by, cell_told, is_row_of, is_text_of, last_with, party_told, slot_by, slot_told}
 use Rattle.sm_reopening_lines.specs.Taken.{IsToldAs, ListsSlots, TakesToldBy}
-use Rattle.sm_reopening_lines.specs.Told.{HasSlots}
+use Rattle.sm_reopening_lines.specs.Told.{HasEachSlot}
 
 -- ---- the last of a list's items
 
@@ -145,7 +145,7 @@ pub slots_are : (numbering : Setup) (rows : List Tree) (slots : List SlotText) �
 slots_are numbering rows slots tell needed s =
     by_last (last_with (is_row_of numbering s) rows) (last_with (is_text_of numbering s) slots) (last_both numbering s rows slots tell needed)
   where
-    by_last : (o : Option Tree) (p : Option SlotText) → AreBoth o p → IsToldBy numbering o (option_map_or (slot_told numbering) p no_slot)
+    by_last : (o : Option Tree) (p : Option SlotText) → AreBoth o p → IsToldByRow numbering o (option_map_or (slot_told numbering) p no_slot)
     by_last (Some row) (Some slot) both = slot_is numbering (view row) slot both.0 both.1
     by_last None None both = refl
     by_last (Some row) None both = absurd both
@@ -153,14 +153,14 @@ slots_are numbering rows slots tell needed s =
 
 -- so an inventory that has them is what the rows tell
 pub lists_told : (numbering found : Setup) (rows : List Tree) (slots items : List SlotText) (inventory : Told) → found ≡ numbering → items ≡ slots →
-    TellSlots rows slots → All (IsSlotFor needs.Fence) slots → HasSlots (slot_by found items) inventory →
+    TellSlots rows slots → All (IsSlotFor needs.Fence) slots → HasEachSlot (slot_by found items) inventory →
     ListsSlots numbering rows (net_inventory inventory) (told_position (Some inventory))
 lists_told numbering found rows slots items inventory same is tell needed has =
     by_kind inventory (rw (same, is) at has)
   where
-    by_kind : (i : Told) → HasSlots (slot_by numbering slots) i → ListsSlots numbering rows (net_inventory i) (told_position (Some i))
+    by_kind : (i : Told) → HasEachSlot (slot_by numbering slots) i → ListsSlots numbering rows (net_inventory i) (told_position (Some i))
     by_kind (told.Slots found) has = λ s.
-        subst (λ slot. IsToldBy numbering (last_with (is_row_of numbering s) rows) slot) (sym (has s)) (slots_are numbering rows slots tell needed s)
+        subst (λ slot. IsToldByRow numbering (last_with (is_row_of numbering s) rows) slot) (sym (has s)) (slots_are numbering rows slots tell needed s)
     by_kind (told.Unknown nonce) has = absurd has
 
 -- ---- what a server has told once it is taken
@@ -172,7 +172,7 @@ told_still numbering named told inventory p q names same is = rw names (by_text 
   where
     listed : (rows : List Tree) (i : Inventory) → ListsSlots numbering rows i p → ListsSlots numbering rows i q
     listed rows (Slots cells reached) is = λ s.
-        subst (λ n. IsToldBy numbering (last_with (is_row_of numbering s) rows) (record { cell = cells s; position = n; reached = reached s })) (sym (same s)) (is s)
+        subst (λ n. IsToldByRow numbering (last_with (is_row_of numbering s) rows) (record { cell = cells s; position = n; reached = reached s })) (sym (same s)) (is s)
     listed rows (Unknown nonce) is = absurd is
     listed rows Entries is = absurd is
 

@@ -62,13 +62,13 @@ abbrev pub is_row_of : Setup → ℕ → Tree → Bool
 is_row_of numbering s row = is_the (option_and_then (shard_named numbering) (text_at at.Shard (view row))) s
 
 -- the slot is what a row tells; without a row it is that of a server that has nothing
-abbrev pub IsToldBy : Setup → Option Tree → FoundSlot → Type 0
-IsToldBy numbering (Some row) slot = IsSlotOf numbering (view row) slot
-IsToldBy numbering None slot = slot ≡ no_slot
+abbrev pub IsToldByRow : Setup → Option Tree → FoundSlot → Type 0
+IsToldByRow numbering (Some row) slot = IsSlotOf numbering (view row) slot
+IsToldByRow numbering None slot = slot ≡ no_slot
 
 -- The slot of each shard is what the row with its name tells. No two rows have one name; of such the last would count.
 abbrev pub AreSlotsOf : Setup → List Tree → (ℕ → FoundSlot) → Type 0
-AreSlotsOf numbering rows slots = (s : ℕ) → IsToldBy numbering (last_with (is_row_of numbering s) rows) (slots s)
+AreSlotsOf numbering rows slots = (s : ℕ) → IsToldByRow numbering (last_with (is_row_of numbering s) rows) (slots s)
 
 -- ---- the same of rows that were read
 

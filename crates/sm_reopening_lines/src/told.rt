@@ -3,7 +3,7 @@ ghost use Rattle.std.specs.Prelude.{◌≡◌, ◌==◌, ◌<◌, ℕ, IfOk, OnO
 ghost use Rattle.sm_network.specs.Reopening.{Unknown};
 ghost use Rattle.sm_reopening.specs.States.{fits_told, net_inventory, no_slot, slot_in};
 ghost use Rattle.sm_reopening_lines.specs.Slots.{cell_told, is_text_of, party_told, slot_by, slot_told};
-ghost use Rattle.sm_reopening_lines.specs.Told.{HasSlots};
+ghost use Rattle.sm_reopening_lines.specs.Told.{HasEachSlot};
 
 use sm_commands::{CellKind, PartyText, SlotText};
 use sm_placement::Config;
@@ -116,7 +116,7 @@ pub(crate) fn told_by_slots(
     slots: &[SlotText<'_>],
 ) -> Result<Told, AllocError>
     ensures fits { IfOk result (λ told. fits_told (length numbering.now.shards) (Some told.inventory) ≡ true) }
-    ensures slots { IfOk result (λ told. HasSlots (slot_by numbering.now slots.now) told.inventory) }
+    ensures slots { IfOk result (λ told. HasEachSlot (slot_by numbering.now slots.now) told.inventory) }
 {
     let mut found = no_slots(alloc, numbering)?;
     let mut strays = Vec::new(alloc);
