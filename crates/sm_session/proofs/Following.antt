@@ -1,12 +1,10 @@
 -- Lines on a reopening, whoever they name.
-use Rattle.std.proofs.Common.{◌≡◌, ◌⊎◌, ℕ, Bor, List, Option, Some, None, inl, inr, refl}
-use Rattle.sm_reopening.specs.declared.settling.SettledEffect.{SettledEffect}
-use Rattle.sm_reopening.specs.declared.settling.SettledEffect.TheVariants.{Old, Waiting, Complete}
+use Rattle.std.proofs.Common.{ℕ, Bor, List, Option, Some, None}
 use Rattle.sm_document_reopening.specs.Reopening.{ReopeningModel}
 use Rattle.sm_commands.specs.declared.command.ToldText.{ToldText}
 use Rattle.sm_open_journal.specs.declared.opened.Opened.{Opened}
 use Rattle.sm_reopening_lines.specs.Taken.{TakesFenced, TakesSettled, TakesSettledBy, TakesTold}
-use Rattle.sm_session.specs.declared.reopening.UnderWay.{UnderWay}
+use Rattle.sm_session.specs.declared.under_way.UnderWay.{UnderWay}
 use Rattle.sm_session.specs.Changes.{BecomesLast, ComesInForce, ComesInForceBy, reopening_under_way}
 
 -- an answer to a fence
@@ -25,9 +23,3 @@ comes_in_force server base under after new h = (h.0, by_line (reopening_under_wa
     by_line : (o : Option ReopeningModel) (last : ReopeningModel) → BecomesLast (TakesSettledBy server base) o last → BecomesLast TakesSettled o last
     by_line (Some r) last h = settled_by_line server base r last h
     by_line None last h = h
-
--- an answer to a settle that counts is the last one, or others are missing
-pub settles_or_waits : {A B : Type 0} (effect : SettledEffect) → (effect ≡ Waiting → A) → (effect ≡ Complete → B) → (effect ≡ Old → ⊥) → A ⊎ B
-settles_or_waits Old waits completes counts = absurd (counts refl)
-settles_or_waits Waiting waits completes counts = inl (waits refl)
-settles_or_waits Complete waits completes counts = inr (completes refl)

@@ -1,11 +1,8 @@
-pub mod Asked
-pub mod Declined
-pub mod Did
 pub mod Exchanged
 pub mod Following
+pub mod Found
+pub mod Openings
 pub mod Outcomes
 pub mod Reopenings
-pub mod Replayed
-pub mod Shifted
-pub mod Told
+pub mod Taken
 pub mod Verdicts

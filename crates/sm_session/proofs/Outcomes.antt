@@ -32,8 +32,8 @@ use Rattle.sm_open_journal.specs.Restores.{TellsKept, restore_object}
 use Rattle.sm_session.specs.declared.decline.Decline.{Decline}
 use Rattle.sm_session.specs.declared.decline.Decline.TheVariants as decline
 use Rattle.sm_session.specs.declared.decline.Ignored.TheVariants as ignored
-use Rattle.sm_session.specs.declared.outcome.DriverOutcome.{DriverOutcome}
-use Rattle.sm_session.specs.declared.outcome.DriverOutcome.TheVariants as outcome
+use Rattle.sm_session.specs.declared.driver_outcome.DriverOutcome.{DriverOutcome}
+use Rattle.sm_session.specs.declared.driver_outcome.DriverOutcome.TheVariants as outcome
 use Rattle.sm_session.specs.Answers.{AnswersAgain, TellsGiven}
 use Rattle.sm_session.specs.Asked.{DoesToDriver, SaysPlan}
 use Rattle.sm_session.specs.Changes.{Approves, Begins, Changes, Ends, OpensEpoch, Restores, Takes}
@@ -254,24 +254,29 @@ module _ (before after : List Token) where
   declines driver.NewEpoch r old new (outcome.Declined why) h told is = declines_by why before after told
   declines _ r old new _ h told is = absurd h
 
--- what a server is told is told by some members
-kept_told : (d : DriverModel) (v : ℕ) (found : Option RestoreModel) →
-    (members : List Token) × IfSome found (λ restore. members ≡ key (codes "restore") ∷ restore_object d v restore)
-kept_told d v None = ([], tt)
-kept_told d v (Some restore) = (key (codes "restore") ∷ restore_object d v restore, refl)
+module _ (front : List Token) where
+  -- what a server is told is told by some members
+  kept_told : (d : DriverModel) (v : ℕ) → (members : List Token) × TellsKept d v front members
+  kept_told d v = of_found (restore_at d.restores v)
+    where
+      of_found : (found : Option RestoreModel) →
+          (members : List Token) × IfSome found (λ restore. members ≡ front ++ key (codes "restore") ∷ restore_object d v restore)
+      of_found None = (front, tt)
+      of_found (Some restore) = (front ++ key (codes "restore") ∷ restore_object d v restore, refl)
 
--- so is a change
-pub told_by : (new : Opened) (o : DriverOutcome) → has_changed o ≡ true → (members : List Token) × TellsOutcome new o [] members
-told_by new (outcome.Begun begun) is = (begun_members new.driver begun, refl)
-told_by new (outcome.BegunBefore begun goes_on) is = absurd (let z = is in cc)
-told_by new (outcome.Moved id gone) is = (moved_members new.driver id gone.items, refl)
-told_by new (outcome.Approved server permit) is = (permit_member (codes "approved") (server_text new.driver.machine.placement.setup server) permit, refl)
-told_by new (outcome.ApprovedBefore at) is = absurd (let z = is in cc)
-told_by new (outcome.Up server) is = (text_member (codes "up") (server_text new.driver.machine.placement.setup server), refl)
-told_by new (outcome.Restored server nonce) is = kept_told new.driver server (restore_at new.driver.restores server)
-told_by new (outcome.RestoredBefore server nonce) is = absurd (let z = is in cc)
-told_by new outcome.NextEpoch is = (opened_member new.driver, refl)
-told_by new (outcome.Declined why) is = absurd (let z = is in cc)
+  -- so is a change
+  pub told_by : (new : Opened) (o : DriverOutcome) → has_changed o ≡ true → (members : List Token) × TellsOutcome new o front members
+  told_by new (outcome.Begun begun) is = (front ++ begun_members new.driver begun, refl)
+  told_by new (outcome.BegunBefore begun goes_on) is = absurd (let z = is in cc)
+  told_by new (outcome.Moved id gone) is = (front ++ moved_members new.driver id gone.items, refl)
+  told_by new (outcome.Approved server permit) is =
+      (front ++ permit_member (codes "approved") (server_text new.driver.machine.placement.setup server) permit, refl)
+  told_by new (outcome.ApprovedBefore at) is = absurd (let z = is in cc)
+  told_by new (outcome.Up server) is = (front ++ text_member (codes "up") (server_text new.driver.machine.placement.setup server), refl)
+  told_by new (outcome.Restored server nonce) is = kept_told new.driver server
+  told_by new (outcome.RestoredBefore server nonce) is = absurd (let z = is in cc)
+  told_by new outcome.NextEpoch is = (front ++ opened_member new.driver, refl)
+  told_by new (outcome.Declined why) is = absurd (let z = is in cc)
 
 -- ---- begins
 

@@ -1,7 +1,6 @@
 -- What comes of lines of a reopening to a session: what has counted is what was asked for, and its reply tells it.
 use Rattle.std.proofs.Common.{◌≡◌, ◌∙◌, ◌++◌, ◌⊎◌, ℕ, Bool, true, false, Bor, List, Option, Some, None, ap, inl, inr, refl, subst, sym}
 use Rattle.json.specs.Token.{Token}
-use Rattle.sm_reopening.specs.declared.settling.SettledEffect.TheVariants as effect
 use Rattle.sm_driver.specs.Driver.{DriverModel}
 use Rattle.sm_commands.specs.declared.command.ToldText.{ToldText}
 use Rattle.sm_open_journal.specs.declared.opened.Opened.{Opened}
@@ -12,13 +11,12 @@ use Rattle.sm_reopening_lines.specs.declared.outcome.ReopeningOutcome.{Reopening
 use Rattle.sm_reopening_lines.specs.declared.outcome.ReopeningOutcome.TheVariants as outcome
 use Rattle.sm_reopening_lines.proofs.Outcomes.{all_took, counts_confirm, counts_fenced, counts_settled, confirm_is, fenced_is, keeps_confirm, keeps_fenced, keeps_settled, settled_is}
 use Rattle.sm_session.specs.Asked.{StaysUnderWay, texts_among}
-use Rattle.sm_session.specs.Changes.{BecomesLast, BeginsReopening, ComesInForce, ComesInForceBy, HasGoneOn, HasReopened, OpensOf, ReopensWithout, driver_of, reopening_under_way}
-use Rattle.sm_session.specs.Reopenings.{DoesReopen, DoesSettle, DoesUnderWay, TellsReopen, TellsUnderWay, has_begun, settled_effect}
-use Rattle.sm_session.specs.Replies.{Confirmed, Fenced, Settled, TellsFences, TellsGoneOn, TellsOn, TellsOpened}
-use Rattle.sm_session.specs.declared.reopening.ReopenLine.{ReopenLine}
-use Rattle.sm_session.specs.declared.reopening.ReopenOutcome.{ReopenOutcome}
-use Rattle.sm_session.specs.declared.reopening.ReopenOutcome.TheVariants as reopen
-use Rattle.sm_session.specs.declared.reopening.UnderWay.{UnderWay}
+use Rattle.sm_session.specs.Changes.{BecomesLast, BeginsReopening, ComesInForceBy, Follows as GoesOn, HasChanged, HasGoneOn, Opens as InForce, OpensOf, ReopensWithout, driver_of, reopening_under_way}
+use Rattle.sm_session.specs.Reopenings.{DoesReopen, DoesSettle, DoesUnderWay, TellsReopen, TellsUnderWay, has_begun}
+use Rattle.sm_session.specs.Replies.{Confirmed, Fenced, Follows, Opens, Settled, TellsFences, TellsGoneOn, TellsOn, TellsOpened, TellsReopening}
+use Rattle.sm_session.specs.declared.reopen_line.ReopenLine.{ReopenLine}
+use Rattle.sm_session.specs.declared.reopen_outcome.ReopenOutcome.TheVariants as reopen
+use Rattle.sm_session.specs.declared.under_way.UnderWay.{UnderWay}
 use Rattle.sm_session.proofs.Following.{comes_in_force, settled_by_line, told_by_line}
 
 -- ---- lines on the reopening under way
@@ -107,36 +105,19 @@ module _ (base : ℕ) (old new : Option UnderWay) (came : ReopeningOutcome) wher
 
 -- ---- answers to settles
 
-counted : (came : ReopeningOutcome) → settled_effect came ≡ effect.Waiting → has_counted came ≡ true
-counted outcome.Fenced is = refl
-counted outcome.Confirmed is = refl
-counted outcome.Settled is = refl
-counted outcome.Complete is = absurd (let z = is in cc)
-counted outcome.Old is = absurd (let z = is in cc)
-counted (outcome.Bad _) is = absurd (let z = is in cc)
-counted (outcome.Refused _) is = absurd (let z = is in cc)
-
-not_counted : (came : ReopeningOutcome) → settled_effect came ≡ effect.Old → has_counted came ≡ false
-not_counted outcome.Fenced is = absurd (let z = is in cc)
-not_counted outcome.Confirmed is = absurd (let z = is in cc)
-not_counted outcome.Settled is = absurd (let z = is in cc)
-not_counted outcome.Complete is = absurd (let z = is in cc)
-not_counted outcome.Old is = refl
-not_counted (outcome.Bad _) is = refl
-not_counted (outcome.Refused _) is = refl
-
-is_last : (came : ReopeningOutcome) → settled_effect came ≡ effect.Complete → came ≡ outcome.Complete
-is_last outcome.Fenced is = absurd (let z = is in cc)
-is_last outcome.Confirmed is = absurd (let z = is in cc)
-is_last outcome.Settled is = absurd (let z = is in cc)
-is_last outcome.Complete is = refl
-is_last outcome.Old is = absurd (let z = is in cc)
-is_last (outcome.Bad _) is = absurd (let z = is in cc)
-is_last (outcome.Refused _) is = absurd (let z = is in cc)
+-- an answer to a settle is the last one, or it is not
+is_last : (it : ReopeningOutcome) → (it ≡ outcome.Complete) ⊎ (it ≡ outcome.Complete → ⊥)
+is_last outcome.Fenced = inr (λ (e : outcome.Fenced ≡ outcome.Complete). absurd (let z = e in cc))
+is_last outcome.Confirmed = inr (λ (e : outcome.Confirmed ≡ outcome.Complete). absurd (let z = e in cc))
+is_last outcome.Settled = inr (λ (e : outcome.Settled ≡ outcome.Complete). absurd (let z = e in cc))
+is_last outcome.Complete = inl refl
+is_last outcome.Old = inr (λ (e : outcome.Old ≡ outcome.Complete). absurd (let z = e in cc))
+is_last (outcome.Bad fault) = inr (λ (e : outcome.Bad fault ≡ outcome.Complete). absurd (let z = e in cc))
+is_last (outcome.Refused why) = inr (λ (e : outcome.Refused why ≡ outcome.Complete). absurd (let z = e in cc))
 
 module _ (server : Option (Bor (List ℕ))) (base : ℕ) (opened : Option Opened) (under : Option UnderWay) (new : Option Opened) (after_it : Option UnderWay) where
   -- unless it is the last one, the open journal stays as it is
-  before_last : (came : ReopeningOutcome) → (settled_effect came ≡ effect.Complete → ⊥) → DoesSettle server base opened under came new after_it →
+  before_last : (came : ReopeningOutcome) → (came ≡ outcome.Complete → ⊥) → DoesSettle server base opened under came new after_it →
       DoesUnderWay (DoesSettled server base) under came after_it × (new ≡ opened)
   before_last outcome.Fenced others does = does
   before_last outcome.Confirmed others does = does
@@ -146,58 +127,52 @@ module _ (server : Option (Bor (List ℕ))) (base : ℕ) (opened : Option Opened
   before_last (outcome.Bad _) others does = does
   before_last (outcome.Refused _) others does = does
 
-  old_is : (came : ReopeningOutcome) → settled_effect came ≡ effect.Old → settled_effect came ≡ effect.Complete → ⊥
-  old_is came is last = let z : effect.Old ≡ effect.Complete = sym is ∙ last in cc
-
-  waiting_is : (came : ReopeningOutcome) → settled_effect came ≡ effect.Waiting → settled_effect came ≡ effect.Complete → ⊥
-  waiting_is came is last = let z : effect.Waiting ≡ effect.Complete = sym is ∙ last in cc
-
   module _ (came : ReopeningOutcome) (does : DoesSettle server base opened under came new after_it) where
-    -- an old answer changes nothing
-    pub old_keeps_open : settled_effect came ≡ effect.Old → new ≡ opened
-    old_keeps_open is = (before_last came (old_is came is) does).1
+    -- with the last one what was settled is in force
+    completes : came ≡ outcome.Complete → ComesInForceBy (TakesSettledBy server base) under after_it new
+    completes is = subst (λ (it : ReopeningOutcome). DoesSettle server base opened under it new after_it) is does
 
-    -- neither in the reopening
-    pub old_keeps : settled_effect came ≡ effect.Old → after_it ≡ under
-    old_keeps is = keeps (DoesSettled server base) came under after_it (λ o n. keeps_settled server base o n came)
-        (before_last came (old_is came is) does).0 (not_counted came is)
-
-    -- one that counts leaves the journal as it is, as long as others are missing
-    pub waiting_keeps_open : settled_effect came ≡ effect.Waiting → new ≡ opened
-    waiting_keeps_open is = (before_last came (waiting_is came is) does).1
+    -- with any other that counts, the reopening stays under way
+    waits : (came ≡ outcome.Complete → ⊥) → has_counted came ≡ true → StaysUnderWay (TakesSettledBy server base) under after_it
+    waits others is = stays (DoesSettled server base) came (TakesSettledBy server base) under after_it (λ o n. counts_settled server base o n came)
+        (before_last came others does).0 is
 
     -- it is the line's
-    pub settled_asked : settled_effect came ≡ effect.Waiting → StaysUnderWay (TakesSettledBy server base) under after_it
-    settled_asked is = stays (DoesSettled server base) came (TakesSettledBy server base) under after_it (λ o n. counts_settled server base o n came)
-        (before_last came (waiting_is came is) does).0 (counted came is)
+    pub settled_asked : has_counted came ≡ true → StaysUnderWay (TakesSettledBy server base) under after_it ⊎ ComesInForceBy (TakesSettledBy server base) under after_it new
+    settled_asked is = elim (is_last came) [
+      | inl e ↦ inr (completes e)
+      | inr others ↦ inl (waits others is)
+    ]
 
-    -- the reopening has gone on
-    pub settled_taken : settled_effect came ≡ effect.Waiting → HasGoneOn under after_it
-    settled_taken is = goes_on (TakesSettledBy server base) under after_it (λ o n taken. inr (inr (settled_by_line server base o n taken))) (settled_asked is)
+    -- it has changed the session
+    pub settled_changes : has_counted came ≡ true → HasChanged opened under new after_it
+    settled_changes is = elim (is_last came) [
+      | inl e ↦ InForce (comes_in_force server base under after_it new (completes e))
+      | inr others ↦ GoesOn (before_last came others does).1
+          (goes_on (TakesSettledBy server base) under after_it (λ o n taken. inr (inr (settled_by_line server base o n taken))) (waits others is))
+    ]
 
-    -- and that is told
-    pub settled_waits : (before after : List Token) → settled_effect came ≡ effect.Waiting → TellsUnderWay new after_it came before after →
-        TellsGoneOn under after_it before after
-    settled_waits before after is = tells (DoesSettled server base) came new under after_it before after (λ o n did counts told.
-        Settled (settled_by_line server base o.reopening n.reopening (counts_settled server base o.reopening n.reopening came did counts))
-        (elim (settled_is server base o.reopening n.reopening came did counts) [
-          | inl e ↦ subst (λ (it : ReopeningOutcome). TellsUnderWay new (Some n) it before after) e told
-          | inr e ↦ absurd (waiting_is came is (ap settled_effect e))
-        ]))
-        (before_last came (waiting_is came is) does).0 (counted came is)
+    -- or nothing has changed
+    pub settled_keeps : has_counted came ≡ false → (new ≡ opened) × (after_it ≡ under)
+    settled_keeps is =
+        let others : came ≡ outcome.Complete → ⊥ = λ (e : came ≡ outcome.Complete). absurd (let z : true ≡ false = sym (ap has_counted e) ∙ is in cc) in
+        let still = before_last came others does in
+        (still.1, keeps (DoesSettled server base) came under after_it (λ o n. keeps_settled server base o n came) still.0 is)
 
-    -- with the last one what was settled is in force
-    pub settled_completes : settled_effect came ≡ effect.Complete → ComesInForceBy (TakesSettledBy server base) under after_it new
-    settled_completes is = subst (λ (it : ReopeningOutcome). DoesSettle server base opened under it new after_it) (is_last came is) does
-
-    -- whichever party it is
-    pub settled_complete : settled_effect came ≡ effect.Complete → ComesInForce under after_it new
-    settled_complete is = comes_in_force server base under after_it new (settled_completes is)
-
-    -- and that is told
-    pub settled_opens : (before after : List Token) → settled_effect came ≡ effect.Complete → TellsUnderWay new after_it came before after →
-        TellsOpened new before after
-    settled_opens before after is told = opens new (settled_completes is) (subst (λ (it : ReopeningOutcome). TellsUnderWay new after_it it before after) (is_last came is) told)
+    -- and what has is told
+    pub settled_tells : (before after : List Token) → has_counted came ≡ true → TellsUnderWay new after_it came before after →
+        TellsReopening opened under new after_it before after
+    settled_tells before after is told = elim (is_last came) [
+      | inl e ↦ Opens (comes_in_force server base under after_it new (completes e))
+          (opens new (completes e) (subst (λ (it : ReopeningOutcome). TellsUnderWay new after_it it before after) e told))
+      | inr others ↦ Follows (tells (DoesSettled server base) came new under after_it before after (λ o n did counts told.
+          Settled (settled_by_line server base o.reopening n.reopening (counts_settled server base o.reopening n.reopening came did counts))
+          (elim (settled_is server base o.reopening n.reopening came did counts) [
+            | inl e ↦ subst (λ (it : ReopeningOutcome). TellsUnderWay new (Some n) it before after) e told
+            | inr e ↦ absurd (others e)
+          ]))
+          (before_last came others does).0 is told)
+    ]
       where
         opens : (o : Option Opened) → ComesInForceBy (TakesSettledBy server base) under after_it o → TellsUnderWay o after_it outcome.Complete before after →
             TellsOpened o before after
@@ -251,23 +226,9 @@ nothing_begins lost driver (Some b) begun = begun
 nothing_begins lost (Some d) None begun = begun
 nothing_begins lost None None begun = begun
 
-module _ (line : ReopenLine) (opened : Option Opened) (under after_it : Option UnderWay) where
-  -- it is the line's
-  pub reopens : (came : ReopenOutcome) → DoesReopen line opened under came after_it → has_begun came ≡ true → DoesReopen line opened under reopen.Begun after_it
-  reopens reopen.Begun does is = does
-  reopens (reopen.NotBegun _) does is = absurd (let z = is in cc)
-
-  -- or nothing has changed
-  pub reopen_keeps : (came : ReopenOutcome) → DoesReopen line opened under came after_it → has_begun came ≡ false → after_it ≡ under
-  reopen_keeps reopen.Begun does is = absurd (let z = is in cc)
-  reopen_keeps (reopen.NotBegun _) does is = does
-
-  -- and what has begun is told
-  pub reopen_tells : (came : ReopenOutcome) (before after : List Token) → DoesReopen line opened under came after_it → has_begun came ≡ true →
-      TellsReopen after_it came before after → TellsFences after_it before after
-  reopen_tells (reopen.NotBegun _) before after does is told = absurd (let z = is in cc)
-  reopen_tells reopen.Begun before after does is told = begun after_it does.0 told
-    where
-      begun : (u : Option UnderWay) → ReopensWithout (texts_among line.lost.now) opened under u → TellsReopen u reopen.Begun before after → TellsFences u before after
-      begun (Some u) reopened told = told
-      begun None reopened told = absurd (nothing_begins (texts_among line.lost.now) (driver_of opened) (reopening_under_way under) reopened)
+-- the fences of the one that has begun are told
+pub reopen_tells : (line : ReopenLine) (opened : Option Opened) (under after_it : Option UnderWay) (before after : List Token) →
+    DoesReopen line opened under reopen.Begun after_it → TellsReopen after_it reopen.Begun before after → TellsFences after_it before after
+reopen_tells line opened under (Some u) before after does told = told
+reopen_tells line opened under None before after does told =
+    absurd (nothing_begins (texts_among line.lost.now) (driver_of opened) (reopening_under_way under) does.0)

@@ -35,7 +35,7 @@ use Rattle.sm_session.specs.Asked.{IsKnownOver, setup_in_force}
 use Rattle.sm_session.specs.Outcomes.{ignored_word, is_expected, why_ignored}
 use Rattle.sm_session.specs.Questions.{orders_reply}
 use Rattle.sm_session.specs.declared.session.Session.{Session}
-use Rattle.sm_session.specs.declared.session.TheConstants.{MOST_BYTES}
+use Rattle.sm_session.specs.declared.reading.TheConstants.{MOST_BYTES}
 
 -- ---- names and nonces that come again
 

@@ -28,7 +28,7 @@ use Rattle.sm_open_journal.specs.declared.opened.Opened.{Opened}
 use Rattle.sm_document_reopening.specs.Reopening.{ReopeningModel}
 use Rattle.sm_reopening_lines.specs.Taken.{ConfirmsAt, TakesFenced, TakesSettledBy}
 use Rattle.sm_session.specs.Changes.{ComesInForceBy, EndsRestart, OpensNext, ReopensWithout}
-use Rattle.sm_session.specs.declared.reopening.UnderWay.{UnderWay}
+use Rattle.sm_session.specs.declared.under_way.UnderWay.{UnderWay}
 use Rattle.sm_session.specs.declared.session.Session.{Session}
 
 -- the plan that a value says over the names of servers and shards

@@ -18,7 +18,7 @@ use Rattle.sm_document_reopening.specs.Begun.{BeginsUnder}
 use Rattle.sm_document_reopening.specs.InForce.{IsInForce}
 use Rattle.sm_document_reopening.specs.Reopening.{ReopeningModel}
 use Rattle.sm_reopening_lines.specs.Taken.{TakesConfirm, TakesSettled, TakesTold}
-use Rattle.sm_session.specs.declared.reopening.UnderWay.{UnderWay}
+use Rattle.sm_session.specs.declared.under_way.UnderWay.{UnderWay}
 use Rattle.sm_session.specs.declared.session.Session.{Session}
 
 -- the driver of a journal that is open

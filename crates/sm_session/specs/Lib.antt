@@ -3,6 +3,8 @@ pub mod Asked
 pub mod Changes
 pub mod Checks
 pub mod Declines
+pub mod Exchanges
+pub mod Openings
 pub mod Outcomes
 pub mod Questions
 pub mod Reopenings

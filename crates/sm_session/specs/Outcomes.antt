@@ -1,6 +1,6 @@
 -- The outcomes of commands on an open journal, and the replies that tell them.
 -- `TellsDecline`, `TellsOutcome`, `KnowsServers`, `has_changed`, `StartOutcome`, `BeginsPlanAs`, `BeginOutcome`, `HasMovedWith`, `AnsweredOutcome`,
--- `AgainOutcome`, `ApproveOutcome`, `RestartedOutcome`, `RestoreOutcome`, `EpochOutcome`, `HasOutcome` and `DoesAndTells` are internal: you need not read them for the public contracts.
+-- `AgainOutcome`, `ApproveOutcome`, `RestartedOutcome`, `RestoreOutcome`, `EpochOutcome` and `HasOutcome` are internal: you need not read them for the public contracts.
 use Rattle.std.specs.Prelude.{◌≡◌, ◌<◌, ℕ, ◌&&◌, ◌||◌, Bool, true, false, List, ◌++◌, Option, Some, None, IfSome, bytes_eq, codes, if◌then◌else◌, not, string_bytes}
 use Rattle.json.specs.Token.{Token}
 use Rattle.serde_json.specs.Data.{Data}
@@ -32,8 +32,8 @@ use Rattle.sm_session.specs.declared.decline.Decline.{Decline}
 use Rattle.sm_session.specs.declared.decline.Decline.TheVariants as decline
 use Rattle.sm_session.specs.declared.decline.Ignored.{Ignored}
 use Rattle.sm_session.specs.declared.decline.Ignored.TheVariants as ignored
-use Rattle.sm_session.specs.declared.outcome.DriverOutcome.{DriverOutcome}
-use Rattle.sm_session.specs.declared.outcome.DriverOutcome.TheVariants as outcome
+use Rattle.sm_session.specs.declared.driver_outcome.DriverOutcome.{DriverOutcome}
+use Rattle.sm_session.specs.declared.driver_outcome.DriverOutcome.TheVariants as outcome
 
 -- ---- replies
 
@@ -190,10 +190,3 @@ HasOutcome (driver.Approve server by) is_reopening old o new = ApproveOutcome se
 HasOutcome (driver.Restarted permit base) is_reopening old o new = RestartedOutcome permit base is_reopening old o new
 HasOutcome (driver.Restore name nonce) is_reopening old o new = RestoreOutcome name.now nonce is_reopening old o new
 HasOutcome driver.NewEpoch is_reopening old o new = EpochOutcome is_reopening old o new
-
--- A command has an outcome, and its reply tells it.
-pub record DoesAndTells (command : DriverCommand) (is_reopening : Bool) (old : Opened) (changed : Bool) (new : Opened) (before after : List Token) : Type 0 where
-  pub outcome : DriverOutcome
-  pub has : HasOutcome command is_reopening old outcome new
-  pub tells : TellsOutcome new outcome before after
-  pub effect : changed ≡ has_changed outcome

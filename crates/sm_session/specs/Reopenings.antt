@@ -1,5 +1,5 @@
 -- What comes of lines of a reopening to a session, and the replies that tell it.
--- `has_begun`, `DoesReopen`, `DoesUnderWay`, `DoesSettle`, `settled_effect`, `TellsNotBegun`, `TellsReopen` and `TellsUnderWay` are internal: you need not read
+-- `has_begun`, `DoesReopen`, `DoesUnderWay`, `DoesSettle`, `TellsNotBegun`, `TellsReopen` and `TellsUnderWay` are internal: you need not read
 -- them for the public contracts.
 use Rattle.std.specs.Prelude.{◌≡◌, ℕ, Bool, true, false, List, ◌++◌, IfSome, Option, Some, None, codes}
 use Rattle.std.specs.Borrow.{Bor}
@@ -13,8 +13,6 @@ use Rattle.sm_commands.specs.declared.command_member.CommandMember.TheVariants a
 use Rattle.sm_open_journal.specs.declared.opened.Opened.{Opened}
 use Rattle.sm_open_journal.specs.Bits.{hexadecimal}
 use Rattle.sm_open_journal.specs.Permits.{opened_member}
-use Rattle.sm_reopening.specs.declared.settling.SettledEffect.{SettledEffect}
-use Rattle.sm_reopening.specs.declared.settling.SettledEffect.TheVariants as effect
 use Rattle.sm_document_reopening.specs.Reopening.{ReopeningModel}
 use Rattle.sm_reopening_lines.specs.Outcomes.{DoesSettled, TellsTaken}
 use Rattle.sm_reopening_lines.specs.Parties.{fences_member}
@@ -23,12 +21,12 @@ use Rattle.sm_reopening_lines.specs.declared.outcome.ReopeningOutcome.{Reopening
 use Rattle.sm_reopening_lines.specs.declared.outcome.ReopeningOutcome.TheVariants as outcome
 use Rattle.sm_session.specs.Asked.{IsUnderDocument, OpensAsNamed, texts_among}
 use Rattle.sm_session.specs.Changes.{ComesInForceBy, ReopensWithout}
-use Rattle.sm_session.specs.declared.reopening.NotBegun.{NotBegun}
-use Rattle.sm_session.specs.declared.reopening.NotBegun.TheVariants as not_begun
-use Rattle.sm_session.specs.declared.reopening.ReopenLine.{ReopenLine}
-use Rattle.sm_session.specs.declared.reopening.ReopenOutcome.{ReopenOutcome}
-use Rattle.sm_session.specs.declared.reopening.ReopenOutcome.TheVariants as reopen
-use Rattle.sm_session.specs.declared.reopening.UnderWay.{UnderWay}
+use Rattle.sm_session.specs.declared.reopen_outcome.NotBegun.{NotBegun}
+use Rattle.sm_session.specs.declared.reopen_outcome.NotBegun.TheVariants as not_begun
+use Rattle.sm_session.specs.declared.reopen_line.ReopenLine.{ReopenLine}
+use Rattle.sm_session.specs.declared.reopen_outcome.ReopenOutcome.{ReopenOutcome}
+use Rattle.sm_session.specs.declared.reopen_outcome.ReopenOutcome.TheVariants as reopen
+use Rattle.sm_session.specs.declared.under_way.UnderWay.{UnderWay}
 
 -- ---- changes
 
@@ -54,16 +52,6 @@ DoesUnderWay P _ came _ = ⊥
 abbrev pub DoesSettle : Option (Bor (List ℕ)) → ℕ → Option Opened → Option UnderWay → ReopeningOutcome → Option Opened → Option UnderWay → Type 0
 DoesSettle server base opened under outcome.Complete new after = ComesInForceBy (TakesSettledBy server base) under after new
 DoesSettle server base opened under came new after = DoesUnderWay (DoesSettled server base) under came after × (new ≡ opened)
-
--- such an answer is the last one, or others are missing, or it is old
-abbrev pub settled_effect : ReopeningOutcome → SettledEffect
-settled_effect outcome.Complete = effect.Complete
-settled_effect outcome.Fenced = effect.Waiting
-settled_effect outcome.Confirmed = effect.Waiting
-settled_effect outcome.Settled = effect.Waiting
-settled_effect outcome.Old = effect.Old
-settled_effect (outcome.Bad _) = effect.Old
-settled_effect (outcome.Refused _) = effect.Old
 
 -- ---- replies
 

@@ -32,7 +32,7 @@ use Rattle.sm_reopening_lines.specs.Taken.{TakesConfirm, TakesSettled, TakesTold
 use Rattle.sm_session.specs.Answers.{AnswersLine}
 use Rattle.sm_session.specs.Asked.{DoesToSession, IsKnownOver, SaysPlan, TakesAnswerOf, setup_in_force}
 use Rattle.sm_session.specs.Changes.{ComesInForce, HasReopened, OpensNext}
-use Rattle.sm_session.specs.declared.reopening.UnderWay.{UnderWay}
+use Rattle.sm_session.specs.declared.under_way.UnderWay.{UnderWay}
 use Rattle.sm_session.specs.declared.session.LineEffect.{LineEffect}
 use Rattle.sm_session.specs.declared.session.LineEffect.TheVariants.{Changed}
 use Rattle.sm_session.specs.declared.session.Session.{Session}

@@ -6,7 +6,7 @@ ghost use Rattle.sm_open_journal.specs.Replies.{gone_on};
 ghost use Rattle.sm_session.specs.Outcomes.{AnsweredOutcome, HasMovedWith};
 
 use crate::decline::{Decline, Ignored};
-use crate::outcome::DriverOutcome;
+use crate::driver_outcome::DriverOutcome;
 use crate::standing::Standing;
 use sm_commands::{Writer, write_text};
 use sm_driver::{AnswerEffect, StreamMessage};

@@ -4,7 +4,7 @@ ghost use Rattle.sm_names.specs.Names.{value_of};
 ghost use Rattle.sm_session.specs.Outcomes.{AgainOutcome, ApproveOutcome};
 
 use crate::decline::Decline;
-use crate::outcome::DriverOutcome;
+use crate::driver_outcome::DriverOutcome;
 use crate::standing::Standing;
 use sm_commands::server_name;
 use sm_open_journal::{GivenAt, Opened};

@@ -9,7 +9,7 @@ ghost use Rattle.sm_session.specs.Asked.{SaysPlan};
 ghost use Rattle.sm_session.specs.Outcomes.{BeginOutcome, StartOutcome};
 
 use crate::decline::Decline;
-use crate::outcome::DriverOutcome;
+use crate::driver_outcome::DriverOutcome;
 use crate::planning::check_plan;
 use crate::standing::Standing;
 use json_tree::Tree;

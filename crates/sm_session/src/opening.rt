@@ -1,129 +1,183 @@
 //! The first opening of a journal.
-ghost use Rattle.std.specs.Prelude.{◌≡◌, IfOk, IfSome, None, Ok, OnOk, Some, false, true};
-ghost use Rattle.sm_placement.specs.Setup.{sizes_of};
-ghost use Rattle.sm_placement.specs.Layout.{place_of};
-ghost use Rattle.sm_placement.specs.Lead.{IsSettled};
+ghost use Rattle.std.specs.Prelude.{◌≡◌, IfOk, OnOk, Ok, Some};
 ghost use Rattle.json_tree.specs.View.{view};
-ghost use Rattle.sm_placement.specs.Opening.{opened_place};
-ghost use Rattle.sm_plan_text.specs.Opened.{opening_of};
 ghost use Rattle.sm_plan_text.specs.Reading.{read_data, rows_of};
-ghost use Rattle.sm_session.specs.Asked.{OpensOver};
-ghost use Rattle.sm_session.specs.Changes.{HasDriven, driver_of};
-ghost use Rattle.sm_session.specs.Declines.{Declines};
-ghost use Rattle.sm_session.specs.Replies.{TellsOpened};
+ghost use Rattle.sm_session.specs.Asked.{IsOpenedBy};
+ghost use Rattle.sm_session.specs.Changes.{HasOpened, driver_of};
+ghost use Rattle.sm_session.specs.Openings.{DoesOpen, TellsNotOpened, TellsOpen, has_opened};
 
 use crate::standing::Standing;
 use json_tree::Tree;
 use sm_commands::{BadLine, CommandMember, Writer, refuse, refuse_log, refuse_open, write_bad};
 use sm_driver::Driver;
 use sm_open_journal::Opened;
-use sm_placement::{OpenFault, Placement};
+use sm_placement::OpenFault;
 use sm_plan_text::{Document, TextFault, read_document_value};
 use std::alloc::{AllocError, Global};
 
-/// Returns the document that a value is; if it is none, writes what is wrong with it.
-pub fn read_document(
-    alloc: Global,
-    value: &Tree<'_>,
-    writer: &mut Writer,
-) -> Result<Option<Document>, AllocError>
-    ensures quiet { IfOk result (λ found. IfSome found (λ document. writer.new.tokens ≡ writer.old.tokens)) }
-    ensures declined { IfOk result (λ found. found ≡ None → Declines writer.old.tokens writer.new.tokens) }
-    ensures said { IfOk result (λ found. IfSome found (λ document. read_data (Some (view value.now)) ≡ Ok (rows_of document))) }
+/// The line that opens a journal.
+#[derive(Clone, Copy)]
+pub(crate) struct OpenLine<'t, 'a> {
+    pub document: &'t Tree<'a>,
+    pub journal: u64,
+    pub epoch: u32,
+}
+
+/// The first driver of a journal, and the number of places of its log.
+struct FirstDriver {
+    driver: Driver,
+    log_room: u32,
+}
+
+/// The reason why no journal has opened.
+#[derive(Drop)]
+pub(crate) enum NotOpened {
+    NoMemory,
+    /// A journal is open, or a reopening is under way.
+    AlreadyOpened,
+    /// The document is malformed.
+    Malformed(TextFault),
+    /// The placement that the document names does not open.
+    Refused(Document, OpenFault),
+    /// The log has too few places, or too many.
+    LogFull,
+}
+
+/// The outcome of a line that opens a journal.
+#[derive(Drop)]
+pub(crate) enum OpenOutcome {
+    Opened,
+    NotOpened(NotOpened),
+}
+
+impl From<AllocError> for NotOpened {
+    ghost use Rattle.sm_session.specs.declared.opening.NotOpened.TheVariants.{NoMemory};
+
+    ghost from_gives = { λ _ why. why ≡ NoMemory };
+
+    fn from(_error: AllocError) -> Self {
+        NotOpened::NoMemory
+    }
+}
+
+/// The document that a line brings.
+fn read_document(alloc: Global, value: &Tree<'_>) -> Result<Document, NotOpened>
+    ensures { IfOk result (λ document. read_data (Some (view value.now)) ≡ Ok (rows_of document)) }
 {
     match read_document_value(alloc, value) {
-        Ok(document) => Ok(Some(document)),
-        Err(TextFault::NoMemory) => Err(AllocError),
-        Err(fault) => {
-            write_bad(
-                writer,
-                alloc,
-                BadLine::Within(CommandMember::Document, fault),
-            )?;
-            Ok(None)
-        }
+        Ok(document) => Ok(document),
+        Err(TextFault::NoMemory) => Err(NotOpened::NoMemory),
+        Err(fault) => Err(NotOpened::Malformed(fault)),
     }
 }
 
-/// Returns the placement that a document names; if it is not opened, writes why.
-fn read_placement(
-    alloc: Global,
-    document: &Document,
-    writer: &mut Writer,
-) -> Result<Option<Placement>, AllocError>
-    ensures declined { IfOk result (λ found. found ≡ None → Declines writer.old.tokens writer.new.tokens) }
-    ensures settled { IfOk result (λ found. IfSome found (λ placement. IsSettled (sizes_of placement.setup) (place_of placement))) }
-    ensures setup { IfOk result (λ found. IfSome found (λ placement. placement.setup ≡ document.now.config)) }
-    ensures place { IfOk result (λ found. IfSome found (λ placement. place_of placement ≡ opened_place (opening_of (rows_of document.now)))) }
-    ensures quiet { IfOk result (λ found. IfSome found (λ placement. writer.new.tokens ≡ writer.old.tokens)) }
+/// The driver that opens over the placement of a line's document.
+fn first_driver(alloc: Global, line: OpenLine<'_, '_>) -> Result<FirstDriver, NotOpened>
+    ensures settled { IfOk result (λ first. HasOpened first.driver) }
+    ensures asked { IfOk result (λ first.
+        IsOpenedBy (view line.entry.document.now) line.entry.journal line.entry.epoch first.driver) }
 {
-    match document.open(alloc) {
-        Ok(placement) => Ok(Some(placement)),
-        Err(OpenFault::NoMemory) => Err(AllocError),
-        Err(fault) => {
-            refuse_open(writer, alloc, &document.config, fault)?;
-            Ok(None)
-        }
+    let document = read_document(alloc, line.document)?;
+    let placement = match document.open(alloc) {
+        Ok(placement) => placement,
+        Err(OpenFault::NoMemory) => return Err(NotOpened::NoMemory),
+        Err(fault) => return Err(NotOpened::Refused(document, fault)),
+    };
+    let log_room = document.log;
+    match Driver::open(alloc, placement, log_room, line.journal, line.epoch) {
+        Ok(driver) => Ok(FirstDriver { driver, log_room }),
+        Err((_, sm_machine::OpenFault::NoMemory)) => Err(NotOpened::NoMemory),
+        Err((_, sm_machine::OpenFault::LogFull)) => Err(NotOpened::LogFull),
     }
 }
 
-/// Takes a driver that is open, and writes the reply.
+/// Takes a driver that is open.
 fn take(
     opened: &mut Option<Opened>,
     place: u64,
     alloc: Global,
-    writer: &mut Writer,
-    driver: Driver,
-    log_room: u32,
+    first: FirstDriver,
 ) -> Result<(), AllocError>
-    ensures driver { OnOk result (driver_of opened.new ≡ Some driver) }
-    ensures told { OnOk result (TellsOpened opened.new writer.old.tokens writer.new.tokens) }
+    ensures { OnOk result (driver_of opened.new ≡ Some first.driver) }
 {
+    let FirstDriver { driver, log_room } = first;
     let taken = Opened::new(alloc, driver, log_room, place)?;
-    let written = taken.write_opened(alloc, writer);
     match opened.replace(taken) {
         Some(before) => before.close(),
         None => {}
     }
-    written
+    Ok(())
 }
 
-/// Opens a journal over the placement of a document, unless one is open, writes the reply, and tells whether it is open now.
-pub fn open(
+/// Opens a journal over the placement of a document, unless one is open or a reopening is under way.
+pub(crate) fn open(
     opened: &mut Option<Opened>,
     at: Standing,
     alloc: Global,
-    writer: &mut Writer,
-    document: &Tree<'_>,
-    journal: u64,
-    epoch: u32,
-) -> Result<bool, AllocError>
-    ensures changed { IfOk result (λ changed. changed ≡ true → HasDriven (driver_of opened.old) (driver_of opened.new)) }
-    ensures asked { IfOk result (λ changed. changed ≡ true → OpensOver (view document.now) journal epoch opened.old opened.new) }
-    ensures unchanged { IfOk result (λ changed. changed ≡ false → opened.new ≡ opened.old) }
-    ensures in_force { IfOk result (λ changed. changed ≡ true → at.is_reopening ≡ false) }
-    ensures declined { IfOk result (λ changed. changed ≡ false → Declines writer.old.tokens writer.new.tokens) }
-    ensures told { IfOk result (λ changed. changed ≡ true → TellsOpened opened.new writer.old.tokens writer.new.tokens) }
+    line: OpenLine<'_, '_>,
+) -> Result<OpenOutcome, AllocError>
+    ensures { IfOk result (λ came. DoesOpen line.entry at.is_reopening opened.old came opened.new) }
 {
     if opened.is_some() || at.is_reopening {
-        refuse(writer, alloc, "AlreadyOpened", &[])?;
-        return Ok(false);
+        return Ok(OpenOutcome::NotOpened(NotOpened::AlreadyOpened));
     }
-    let Some(document) = read_document(alloc, document, writer)? else {
-        return Ok(false);
-    };
-    let Some(placement) = read_placement(alloc, &document, writer)? else {
-        return Ok(false);
-    };
-    match Driver::open(alloc, placement, document.log, journal, epoch) {
-        Ok(driver) => {
-            take(opened, at.place, alloc, writer, driver, document.log)?;
-            Ok(true)
+    match first_driver(alloc, line) {
+        Ok(first) => {
+            take(opened, at.place, alloc, first)?;
+            Ok(OpenOutcome::Opened)
         }
-        Err((_, sm_machine::OpenFault::NoMemory)) => Err(AllocError),
-        Err((_, sm_machine::OpenFault::LogFull)) => {
-            refuse_log(writer, alloc)?;
-            Ok(false)
+        Err(NotOpened::NoMemory) => Err(AllocError),
+        Err(why) => Ok(OpenOutcome::NotOpened(why)),
+    }
+}
+
+impl NotOpened {
+    /// Writes the reply.
+    fn write(&self, alloc: Global, writer: &mut Writer) -> Result<(), AllocError>
+        ensures { OnOk result (TellsNotOpened self.now writer.old.tokens writer.new.tokens) }
+    {
+        match self {
+            NotOpened::NoMemory => Err(AllocError),
+            NotOpened::AlreadyOpened => refuse(writer, alloc, "AlreadyOpened", &[]),
+            NotOpened::Malformed(fault) => write_bad(
+                writer,
+                alloc,
+                BadLine::Within(CommandMember::Document, *fault),
+            ),
+            NotOpened::Refused(document, fault) => {
+                refuse_open(writer, alloc, &document.config, *fault)
+            }
+            NotOpened::LogFull => refuse_log(writer, alloc),
+        }
+    }
+}
+
+impl OpenOutcome {
+    /// Whether a journal has opened.
+    pub fn has_opened(&self) -> bool
+        ensures { result ≡ has_opened self.now }
+    {
+        match self {
+            OpenOutcome::Opened => true,
+            OpenOutcome::NotOpened(_) => false,
+        }
+    }
+
+    /// Writes the reply, after the change.
+    pub fn write(
+        &self,
+        opened: &Option<Opened>,
+        alloc: Global,
+        writer: &mut Writer,
+    ) -> Result<(), AllocError>
+        ensures { OnOk result (TellsOpen opened.now self.now writer.old.tokens writer.new.tokens) }
+    {
+        match self {
+            OpenOutcome::Opened => match opened {
+                Some(opened) => opened.write_opened(alloc, writer),
+                None => Ok(()),
+            },
+            OpenOutcome::NotOpened(why) => why.write(alloc, writer),
         }
     }
 }

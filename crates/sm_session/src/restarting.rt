@@ -3,7 +3,7 @@ ghost use Rattle.std.specs.Prelude.{◌≡◌};
 ghost use Rattle.sm_session.specs.Outcomes.{RestartedOutcome};
 
 use crate::decline::{Decline, Ignored};
-use crate::outcome::DriverOutcome;
+use crate::driver_outcome::DriverOutcome;
 use crate::standing::Standing;
 use sm_driver::RestartEffect;
 use sm_open_journal::Opened;

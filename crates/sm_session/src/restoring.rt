@@ -3,7 +3,7 @@ ghost use Rattle.std.specs.Prelude.{IfOk};
 ghost use Rattle.sm_session.specs.Outcomes.{RestoreOutcome};
 
 use crate::decline::Decline;
-use crate::outcome::DriverOutcome;
+use crate::driver_outcome::DriverOutcome;
 use crate::standing::Standing;
 use sm_driver::RestoreFault;
 use sm_open_journal::Opened;

@@ -1,32 +1,47 @@
 //! Sessions.
-ghost use Rattle.std.specs.Prelude.{◌≡◌, ℕ, List, [], ◌∷◌, ◌++◌, IfOk, OnOk, None, false};
+ghost use Rattle.std.specs.Prelude.{◌≡◌, ℕ, List, ◌∷◌, ◌++◌, [], IfOk, OnOk};
 ghost use Rattle.journal_lines.specs.Objects.{IsObject};
 ghost use Rattle.sm_session.specs.declared.session.LineEffect.TheVariants as did;
 
-use crate::changing::{change, change_nothing};
-use crate::opening::open;
-use crate::reopening::{UnderWay, confirm, fenced, reopen, settled};
+use crate::changing::change;
+use crate::closed::Closed;
+use crate::opening::{OpenLine, open};
+use crate::outcome::Outcome;
+use crate::reading::read_object;
+use crate::reopen_line::{ReopenLine, reopen};
+use crate::reopening::{confirm_cells, take_answer, take_settle};
 use crate::standing::Standing;
-use journal_lines::is_object;
+use crate::under_way::{UnderWay, write_outcome};
 use json::Scratch;
 use json_tree::Tree;
 use sm_commands::{
-    BadLine, LineCommand, LinePart, ReopeningCommand, Writer, id_of, parse_line, read_command,
-    write_bad, write_id,
+    DriverCommand, Id, LineCommand, ReopeningCommand, Writer, id_of, read_command, write_bad,
+    write_id,
 };
 use sm_open_journal::Opened;
 use sm_placement::Config;
-use sm_reopening::SettledEffect;
 use std::alloc::{AllocError, Global};
-
-/// The highest number of bytes of a line.
-const MOST_BYTES: usize = 67_108_864;
 
 /// The effect of a line.
 #[derive(Clone, Copy, Debug, PartialEq, Eq)]
 pub enum LineEffect {
     Changed,
     Unchanged,
+}
+
+impl LineEffect {
+    ghost use Rattle.sm_session.specs.Exchanges.{effect_if};
+
+    /// The effect of a line that has changed something, or has not.
+    pub(crate) fn of(has_changed: bool) -> LineEffect
+        ensures { result ≡ effect_if has_changed }
+    {
+        if has_changed {
+            LineEffect::Changed
+        } else {
+            LineEffect::Unchanged
+        }
+    }
 }
 
 /// Adds these members, in braces, behind what is there.
@@ -49,17 +64,17 @@ pub struct Session {
 }
 
 impl Session {
-    ghost use Rattle.std.specs.Prelude.{is_some, option_map, true};
+    ghost use Rattle.std.specs.Prelude.{None, false, is_some, option_map};
     ghost use Rattle.json_tree.specs.View.{view};
-    ghost use Rattle.sm_commands.specs.Ids.{line_id};
+    ghost use Rattle.sm_commands.specs.Members.{id_members};
     ghost use Rattle.sm_commands.specs.declared.command.LineCommand.TheVariants as line;
-    ghost use Rattle.sm_session.specs.Answers.{Answers, AnswersLine, AnswersObject};
-    ghost use Rattle.sm_session.specs.Asked.{DoesAsSaid, DoesToSession, setup_in_force};
+    ghost use Rattle.sm_session.specs.Asked.{DoesAsSaid, setup_in_force};
     ghost use Rattle.sm_session.specs.Changes.{IsNew, SessionChanges};
-    ghost use Rattle.sm_session.specs.Declines.{DeclinesBy, DeclinesLine, DeclinesValue, SessionDeclines};
-    ghost use Rattle.sm_session.specs.Replies.{IsLineReply, SessionTells, TellsLine, TellsValue};
+    ghost use Rattle.sm_session.specs.Declines.{DeclinesBy};
+    ghost use Rattle.sm_session.specs.Exchanges.{Comes, ComesTo, Exchanges, KnowsAll, Replies, Takes, TellsExchange, is_change};
+    ghost use Rattle.sm_session.specs.Replies.{IsLineReply};
 
-    /// Returns a session before its first line.
+    /// A session before its first line.
     pub fn new() -> Self
         ensures { IsNew result }
     {
@@ -97,83 +112,85 @@ impl Session {
         // A journal can take a line that changed something as an entry.
         ensures object { IfOk result (λ applied. applied ≡ did.Changed → IsObject line.now) }
         ensures behind { OnOk result ((text : List ℕ) × (reply.new.items ≡ reply.old.items ++ text)) }
-        ensures told { IfOk result (λ applied. (text : List ℕ) × (reply.new.items ≡ reply.old.items ++ text) × IsLineReply line.now self.old self.new applied text) }
+        ensures told { IfOk result (λ applied. (text : List ℕ) × (reply.new.items ≡ reply.old.items ++ text)
+            × IsLineReply line.now self.old self.new applied text) }
         // No reply tells a change that was not made.
         ensures declined { IfOk result (λ applied. applied ≡ did.Unchanged → (text : List ℕ)
             × (reply.new.items ≡ reply.old.items ++ text) × DeclinesBy text line.now self.old) }
     {
-        let mut writer = Writer::new(alloc);
-        let changed = self.answer(alloc, line, &mut writer)?;
-        let members = writer.into_text();
-        push_object(reply, members.as_slice())?;
-        if !changed {
-            return Ok(LineEffect::Unchanged);
-        }
-        self.place = self.place.saturating_add(1);
-        Ok(LineEffect::Changed)
-    }
-
-    /// Applies a line, writes the members of its reply, and tells whether something has changed.
-    fn answer(
-        &mut self,
-        alloc: Global,
-        line: &[u8],
-        writer: &mut Writer,
-    ) -> Result<bool, AllocError>
-        ensures changed { IfOk result (λ changed. changed ≡ true → SessionChanges self.old self.new) }
-        ensures unchanged { IfOk result (λ changed. changed ≡ false → self.new ≡ self.old) }
-        ensures told { IfOk result (λ changed. changed ≡ true → TellsLine line.now self.old self.new writer.old.tokens writer.new.tokens) }
-        ensures answered { OnOk result (AnswersLine line.now self.old writer.old.tokens writer.new.tokens) }
-        ensures declined { IfOk result (λ changed. changed ≡ false
-            → DeclinesLine line.now self.old writer.old.tokens writer.new.tokens) }
-        ensures object { IfOk result (λ changed. changed ≡ true → IsObject line.now) }
-    {
-        if line.len() > MOST_BYTES {
-            write_bad(writer, alloc, BadLine::TooLong)?;
-            return Ok(false);
-        }
         let mut scratch = Scratch::new(alloc);
-        let Some(tree) = parse_line(alloc, line, &mut scratch)? else {
-            write_bad(writer, alloc, BadLine::NotJson)?;
-            return Ok(false);
-        };
-        if !tree.is_object() {
-            write_bad(writer, alloc, BadLine::Malformed(LinePart::Line))?;
-            return Ok(false);
-        }
-        if !is_object(line) {
-            write_bad(writer, alloc, BadLine::NotJson)?;
-            return Ok(false);
-        }
-        self.answer_object(alloc, &tree, writer)
-    }
-
-    /// Applies a line that is an object.
-    fn answer_object(
-        &mut self,
-        alloc: Global,
-        line: &Tree<'_>,
-        writer: &mut Writer,
-    ) -> Result<bool, AllocError>
-        ensures changed { IfOk result (λ changed. changed ≡ true → SessionChanges self.old self.new) }
-        ensures unchanged { IfOk result (λ changed. changed ≡ false → self.new ≡ self.old) }
-        ensures told { IfOk result (λ changed. changed ≡ true → TellsValue (view line.now) self.old self.new writer.old.tokens writer.new.tokens) }
-        ensures answered { OnOk result (AnswersObject (view line.now) self.old
-            (writer.old.tokens ++ line_id (view line.now)) writer.new.tokens) }
-        ensures declined { IfOk result (λ changed. changed ≡ false → DeclinesValue (view line.now) self.old
-            (writer.old.tokens ++ line_id (view line.now)) writer.new.tokens) }
-    {
-        write_id(writer, id_of(line))?;
-        match read_command(alloc, line, self.config())? {
-            Ok(command) => self.carry_out(alloc, command, writer),
+        let read = read_object(alloc, line, &mut scratch)?;
+        match read {
+            Ok(tree) => self.answer(alloc, &tree, reply),
             Err(bad) => {
-                write_bad(writer, alloc, bad)?;
-                Ok(false)
+                self.write_reply(alloc, None, &Outcome::Bad(bad), reply)?;
+                Ok(LineEffect::Unchanged)
             }
         }
     }
 
-    /// Returns the servers and shards of the document in force, if there is one.
+    /// Takes a line that is an object, and writes the reply, after the change.
+    fn answer(
+        &mut self,
+        alloc: Global,
+        line: &Tree<'_>,
+        reply: &mut Vec<u8>,
+    ) -> Result<LineEffect, AllocError>
+        ensures { IfOk result (λ effect.
+            Exchanges (view line.now) self.old effect self.new reply.old.items reply.new.items) }
+    {
+        match self.take(alloc, line) {
+            Ok(came) => {
+                self.write_reply(alloc, id_of(line), &came, reply)?;
+                Ok(LineEffect::of(came.has_changed()))
+            }
+            Err(error) => Err(error),
+        }
+    }
+
+    /// Takes a line that is an object: its command, or what is wrong with it.
+    pub(crate) fn take<'t, 'a>(
+        &mut self,
+        alloc: Global,
+        line: &'t Tree<'a>,
+    ) -> Result<Outcome<'t, 'a>, AllocError>
+        ensures { IfOk result (λ came. Takes (view line.now) self.old came self.new) }
+    {
+        match read_command(alloc, line, self.config())? {
+            Ok(command) => self.take_command(alloc, command),
+            Err(bad) => Ok(Outcome::Bad(bad)),
+        }
+    }
+
+    /// Carries out a command, and counts it if it has changed something.
+    fn take_command<'t, 'a>(
+        &mut self,
+        alloc: Global,
+        command: LineCommand<'t, 'a>,
+    ) -> Result<Outcome<'t, 'a>, AllocError>
+        ensures { IfOk result (λ came. Comes command.entry self.old came self.new) }
+    {
+        match self.carry_out(alloc, command) {
+            Ok(came) => {
+                self.count(&came);
+                Ok(came)
+            }
+            Err(error) => Err(error),
+        }
+    }
+
+    /// Counts a command that has changed something.
+    fn count(&mut self, came: &Outcome<'_, '_>)
+        ensures opened { self.new.opened ≡ self.old.opened }
+        ensures under_way { self.new.under_way ≡ self.old.under_way }
+        ensures place { is_change came.now ≡ false → self.new.place ≡ self.old.place }
+    {
+        if came.has_changed() {
+            self.place = self.place.saturating_add(1);
+        }
+    }
+
+    /// The servers and shards of the document in force, if there is one.
     pub(crate) fn config(&self) -> Option<&Config>
         ensures { option_map (λ config. config.now) result ≡ setup_in_force self.now }
     {
@@ -183,10 +200,9 @@ impl Session {
         }
     }
 
-    /// Returns the place of a command that changes something now, and whether a reopening is under way.
+    /// The place of a command that changes something now, and whether a reopening is under way.
     pub(crate) fn standing(&self) -> Standing
-        ensures in_force { result.is_reopening ≡ false → self.now.under_way ≡ None }
-        ensures reopening { result.is_reopening ≡ is_some self.now.under_way }
+        ensures { result.is_reopening ≡ is_some self.now.under_way }
     {
         Standing {
             place: self.place.saturating_add(1),
@@ -195,19 +211,14 @@ impl Session {
     }
 
     /// Carries out a command.
-    pub(crate) fn carry_out(
+    fn carry_out<'t, 'a>(
         &mut self,
         alloc: Global,
-        command: LineCommand<'_, '_>,
-        writer: &mut Writer,
-    ) -> Result<bool, AllocError>
-        ensures changed { IfOk result (λ changed. changed ≡ true → SessionChanges self.old self.new) }
-        ensures asked { IfOk result (λ changed. changed ≡ true → DoesToSession command.entry self.old self.new) }
-        ensures unchanged { IfOk result (λ changed. changed ≡ false → self.new ≡ self.old) }
-        ensures told { IfOk result (λ changed. changed ≡ true → SessionTells command.entry self.old self.new writer.old.tokens writer.new.tokens) }
-        ensures answered { OnOk result (Answers command.entry self.old writer.old.tokens writer.new.tokens) }
-        ensures declined { IfOk result (λ changed. changed ≡ false
-            → SessionDeclines command.entry self.old writer.old.tokens writer.new.tokens) }
+        command: LineCommand<'t, 'a>,
+    ) -> Result<Outcome<'t, 'a>, AllocError>
+        ensures came { IfOk result (λ came. ComesTo command.entry
+            self.old.opened self.old.under_way came self.new.opened self.new.under_way) }
+        ensures place { self.new.place ≡ self.old.place }
     {
         let at = self.standing();
         match command {
@@ -215,39 +226,48 @@ impl Session {
                 document,
                 journal,
                 epoch,
-            } => open(
-                &mut self.opened,
-                at,
-                alloc,
-                writer,
-                document,
-                journal,
-                epoch,
-            ),
-            LineCommand::Driver(command) => match &mut self.opened {
-                Some(opened) => change(opened, at, alloc, writer, command),
-                None => change_nothing(at, alloc, writer, command),
-            },
-            LineCommand::Reopening(command) => self.go_on(at, alloc, command, writer),
-            LineCommand::Question(question) => {
-                self.tell(alloc, question, writer)?;
-                Ok(false)
+            } => {
+                let line = OpenLine {
+                    document,
+                    journal,
+                    epoch,
+                };
+                Ok(Outcome::Open(open(&mut self.opened, at, alloc, line)?))
             }
+            LineCommand::Driver(command) => self.drive(at, alloc, command),
+            LineCommand::Reopening(command) => self.go_on(at, alloc, command),
+            LineCommand::Question(question) => Ok(Outcome::Answered(question)),
+        }
+    }
+
+    /// Carries out a command on the journal that is open.
+    fn drive<'t, 'a>(
+        &mut self,
+        at: Standing,
+        alloc: Global,
+        command: DriverCommand<'t, 'a>,
+    ) -> Result<Outcome<'t, 'a>, AllocError>
+        requires { at.is_reopening ≡ is_some self.old.under_way }
+        ensures came { IfOk result (λ came. ComesTo (line.Driver command.entry)
+            self.old.opened self.old.under_way came self.new.opened self.new.under_way) }
+        ensures place { self.new.place ≡ self.old.place }
+    {
+        match &mut self.opened {
+            Some(opened) => Ok(Outcome::Driver(change(opened, at, alloc, command)?)),
+            None => Ok(Outcome::Closed(Closed::of(command, at.is_reopening))),
         }
     }
 
     /// Carries out a command of a reopening.
-    fn go_on(
+    fn go_on<'t, 'a>(
         &mut self,
         at: Standing,
         alloc: Global,
-        command: ReopeningCommand<'_, '_>,
-        writer: &mut Writer,
-    ) -> Result<bool, AllocError>
-        ensures changed { IfOk result (λ changed. changed ≡ true → SessionChanges self.old self.new) }
-        ensures asked { IfOk result (λ changed. changed ≡ true → DoesToSession (line.Reopening command.entry) self.old self.new) }
-        ensures unchanged { IfOk result (λ changed. changed ≡ false → self.new ≡ self.old) }
-        ensures told { IfOk result (λ changed. changed ≡ true → SessionTells (line.Reopening command.entry) self.old self.new writer.old.tokens writer.new.tokens) }
+        command: ReopeningCommand<'t, 'a>,
+    ) -> Result<Outcome<'t, 'a>, AllocError>
+        ensures came { IfOk result (λ came. ComesTo (line.Reopening command.entry)
+            self.old.opened self.old.under_way came self.new.opened self.new.under_way) }
+        ensures place { self.new.place ≡ self.old.place }
     {
         match command {
             ReopeningCommand::Reopen {
@@ -255,27 +275,79 @@ impl Session {
                 lost,
                 journal,
                 epoch,
-            } => reopen(
-                &self.opened,
-                &mut self.under_way,
-                alloc,
-                writer,
-                document,
-                lost,
-                journal,
-                epoch,
-            ),
+            } => {
+                let line = ReopenLine {
+                    document,
+                    lost,
+                    journal,
+                    epoch,
+                };
+                let came = reopen(&self.opened, &mut self.under_way, alloc, line)?;
+                Ok(Outcome::Reopen(came))
+            }
             ReopeningCommand::Fenced { server, base, told } => {
-                fenced(&mut self.under_way, alloc, writer, server, base, told)
+                match take_answer(&mut self.under_way, alloc, server, base, told) {
+                    Ok(came) => Ok(Outcome::Reopening(came)),
+                    Err(error) => Err(error),
+                }
             }
             ReopeningCommand::Confirm { base, cells } => {
-                confirm(&mut self.under_way, alloc, writer, base, cells)
+                match confirm_cells(&mut self.under_way, alloc, base, cells) {
+                    Ok(came) => Ok(Outcome::Reopening(came)),
+                    Err(error) => Err(error),
+                }
             }
             ReopeningCommand::Settled { server, base } => {
                 let (opened, under_way) = (&mut self.opened, &mut self.under_way);
-                let effect = settled(opened, under_way, at, alloc, writer, server, base)?;
-                Ok(effect != SettledEffect::Old)
+                match take_settle(opened, under_way, at, alloc, server, base) {
+                    Ok(came) => Ok(Outcome::Reopening(came)),
+                    Err(error) => Err(error),
+                }
             }
+        }
+    }
+
+    /// Writes the reply to a line with this id, in braces, behind what is there.
+    fn write_reply(
+        &self,
+        alloc: Global,
+        id: Option<Id<'_>>,
+        came: &Outcome<'_, '_>,
+        reply: &mut Vec<u8>,
+    ) -> Result<(), AllocError>
+        requires { KnowsAll self.now came.now }
+        ensures { OnOk result (Replies self.now came.now (id_members id.entry) reply.old.items reply.new.items) }
+    {
+        let mut writer = Writer::new(alloc);
+        write_id(&mut writer, id)?;
+        self.write(alloc, came, &mut writer)?;
+        let members = writer.into_text();
+        push_object(reply, members.as_slice())
+    }
+
+    /// Writes what has come of a line.
+    fn write(
+        &self,
+        alloc: Global,
+        came: &Outcome<'_, '_>,
+        writer: &mut Writer,
+    ) -> Result<(), AllocError>
+        requires { KnowsAll self.now came.now }
+        ensures { OnOk result (TellsExchange self.now came.now writer.old.tokens writer.new.tokens) }
+    {
+        match came {
+            Outcome::Bad(bad) => write_bad(writer, alloc, *bad),
+            Outcome::Open(came) => came.write(&self.opened, alloc, writer),
+            Outcome::Driver(came) => match &self.opened {
+                Some(opened) => came.write(opened, alloc, writer),
+                None => Ok(()),
+            },
+            Outcome::Closed(why) => why.write(alloc, writer),
+            Outcome::Reopen(came) => came.write(&self.under_way, alloc, writer),
+            Outcome::Reopening(came) => {
+                write_outcome(came, &self.opened, &self.under_way, alloc, writer)
+            }
+            Outcome::Answered(question) => self.tell(alloc, *question, writer),
         }
     }
 }

@@ -1,7 +1,8 @@
 //! Replies to questions.
-ghost use Rattle.std.specs.Prelude.{◌≡◌, ◌++◌, None, OnOk};
-ghost use Rattle.sm_commands.specs.declared.command.Question.TheVariants as asked;
-ghost use Rattle.sm_session.specs.Questions.{orders_reply, present_notices, present_orders};
+ghost use Rattle.std.specs.Prelude.{◌≡◌, ◌++◌, OnOk, codes};
+ghost use Rattle.sm_commands.specs.Members.{object_member};
+ghost use Rattle.sm_session.specs.Questions.{TellsAnswer, all_orders, orders_reply, present_notices, present_orders};
+ghost use Rattle.sm_session.specs.Questions.{epoch_member, hello_members, journal_member, present_journal, place_members};
 
 use crate::answering::write_ignored;
 use crate::planning::{write_check, write_drain, write_moves};
@@ -28,8 +29,7 @@ impl Session {
         question: Question<'_, '_>,
         writer: &mut Writer,
     ) -> Result<(), AllocError>
-        ensures { question.entry ≡ asked.Orders → self.now.under_way ≡ None
-            → OnOk result (writer.new.tokens ≡ writer.old.tokens ++ orders_reply self.now.opened) }
+        ensures { OnOk result (TellsAnswer question.entry self.now writer.old.tokens writer.new.tokens) }
     {
         match question {
             Question::Hello => self.write_hello(alloc, writer),
@@ -109,8 +109,10 @@ impl Session {
         }
     }
 
-    /// Returns the journal, if there is one.
-    fn journal(&self) -> Option<u64> {
+    /// The journal, if there is one.
+    fn journal(&self) -> Option<u64>
+        ensures { result ≡ present_journal self.now.opened self.now.under_way }
+    {
         match (&self.opened, &self.under_way) {
             (Some(opened), _) => Some(opened.driver.journal()),
             (None, Some(current)) => Some(current.reopening.journal()),
@@ -118,30 +120,60 @@ impl Session {
         }
     }
 
-    /// Writes, as members, where the journal stands.
-    fn write_place(&self, alloc: Global, writer: &mut Writer) -> Result<(), AllocError> {
+    /// Writes, as a member, the journal.
+    fn write_journal(&self, alloc: Global, writer: &mut Writer) -> Result<(), AllocError>
+        ensures { OnOk result (writer.new.tokens
+            ≡ writer.old.tokens ++ journal_member (present_journal self.now.opened self.now.under_way)) }
+    {
         match self.journal() {
-            Some(journal) => write_bits(writer, alloc, "journal", journal)?,
-            None => write_name(writer, "journal", None)?,
+            Some(journal) => write_bits(writer, alloc, "journal", journal),
+            None => write_name(writer, "journal", None),
         }
-        match &self.opened {
-            Some(opened) => write_number(writer, "epoch", u64::from(opened.driver.epoch()))?,
-            None => write_name(writer, "epoch", None)?,
-        }
-        write_number(writer, "place", self.place)
     }
 
-    /// Writes what the program is, and where its journal stands.
-    fn write_hello(&self, alloc: Global, writer: &mut Writer) -> Result<(), AllocError> {
-        writer.key("hello")?;
-        writer.begin_object()?;
+    /// Writes, as a member, the epoch that is open.
+    fn write_epoch(&self, writer: &mut Writer) -> Result<(), AllocError>
+        ensures { OnOk result (writer.new.tokens ≡ writer.old.tokens ++ epoch_member self.now.opened) }
+    {
+        match &self.opened {
+            Some(opened) => write_number(writer, "epoch", u64::from(opened.driver.epoch())),
+            None => write_name(writer, "epoch", None),
+        }
+    }
+
+    /// Writes, as members, where the journal stands.
+    fn write_place(&self, alloc: Global, writer: &mut Writer) -> Result<(), AllocError>
+        ensures { OnOk result (writer.new.tokens ≡ writer.old.tokens ++ place_members self.now) }
+    {
+        self.write_journal(alloc, writer)?;
+        self.write_epoch(writer)?;
+        write_number(writer, "place", self.place)?;
+        Ok(())
+    }
+
+    /// Writes, as members, what the program is, and where its journal stands.
+    fn write_hello_members(&self, alloc: Global, writer: &mut Writer) -> Result<(), AllocError>
+        ensures { OnOk result (writer.new.tokens ≡ writer.old.tokens ++ hello_members self.now) }
+    {
         write_text(writer, "program", "smpland")?;
         write_number(writer, "format", FORMAT)?;
         self.write_place(alloc, writer)?;
-        writer.end_object()
+        Ok(())
     }
 
-    /// Returns the word for whether anything may begin.
+    /// Writes the same as a member.
+    fn write_hello(&self, alloc: Global, writer: &mut Writer) -> Result<(), AllocError>
+        ensures { OnOk result (writer.new.tokens
+            ≡ writer.old.tokens ++ object_member (codes "hello") (hello_members self.now)) }
+    {
+        writer.key("hello")?;
+        writer.begin_object()?;
+        self.write_hello_members(alloc, writer)?;
+        writer.end_object()?;
+        Ok(())
+    }
+
+    /// The word for whether anything may begin.
     fn condition(&self) -> &'static str {
         match (&self.under_way, &self.opened) {
             (Some(_), _) => "reopening",
@@ -183,7 +215,7 @@ impl Session {
 
     /// Writes all present orders, what a reopening waits for, and the servers that are to be told that they were carried over.
     fn write_orders(&self, alloc: Global, writer: &mut Writer) -> Result<(), AllocError>
-        ensures { self.now.under_way ≡ None → OnOk result (writer.new.tokens ≡ writer.old.tokens ++ orders_reply self.now.opened) }
+        ensures { OnOk result (writer.new.tokens ≡ writer.old.tokens ++ all_orders self.now.opened self.now.under_way) }
     {
         match &self.under_way {
             Some(current) => current.write_orders(alloc, writer),

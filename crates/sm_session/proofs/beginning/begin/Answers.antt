@@ -4,7 +4,7 @@ use Rattle.sm_placement.specs.Setup.{sizes_of}
 use Rattle.sm_verifier.specs.Plan.{IsCheckedPlan}
 use Rattle.sm_session.specs.Asked.{SaysPlan}
 use Rattle.sm_session.proofs.Outcomes.{begins_as_said, checked_for}
-use Rattle.sm_session.proofs.Told.{read_is}
+use Rattle.sm_session.proofs.Found.{read_is}
 use Rattle.sm_session.proofs.beginning.begin.Goals as goal
 
 -- The plan was checked for the driver's configuration.

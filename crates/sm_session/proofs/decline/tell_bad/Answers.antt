@@ -1,4 +1,4 @@
-use Rattle.sm_session.proofs.Declined.{bad_declines}
+use Rattle.sm_session.proofs.Found.{bad_declines}
 use Rattle.sm_session.proofs.decline.tell_bad.Goals as goal
 
 pub returns : goal.returns

@@ -1,17 +1,34 @@
-use Rattle.std.proofs.Common.{◌≡◌, []}
-use Rattle.sm_session.specs.declared.session.LineEffect.TheVariants.{Changed, Unchanged}
-use Rattle.sm_session.proofs.Did.{asked_by_told}
-use Rattle.sm_session.proofs.Replayed.{some_reply}
+use Rattle.std.proofs.Common.{◌≡◌, ◌∙◌, Some, ap}
+use Rattle.json_tree.specs.View.{view}
+use Rattle.sm_plan_text.specs.Reading.{data_of}
+use Rattle.sm_session.specs.Exchanges.{effect_if}
+use Rattle.sm_session.proofs.Found.{found_is}
+use Rattle.sm_session.proofs.Taken.{entry_asks, entry_changes, entry_keeps, some_reply, unchanged_reply}
 use Rattle.sm_session.proofs.session.Session.replay.Goals as goal
 
-pub returns-then-not-branch-clause-told : goal.returns-then-not-branch-clause-told
-returns-then-not-branch-clause-told c = some_reply c.args.entry.now _ _ Unchanged (λ (e : Unchanged ≡ Changed). absurd (let z = e in cc))
+pub returns-in_default-clause-told : goal.returns-in_default-clause-told
+returns-in_default-clause-told c = unchanged_reply c.args.entry.now c.args.self.now c.args.self.now
 
-pub returns-clause-told : goal.returns-clause-told
-returns-clause-told c = some_reply c.args.entry.now _ _ Changed (λ _. c.in_ok-take_entry.ensures.told c.if-not-branch.false)
+pub returns-in-Ok-clause-changed : goal.returns-in-Ok-clause-changed
+returns-in-Ok-clause-changed c =
+    entry_changes c.args.entry.now (view c.in-Some.tree) c.args.self.now c.in-Ok.came c.take.new.self c.of.result
+    (found_is (λ tree. data_of c.args.entry.now ≡ Some (view tree)) c.in_ok-tree.field-0 c.in-Some.tree c.in-Some.is c.in_ok-tree.ensures.value)
+    c.in-Ok.ensures (c.of.ensures ∙ ap effect_if c.has_changed.ensures)
 
--- Some reply would tell it, so it was asked for.
-pub returns-clause-asked : goal.returns-clause-asked
-returns-clause-asked c = λ _.
-    let told = c.in_ok-take_entry.ensures.told c.if-not-branch.false in
-    asked_by_told c.args.entry.now c.args.self.now c.take_entry.new.self [] told.0 told.1
+pub returns-in-Ok-clause-asked : goal.returns-in-Ok-clause-asked
+returns-in-Ok-clause-asked c =
+    entry_asks c.args.entry.now (view c.in-Some.tree) c.args.self.now c.in-Ok.came c.take.new.self c.of.result
+    (found_is (λ tree. data_of c.args.entry.now ≡ Some (view tree)) c.in_ok-tree.field-0 c.in-Some.tree c.in-Some.is c.in_ok-tree.ensures.value)
+    c.in-Ok.ensures (c.of.ensures ∙ ap effect_if c.has_changed.ensures)
+
+pub returns-in-Ok-clause-unchanged : goal.returns-in-Ok-clause-unchanged
+returns-in-Ok-clause-unchanged c =
+    entry_keeps c.args.entry.now (view c.in-Some.tree) c.args.self.now c.in-Ok.came c.take.new.self c.of.result
+    (found_is (λ tree. data_of c.args.entry.now ≡ Some (view tree)) c.in_ok-tree.field-0 c.in-Some.tree c.in-Some.is c.in_ok-tree.ensures.value)
+    c.in-Ok.ensures (c.of.ensures ∙ ap effect_if c.has_changed.ensures)
+
+pub returns-in-Ok-clause-told : goal.returns-in-Ok-clause-told
+returns-in-Ok-clause-told c =
+    some_reply c.args.entry.now (view c.in-Some.tree) c.args.self.now c.in-Ok.came c.take.new.self c.of.result
+    (found_is (λ tree. data_of c.args.entry.now ≡ Some (view tree)) c.in_ok-tree.field-0 c.in-Some.tree c.in-Some.is c.in_ok-tree.ensures.value)
+    c.in-Ok.ensures (c.of.ensures ∙ ap effect_if c.has_changed.ensures)

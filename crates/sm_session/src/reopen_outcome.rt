@@ -1,0 +1,95 @@
+//! The outcomes of lines that ask for a reopening: what their replies tell.
+ghost use Rattle.std.specs.Prelude.{◌≡◌, OnOk};
+ghost use Rattle.sm_session.specs.Reopenings.{TellsNotBegun, TellsReopen, has_begun};
+
+use crate::under_way::UnderWay;
+use sm_commands::{BadLine, CommandMember, Writer, refuse, write_bad};
+use sm_document_reopening::ReopenFault;
+use sm_plan_text::{Document, TextFault};
+use sm_reopening_lines::refuse_reopen;
+use std::alloc::{AllocError, Global};
+
+/// The reason why no reopening has begun.
+#[derive(Drop)]
+pub(crate) enum NotBegun {
+    NoMemory,
+    /// Nothing is recorded, and the line does not name a journal and its epoch.
+    NotOpened,
+    /// What is recorded is of another journal.
+    OtherJournal,
+    /// No epoch follows the last one.
+    LastEpoch,
+    /// The document is malformed.
+    Malformed(TextFault),
+    /// None may begin under the document.
+    Refused(Document, ReopenFault),
+}
+
+/// The outcome of a line that asks for a reopening.
+#[derive(Drop)]
+pub(crate) enum ReopenOutcome {
+    Begun,
+    NotBegun(NotBegun),
+}
+
+impl From<AllocError> for NotBegun {
+    ghost use Rattle.sm_session.specs.declared.reopen_outcome.NotBegun.TheVariants.{NoMemory};
+
+    ghost from_gives = { λ _ why. why ≡ NoMemory };
+
+    fn from(_error: AllocError) -> Self {
+        NotBegun::NoMemory
+    }
+}
+
+impl NotBegun {
+    /// Writes the reply.
+    fn write(&self, alloc: Global, writer: &mut Writer) -> Result<(), AllocError>
+        ensures { OnOk result (TellsNotBegun self.now writer.old.tokens writer.new.tokens) }
+    {
+        match self {
+            NotBegun::NoMemory => Err(AllocError),
+            NotBegun::NotOpened => refuse(writer, alloc, "NotOpened", &[]),
+            NotBegun::OtherJournal => refuse(writer, alloc, "OtherJournal", &[]),
+            NotBegun::LastEpoch => refuse(writer, alloc, "LastEpoch", &[]),
+            NotBegun::Malformed(fault) => write_bad(
+                writer,
+                alloc,
+                BadLine::Within(CommandMember::Document, *fault),
+            ),
+            NotBegun::Refused(document, fault) => {
+                refuse_reopen(writer, alloc, &document.config, *fault)
+            }
+        }
+    }
+}
+
+impl ReopenOutcome {
+    /// Whether a reopening has begun.
+    pub fn has_begun(&self) -> bool
+        ensures { result ≡ has_begun self.now }
+    {
+        match self {
+            ReopenOutcome::Begun => true,
+            ReopenOutcome::NotBegun(_) => false,
+        }
+    }
+
+    /// Writes the reply, after the change.
+    pub fn write(
+        &self,
+        under_way: &Option<UnderWay>,
+        alloc: Global,
+        writer: &mut Writer,
+    ) -> Result<(), AllocError>
+        ensures { OnOk result (TellsReopen under_way.now self.now writer.old.tokens writer.new.tokens) }
+    {
+        match self {
+            ReopenOutcome::Begun => match under_way {
+                Some(begun) => begun.write_fences(alloc, writer),
+                None => Ok(()),
+            },
+            ReopenOutcome::NotBegun(why) => why.write(alloc, writer),
+        }
+    }
+}
