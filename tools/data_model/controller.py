@@ -115,6 +115,8 @@ class Controller(base.Controller):
         if call and call.verb is Verb.CHANGE:
             is_over = call.role is Kind.SECONDARY
             self.record.former[order.shard] = (order.server, order.number) if is_over else None
+        if call and call.role is Kind.PRIMARY and self.rules.primary_renumbers:
+            self.record.renumber(order.shard, self.base + self.record.log)
         return outcome
 
     def is_begun(self, command: driving.Answered) -> bool:

@@ -318,6 +318,26 @@ def copied_of_an_earlier_permit(rules: Rules) -> None:
     play.fail_over(0, (ABSENT, SECONDARY, ABSENT))
 
 
+def copied_before_another_primary(rules: Rules) -> None:
+    """A secondary was down by leave, and is back; the primary asks for both copies again, and says so. Before this
+    comes, the shard is handed to another server, and back, where one copy is asked for."""
+    play = Play(rules, TWO, want=2, copies=2)
+    permit = play.approve(1)
+    for lower in play.controller.lowers():
+        play.deliver(lower)
+    play.do(play.host(1).restarted(permit))
+    play.tell_all()
+    play.world.raise_copies(0)
+    late = play.world.network.copied[0]
+    for old, new in ((0, 2), (2, 0)):
+        play.hand(old, new)
+        for _ in range(8):
+            play.turn()
+    play.do(late)
+    play.write(7, copies=())
+    play.fail_over(0, (ABSENT, SECONDARY, ABSENT))
+
+
 def copied_in_a_handover(rules: Rules) -> None:
     """A handover is under way, whose new owner was prepared while one copy was asked for. The primary says that all are
     there again; the new owner acknowledges alone, and is lost with the old one."""
@@ -401,6 +421,7 @@ PLAYS = (
     Worked(lowered_by_a_late_word, "lower_numbered"),
     Worked(raise_that_is_forgotten, "raise_stored"),
     Worked(copied_of_an_earlier_permit, "copied_named"),
+    Worked(copied_before_another_primary, "primary_renumbers"),
     Worked(copied_in_a_handover, "copied_at_rest"),
     Worked(drop_that_gets_no_leave, "drops_leave_copies"),
     Worked(added_beside_the_last, "last_is_alone"),

@@ -15,8 +15,8 @@ from .messages import Terms
 
 class Record(driving.Record):
     """The placement and the plans of one epoch. Of each shard `copies` are asked for, `wanted` by the document, and
-    `lowered` is the permit or base that lowered the number last. `former` was primary before, until an order's
-    number."""
+    `lowered` is the permit, the base, or the log's place at which another server became primary, whichever lowered the
+    number last. `former` was primary before, until an order's number."""
 
     document: Document
 
@@ -61,6 +61,11 @@ class Record(driving.Record):
         down = len(self.replicas(shard)) - self.there(shard)
         self.copies[shard] = max(1, min(self.copies[shard], self.wanted[shard] - down))
         self.lowered[shard] = permit
+
+    def renumber(self, shard: int, number: int) -> None:
+        """Another server is primary, from this number on: what the one before said of its copies counts no more."""
+        if self.copies[shard] < self.wanted[shard]:
+            self.lowered[shard] = number
 
     def terms(self, shard: int, ordered: frozenset[int] = frozenset()) -> Terms:
         """What an order or a slot says of the shard."""

@@ -110,6 +110,9 @@ class Rules(driving.Rules):
     )
     raise_stored: bool = rule("A primary stores that it asks for all copies again before it says so.")
     copied_named: bool = rule("`copied` names base and nonce of the primary's last slots, and what lowered the number.")
+    primary_renumbers: bool = rule(
+        "Where fewer copies are asked for, a new primary counts as what lowered the number: no earlier `copied` fits."
+    )
     copied_at_rest: bool = rule(
         "`copied` is not taken while an unfinished stream names the shard: its orders carry a number."
     )
