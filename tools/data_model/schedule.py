@@ -186,7 +186,7 @@ class Schedule(base.Schedule):
         shard, copied = self.dice.randrange(len(self.world.shards)), self.world.network.copied
         self.world.raise_copies(shard)
         if copied and self.dice.random() < 0.6:
-            self.world.coverage["copied"] += self.world.do(self.dice.choice(copied[-5:])).has_changed
+            self.world.coverage["copied"] += self.world.do(self.pick(copied, 5)).has_changed
         self.world.acknowledge(shard)
 
     def on_read(self) -> None:
