@@ -108,9 +108,9 @@ class Run:
             if loses and time.time() > (begun + until) / 2:
                 name = self.dice.choice(self.harm.present())
                 self.harm.lose(name)
-                self.command("repair")
+                self.command("repair", "--yes")
                 self.harm.replace(name)
-                self.command("repair")
+                self.command("repair", "--yes")
                 loses = 0
             name = self.next_to_drain()
             words = ["drain", name, "--batch", "2", "--pause", "0.2", "--stop", "20"] + (["--prefer-secondary"] if self.dice.random() < self.told.roles else [])
@@ -150,7 +150,7 @@ class Run:
         lacking = [it["shard"] for it in state["shards"] if len(it["cells"]) != len(self.cells[it["shard"]]) or all(cell["state"] != "primary" for cell in it["cells"])]
         if lacking:
             self.say("repair of", lacking)
-            self.command("repair")
+            self.command("repair", "--yes")
             return False
         return all(self.counts(it) for it in state["shards"])
 
@@ -246,6 +246,8 @@ def main():
     print(f"seed {told.seed}", flush=True)
     try:
         wrong = run.run()
+    except TimeoutError as why:
+        wrong = [str(why)]
     finally:
         (run.fleet.folder / "stop").touch()
         run.stopping.set()

@@ -49,7 +49,7 @@ class Story(runs.Run):
         self.step("restart b, by permit", self.restart, "b")
         self.step("drain c, and kill -9 the server that has just handed a shard over", self.drain_and_kill, "c")
         self.step("kill -9 d for good, and reopen without it", self.lose, "d")
-        self.step("repair", self.command, "repair")
+        self.step("repair", self.command, "repair", "--yes")
 
     def pgbench(self):
         """Transactions a second with everything, and of plain tables beside."""

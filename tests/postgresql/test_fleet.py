@@ -48,6 +48,9 @@ class FleetTest(unittest.TestCase):
     def settle(self, *words):
         FLEET.wait_for("the follower has all", lambda: self.follows(*words), 120)
 
+    def is_primary(self, name):
+        return FLEET.posts[name].query("SELECT cell FROM sm.slots WHERE shard = 's'") == [(4,)]
+
     def write(self, name="a", request="x"):
         FLEET.posts[name].query("INSERT INTO s.history (request) VALUES (%s)", (request,))
 
@@ -111,26 +114,30 @@ class FleetTest(unittest.TestCase):
     def test_6_moved_with_all_of_it(self):
         self.command("drain", "a")
         FLEET.wait_for("b or c serves", lambda: any(self.follows(*it) for it in (("b", "c"), ("c", "b"))), 60)
-        owner = "b" if self.follows("b", "c") else "c"
-        FLEET.posts[owner].query("INSERT INTO s.more VALUES (9, 9)")
+        owner = "b" if self.is_primary("b") else "c"
+        self.write(owner, "moved")
         self.assertEqual(FLEET.posts["a"].query("SELECT to_regnamespace('s')"), [(None,)])
 
     def test_7_what_a_server_that_was_given_up_brings_back(self):
-        owner, other = ("b", "c") if self.follows("b", "c") else ("c", "b")
+        owner, other = ("b", "c") if self.is_primary("b") else ("c", "b")
+        self.settle(owner, other)
         for it in (FLEET.agents, FLEET.posts):
             it[owner].kill()
         self.command("reopen", "--lost", owner, "--yes", "--wait", "60")
-        FLEET.wait_for("the other one serves", lambda: FLEET.posts[other].query("SELECT cell FROM sm.slots WHERE shard = 's'") == [(4,)])
+        FLEET.wait_for("the other one serves", lambda: self.is_primary(other))
         self.write(other, "behind")
-        self.assertEqual(FLEET.posts[other].query("SELECT n FROM s.more WHERE id = 9"), [(9,)])
-        self.command("repair")
+        self.assertEqual(FLEET.posts[other].query("SELECT count(*) FROM s.history WHERE request = 'moved'"), [(1,)])
+        self.command("repair", "--yes")
         self.settle(other, "a")
         FLEET.posts[owner].start()
         FLEET.posts[owner].wait()
+        self.assertEqual(self.pg("forget", "--dsn", FLEET.posts[owner].reach).returncode, 0)
         FLEET.agents[owner].start()
         FLEET.wait_for("it answers", lambda: FLEET.answers(owner))
         self.command("add-server", owner, "--region", "r", "--room", "9", "--yes", "--wait", "60")
         FLEET.wait_for("it has nothing any more", lambda: FLEET.posts[owner].query("SELECT to_regnamespace('s')") == [(None,)])
+        self.assertIn("set aside", self.pg("status", "--dsn", FLEET.posts[owner].reach).stdout)
+        self.assertIn("deleted sm_aside_", self.pg("drop", "--aside", "--dsn", FLEET.posts[owner].reach).stdout)
         self.settle(other, "a")
 
 

@@ -123,18 +123,19 @@ def plant(name):
     BUGS[name][0]()
 
 
-def try_bug(name, seed, seconds):
+def try_bug(name, seed, told):
     """What is said of a run with a bug, and of the sound one of the same seed: whether it is as it should be."""
-    words = ["/usr/bin/python3", str(HERE / "run.py"), "", "--quiet", "--seed", str(seed), "--seconds", str(seconds), "--patience", "40", *BUGS[name][1]]
-    found = {}
-    for bug in (name, ""):
+    words = ["/usr/bin/python3", str(HERE / "run.py"), "", "--quiet", "--seed", str(seed), "--seconds", str(told.seconds), "--patience", str(told.patience),
+             "--servers", "3", "--shards", "4", "--rows", str(told.rows), *BUGS[name][1]]
+    found = {"": (0, ["not run"])}
+    for bug in (name,) if told.without_sound else (name, ""):
         with tempfile.TemporaryDirectory(prefix="pg-wrong-", dir="/dev/shm") as folder:
             os.chmod(folder, 0o711)
-            told = subprocess.run([*words[:2], folder + "/run", *words[3:], "--bug", bug], capture_output=True, text=True, check=False)
-        lines = told.stdout.strip().splitlines()
+            done = subprocess.run([*words[:2], folder + "/run", *words[3:], "--bug", bug], capture_output=True, text=True, check=False)
+        lines = done.stdout.strip().splitlines()
         at = next((n for n, it in enumerate(lines) if it.startswith("verdict")), None)
-        found[bug] = (told.returncode, lines[at:at + 2] if at is not None else [told.stderr.strip()[-300:]])
-    is_good = found[name][0] != 0 and found[""][0] == 0
+        found[bug] = (done.returncode, lines[at:at + 2] if at is not None else [done.stderr.strip()[-300:]])
+    is_good = found[name][0] == 1 and found[name][1][0].startswith("verdict") and found[""][0] == 0
     print(f"{'ok  ' if is_good else 'BAD '} {name} (seed {seed}): with it {' '.join(it.strip() for it in found[name][1])[:200]}; without {found[''][1][0]}", flush=True)
     return is_good
 
@@ -147,9 +148,12 @@ def main():
     parser = argparse.ArgumentParser()
     parser.add_argument("--seeds", type=int, default=1)
     parser.add_argument("--seconds", type=float, default=20)
+    parser.add_argument("--patience", type=float, default=40)
+    parser.add_argument("--rows", type=int, default=2000)
+    parser.add_argument("--without-sound", action="store_true", help="do not make the sound runs")
     parser.add_argument("--only", nargs="*", default=list(BUGS))
     told = parser.parse_args()
-    bad = [name for name in told.only for seed in range(told.seeds) if not try_bug(name, seed + 1, told.seconds)]
+    bad = [name for name in told.only for seed in range(told.seeds) if not try_bug(name, seed + 1, told)]
     sys.exit(1 if bad else 0)
 
 

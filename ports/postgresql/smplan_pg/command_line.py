@@ -15,7 +15,7 @@ from .bouncer import databases_of, servers_of
 from .database import Database
 from .ddl import change
 from .server import Limits, Server
-from .status import drop, settings, status
+from .status import come_back, drop, settings, status
 
 DSN = "a connection string of libpq, as service=pg-a; passwords by its own means (~/.pgpass, pg_service.conf)"
 
@@ -58,6 +58,11 @@ def run_ddl(told: argparse.Namespace) -> int:
     """Changes a shard's schema at all its replicas."""
     print(f"{told.schema} is changed at {', '.join(change(Database(told.dsn), told.schema, told.name, told.file, told.wait))}")
     return 0
+
+
+def run_forget(told: argparse.Namespace) -> int:
+    """Lets a server that was given up come back with nothing."""
+    return come_back(Database(told.dsn))
 
 
 def run_pgbouncer(told: argparse.Namespace) -> int:
@@ -111,6 +116,9 @@ def parser_of() -> argparse.ArgumentParser:
     it.add_argument("--dsn", required=True, help=DSN)
     it.add_argument("--wait", type=float, default=30.0, metavar="SECONDS", help="for requests that run (30)")
     it.set_defaults(run=run_ddl)
+    it = subparsers.add_parser("forget", help="for a server that was given up: it forgets its slots, before it is started and added again")
+    it.add_argument("--dsn", required=True, help=DSN)
+    it.set_defaults(run=run_forget)
     it = subparsers.add_parser("pgbouncer", help="prints the published map as [databases] of pgbouncer, for fleet.json's `then`")
     it.add_argument("map", metavar="MAP", help="the map's file")
     it.add_argument("--dsn", help="a server that knows how all are reached: " + DSN)

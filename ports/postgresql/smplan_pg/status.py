@@ -11,6 +11,7 @@ from .copies import has_schema
 from .database import Database, Row, value
 from .records import Records
 from .streams import said
+from .whole import forget
 
 SHARDS = """SELECT s.shard, s.cell, s.at_work, s.is_whole, f.name AS source, sm.view(s.shard) AS view, sm.position(s.shard) AS position,
     coalesce((SELECT subenabled FROM pg_subscription WHERE subname = sm.stream(s.shard, t.me)), false) AS follows
@@ -88,6 +89,16 @@ def drop(database: Database, shards: List[str], aside: bool, everything: bool) -
             print(f"deleted {row['schema']}, which was {row['shard']}")
         if everything:
             remove_all(it)
+    return 0
+
+
+def come_back(database: Database) -> int:
+    """Lets a server that was given up, and is off, forget what it has to serve."""
+    with database.transaction() as tx:
+        if not value(tx.execute("SELECT pg_try_advisory_xact_lock(1936531058, 0)").fetchone()):
+            raise Failure("smplan-pg serve runs: stop it first", 1)
+        forget(Records(tx))
+    print("it has forgotten its slots: start it, and `smplan-control add-server`; its data is set aside then")
     return 0
 
 

@@ -134,12 +134,12 @@ class Whole:
                 self.prepare(shard, before.get(shard, Slot()), slot)
             with self.server.database.transaction() as tx:
                 it = Records(tx)
-                before = it.slots()
-                answer, base, after = self.server.agent.take(it.base("FOR UPDATE"), told, before, brought)
+                before, was = it.slots(), it.base("FOR UPDATE")
+                answer, base, after = self.server.agent.take(was, told, before, brought)
                 if answer == Answer.TAKEN:
                     number = told.fence if isinstance(told, Restoration) else told.number
                     it.put_base(base, number)
-                    for shard in sorted({*after, *self.adopted(tx)} if isinstance(told, Restoration) else after):
+                    for shard in sorted(after if was.known else {*after, *self.adopted(tx)}):
                         self.store(tx, shard, before.get(shard, Slot()), after.get(shard, agent.VACANT), number)
         for shard in after:
             self.server.following.wake(shard)
@@ -218,9 +218,7 @@ class Whole:
                 if base.known and base.journal == journal and it.heard() < fence:
                     it.put_base(it.base("FOR UPDATE"), fence)
                 return
-            it.base("FOR UPDATE")
-            tx.execute("DELETE FROM sm.slots")
-            it.put_base(agent.forget(nonce()), 0)
+            forget(it)
         self.server.say("was left behind a reopening; it asks for its slots")
 
     def tell_base(self, _: Line) -> Line:
@@ -242,3 +240,10 @@ class Whole:
         for shard, slot in it.slots().items():
             if slot.at_work:
                 it.put_slot(shard, self.server.agent.abandon(slot))
+
+
+def forget(it: Records) -> None:
+    """Turns a server Unknown: slots are deleted, data is kept."""
+    it.base("FOR UPDATE")
+    it.tx.execute("DELETE FROM sm.slots")
+    it.put_base(agent.forget(nonce()), 0)
