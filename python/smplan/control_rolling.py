@@ -19,8 +19,19 @@ def in_turn(fleet: Fleet, servers: Set[int]) -> List[str]:
     return [fleet.servers[it] for it in sorted(servers, key=lambda it: (regions.index(fleet.region[it]), it))]
 
 
+def need_successors(restarts: Restarts, servers: List[str]) -> None:
+    """Tests before anything begins that others can lead what each server leads, unless it may lead it while it goes down. (What a server that is down keeps
+    from being so is waited for in its turn.)"""
+    fleet = fleet_of_state(restarts.controllers.state(), restarts.known)
+    if not restarts.goes_on and not any(fleet.is_down):
+        left = [line for server in servers for line in restarts.demotion(server)(fleet).left]
+        if left:
+            raise Failure("\n  ".join(["nothing is restarted, since nobody would serve some shards meanwhile (--go-on allows that):", *left]), 1)
+
+
 def roll(restarts: Restarts, by: str, command: List[str], servers: List[str], before: Fleet) -> int:
     """Restarts servers in turn by a command, in which {} is the server, and gives their leaders back. Under the same name it goes on where it stopped."""
+    need_successors(restarts, servers)
     for number, server in enumerate(servers):
         restarts.restart(server, f"{by}-{before.server_of[server]}", [it.replace("{}", server) for it in command])
         restarts.tell(f"{server} is up: {number + 1} of {counted(len(servers), 'server')}")

@@ -255,8 +255,11 @@ class Restarting(unittest.TestCase):
 
     def test_a_server_whose_shards_others_cannot_lead_is_let_alone(self):
         service = self.service(with_lone_shard(fleet_document()))
-        with self.assertRaisesRegex(Failure, "v0 is not restarted, since nobody would serve what it leads:\n  lone keeps its primary at v0: it has no other replica"):
-            self.roll(service, ["v0"])
+        reason = "lone keeps its primary at v0: it has no other replica"
+        with self.assertRaisesRegex(Failure, f"v0 is not restarted, since nobody would serve what it leads:\n  {reason}"):
+            self.restarts(service).restart("v0", "r7", ["true"])
+        with self.assertRaisesRegex(Failure, rf"nothing is restarted, since nobody would serve some shards meanwhile \(--go-on allows that\):\n  {reason}$"):
+            self.roll(service, ["v1", "v0"])
         self.assertEqual(([], []), (service.begun, service.led))
         self.assertEqual(0, self.roll(service, ["v0"], goes_on=True), self.told)
         self.assertEqual((self.before, [["lone"]]), (cells_of(service.state()), service.led))
