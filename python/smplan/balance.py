@@ -10,13 +10,10 @@ from heapq import heapify, heappop, heappush
 from typing import AbstractSet, Dict, List, Optional, Sequence, Set, Tuple
 
 from .blocks import role_change_fault
-from .draft import Draft
+from .draft import PARTS, Draft
 from .fleet import Fleet, primary_of
 from .limits import MOST_MOVES
 from .targets import Wanted
-
-# Shares of a server's room are compared as whole numbers of this part.
-PARTS = 1 << 40
 
 # How many of the emptiest servers are looked at for a move of a replica, and for an exchange.
 NEAREST, EXCHANGED = 4, 32
@@ -55,7 +52,7 @@ class Level(Draft):
         self.load = 0
 
     def rank(self, server: int) -> int:
-        return self.used[server] * PARTS // self.fleet.room[server]
+        return self.share(server)
 
     def may(self, shard: int, source: int, target: int, gone: int = 0) -> bool:
         """Whether a replica may go to a server from which a load is gone then."""

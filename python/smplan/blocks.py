@@ -22,12 +22,14 @@ class Kind(Enum):
     UNLIST = "the map lists the primary no longer"
 
 
-# The kinds that need room at their target, that free room at their source, that copy to their target, and that need a live replica to spare.
+# The kinds that need room at their target, that free room at their source, that copy to their target, that need a live replica to spare, that change roles by
+# calls of their own, and that make the target the primary.
 NEED_ROOM = frozenset([Kind.MOVE, Kind.HAND, Kind.ADD])
 FREE_ROOM = frozenset([Kind.MOVE, Kind.HAND, Kind.DROP])
 COPY = frozenset([Kind.MOVE, Kind.HAND, Kind.ADD, Kind.WARM])
 NEED_SPARE = frozenset([Kind.DROP, Kind.WARM])
 CHANGE_ROLES = frozenset([Kind.SWAP, Kind.PROMOTE])
+NEW_PRIMARY = CHANGE_ROLES | {Kind.HAND, Kind.WARM}
 
 
 @dataclass(frozen=True)
@@ -38,6 +40,11 @@ class Block:
     shard: int
     source: Optional[int] = None
     target: Optional[int] = None
+
+    @property
+    def copies(self) -> int:
+        """How often it copies the shard."""
+        return 2 if self.kind is Kind.WARM else int(self.kind in COPY)
 
     @property
     def servers(self) -> List[int]:

@@ -6,6 +6,9 @@ from typing import AbstractSet, Iterator, List, Set, Tuple
 
 from .fleet import SECONDARY, Fleet
 
+# Shares of a server's room are compared as whole numbers of this part.
+PARTS = 1 << 40
+
 
 class Draft:
     """A placement in the making, and the open servers, which may receive: those that are up and not closed. No replica moves twice, and none returns."""
@@ -27,6 +30,10 @@ class Draft:
     def free(self, server: int) -> int:
         """The room that is left at a server."""
         return self.fleet.room[server] - self.used[server]
+
+    def share(self, server: int) -> int:
+        """How full a server is, in parts of its room."""
+        return self.used[server] * PARTS // max(1, self.fleet.room[server])
 
     def receivers(self, load: int) -> Iterator[int]:
         """The open servers that have room for a load, if the one with the most room comes first."""

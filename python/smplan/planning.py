@@ -12,7 +12,7 @@ from typing import Any, Callable, Dict, Iterable, List, Set
 
 from . import program
 from .balance import Balance, Budget, after_moves, balance, level_primaries
-from .blocks import CHANGE_ROLES, COPY, Block, Kind
+from .blocks import CHANGE_ROLES, Block
 from .failure import Failure
 from .files import document_from, name_of, read_value
 from .fleet import Fleet, primary_of
@@ -107,7 +107,7 @@ class Sums:
     def add(self, plan: Json, blocks: List[Block], load: int) -> None:
         self.plans += 1
         self.calls += plan["budget"]
-        self.copies += sum(2 if it.kind is Kind.WARM else it.kind in COPY for it in blocks)
+        self.copies += sum(it.copies for it in blocks)
         self.load += load
         self.roles += sum(it.kind in CHANGE_ROLES for it in blocks)
 

@@ -5,8 +5,8 @@ from collections import defaultdict
 from dataclasses import dataclass
 from typing import Dict, FrozenSet, Iterator, List, Optional
 
-from .blocks import COPY, Block, Kind, Unreachable, Way, keeps_regions
-from .fleet import Fleet, Target
+from .blocks import COPY, NEW_PRIMARY, Block, Kind, Unreachable, Way, keeps_regions
+from .fleet import Fleet, Target, primary_of
 from .limits import MOST_MOVES, MOST_STREAMS
 from .model import Json
 from .streams import Streams
@@ -52,16 +52,52 @@ class Reach:
         self.fleet, self.limits = fleet, limits
         self.hops = limits.hops
         self.left: List[str] = []
-        self.rest: Dict[int, List[Block]] = {}
         self.least: Dict[int, int] = {}
+        ways: Dict[int, List[Block]] = {}
         for shard, cells in enumerate(target.cells):
             if cells != fleet.cells[shard] or target.is_listed[shard] != fleet.is_listed[shard]:
                 way = Way(fleet, shard, target, limits.has_gap)
                 self.least[shard] = way.least
                 try:
-                    self.rest[shard] = way.blocks()
+                    ways[shard] = way.blocks()
                 except Unreachable as why:
                     self.left.append(f"{fleet.shards[shard]} stays as it is: {why}")
+        self.rest = {shard: ways[shard] for part in self.parts(ways) for shard in part}
+
+    # The order in which shards are placed.
+
+    def parts(self, ways: Dict[int, List[Block]]) -> Iterator[List[int]]:
+        """The shards in parts that fill a plan each. Of a part those come first that burden the busiest servers, if these have lanes, and then those of
+        which most is copied, so that all streams end at about the same time."""
+        part: List[int] = []
+        blocks = load = 0
+        for shard, way in ways.items():
+            copied = self.fleet.load[shard] * sum(it.copies for it in way)
+            if part and (blocks + len(way) > self.limits.blocks or (self.limits.load is not None and load + copied > self.limits.load)):
+                yield self.busiest_first(part, ways)
+                part, blocks, load = [], 0, 0
+            part.append(shard)
+            blocks += len(way)
+            load += copied
+        yield self.busiest_first(part, ways)
+
+    def busiest_first(self, part: List[int], ways: Dict[int, List[Block]]) -> List[int]:
+        """The shards of a part in the order in which they are placed."""
+        load, burden = self.fleet.load, [0] * len(self.fleet.servers)
+        burdened = {shard: self.burdened(shard, ways[shard]) if self.limits.at_server else [] for shard in part}
+        for shard, servers in burdened.items():
+            for it in servers:
+                burden[it] += load[shard]
+        return sorted(part, key=lambda it: (-sum(burden[server] for server in set(burdened[it])), -load[it] * sum(block.copies for block in ways[it]), it))
+
+    def burdened(self, shard: int, way: List[Block]) -> List[int]:
+        """The servers that copies of a shard burden, once for each copy: its target, and that of the primary."""
+        primary, found = primary_of(self.fleet.cells[shard]), []
+        for block in way:
+            if block.kind in COPY:
+                found += [it for it in {block.target, primary} if it is not None] * block.copies
+            primary = block.target if block.kind in NEW_PRIMARY else primary
+        return found
 
     @property
     def size(self) -> int:

@@ -3,9 +3,10 @@ from __future__ import annotations
 
 from collections import defaultdict
 from dataclasses import dataclass, field
+from heapq import heappop, heappush
 from typing import Dict, List, Optional, Tuple
 
-from .blocks import COPY, FREE_ROOM, NEED_ROOM, NEED_SPARE, Block, Kind
+from .blocks import COPY, FREE_ROOM, NEED_ROOM, NEED_SPARE, Block
 from .fleet import Fleet, Target, primary_of
 from .limits import MOST_INSTRUCTIONS, MOST_SIGNALS, MOST_STREAMS
 from .model import CALLS, Json
@@ -81,6 +82,7 @@ class Streams:
         self.lanes: Dict[int, List[Optional[Placed]]] = defaultdict(lambda: [None] * at_server)
         self.placed: List[Placed] = []
         self.parcels: List[Dict[int, int]] = []
+        self.by_end = [(0, it) for it in range(count)]  # (a heap; an entry is old if its stream has grown since)
         self.places = count + sum(fleet.is_down)
         self.copied = 0
 
@@ -157,12 +159,18 @@ class Streams:
         starts = max([starts, *(it.ends for it in waits.values())])
         return Choice(number, starts, payments, [waits[it] for it in sorted(waits)], lanes)
 
+    def first_free(self) -> int:
+        """The stream that is free first, of equals the lowest."""
+        while self.by_end[0][0] != self.streams[self.by_end[0][1]].ends:
+            heappop(self.by_end)
+        return self.by_end[0][1]
+
     def candidates(self, block: Block, burdened: List[int]) -> List[int]:
         """The streams that are worth a look: the shard's own; otherwise the one that is free first, and those that a block would have to wait for."""
         own = self.course(block.shard).stream
         if own is not None:
             return [own]
-        found = {min(range(self.count), key=lambda it: (self.streams[it].ends, it))}
+        found = {self.first_free()}
         if block.kind in NEED_ROOM and block.target is not None:
             found |= {it.by.stream for it in self.freed[block.target] if it.by is not None and it.amount}
         found |= {it.stream for server in burdened for it in self.lanes[server] if it is not None}
@@ -216,12 +224,13 @@ class Streams:
     def append(self, block: Block, choice: Choice, waits: List[int], code: List[Json]) -> None:
         """Puts a block's code at a stream's end, and keeps what it has changed."""
         stream, load = self.streams[choice.stream], self.fleet.load[block.shard]
-        copied = load * (2 if block.kind is Kind.WARM else block.kind in COPY)
+        copied = load * block.copies
         placed = Placed(block, len(self.placed), choice.stream, len(stream.placed), [], choice.starts + max(1, copied), waits, code)
         stream.placed.append(placed)
         stream.clock[choice.stream] = len(stream.placed)
         placed.clock = list(stream.clock)
         stream.ends = placed.ends
+        heappush(self.by_end, (stream.ends, choice.stream))
         stream.length += len(waits) + len(code)
         self.placed.append(placed)
         self.places += 2 * len(waits) + len(code)

@@ -211,7 +211,7 @@ def shrink(draft: Draft, shard: int, want: int) -> Optional[str]:
         ]
         if not may:
             return f"none of its other replicas may go: it is to lie in {counted(least, 'region')}"
-        fullest = max(may, key=lambda it: (draft.used[it] * max(1, sum(fleet.room)) // max(1, fleet.room[it]), it))
+        fullest = max(may, key=lambda it: (draft.share(it), it))
         draft.drop(shard, fullest)
     return None
 
