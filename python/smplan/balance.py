@@ -13,7 +13,7 @@ from .blocks import role_change_fault
 from .draft import PARTS, Draft
 from .fleet import Fleet, primary_of
 from .limits import MOST_MOVES
-from .targets import Wanted
+from .targets import Hear, Wanted, ignore
 
 # How many of the emptiest servers are looked at for a move of a replica, and for an exchange.
 NEAREST, EXCHANGED = 4, 32
@@ -266,10 +266,13 @@ def balanced(fleet: Fleet, closed: AbstractSet[int], over: Fraction, budget: Bud
     return Balance(top, mean, most, most_after, moves, sum(fleet.load[it.shard] for it in moves), stuck, least)
 
 
-def balance(fleet: Fleet, closed: AbstractSet[int] = frozenset(), over: Fraction = Fraction(1, 10), budget: Budget = Budget()) -> Balance:
+def balance(fleet: Fleet, closed: AbstractSet[int] = frozenset(), over: Fraction = Fraction(1, 10), budget: Budget = Budget(), hear: Hear = ignore) -> Balance:
     """Moves after which no open server has more than the mean share of its room and `over` of that: of several lists the one that copies least."""
-    mean = sum(fleet.used) // max(1, sum(len(it) for it in fleet.cells))
-    return min((balanced(fleet, closed, over, budget, int(it * mean)) for it in PRICES), key=Balance.rank)
+    mean, found = sum(fleet.used) // max(1, sum(len(it) for it in fleet.cells)), []
+    for price in PRICES:
+        found.append(balanced(fleet, closed, over, budget, int(price * mean)))
+        hear(f"{len(found)} of {len(PRICES)} lists of moves are made")
+    return min(found, key=Balance.rank)
 
 
 def after_moves(fleet: Fleet, moves: Sequence[Move]) -> Wanted:

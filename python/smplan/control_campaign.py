@@ -24,7 +24,7 @@ from .files import document_from, read_value
 from .fleet import Cells, Fleet
 from .limits import MOST_MOVES, MOST_STREAMS
 from .model import Json, document_of
-from .planning import named, percent, servers_in, tell_beforehand, wanted_as_in, wants_of, whole
+from .planning import Progress, named, percent, servers_in, tell_beforehand, wanted_as_in, wants_of, whole
 from .reach import Leg, Limits, Reach
 from .targets import Wanted, demote, drain, scale
 from .words import counted
@@ -313,7 +313,9 @@ def run_demotion(told: argparse.Namespace) -> int:
 
 def run_drain(told: argparse.Namespace) -> int:
     """Empties servers together (`control_drain` empties one by the proved planner)."""
-    return run_campaign(told, "drain", lambda fleet: drain(fleet, servers_in(fleet, told.servers), servers_in(fleet, told.avoid), told.prefer_secondary))
+    def choice(fleet: Fleet) -> Wanted:
+        return drain(fleet, servers_in(fleet, told.servers), servers_in(fleet, told.avoid), told.prefer_secondary, Progress(print))
+    return run_campaign(told, "drain", choice)
 
 
 def run_balance(told: argparse.Namespace) -> int:
@@ -321,7 +323,7 @@ def run_balance(told: argparse.Namespace) -> int:
         avoid = servers_in(fleet, told.avoid)
         if told.primaries:
             return level_primaries(fleet, avoid)
-        found = balance(fleet, avoid, Fraction(told.over, 100), Budget(told.moves, told.load))
+        found = balance(fleet, avoid, Fraction(told.over, 100), Budget(told.moves, told.load), Progress(print))
         wanted = after_moves(fleet, found.moves)
         wanted.left = [f"{fleet.servers[it]} stays above {percent(found.top)}" for it in found.stuck]
         return wanted

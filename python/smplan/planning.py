@@ -35,15 +35,14 @@ def tell(text: str) -> None:
 class Progress:
     """Tells how far long work is, every few seconds."""
 
-    def __init__(self, total: int) -> None:
-        self.total, self.done, self.last = total, 0, time.monotonic()
+    def __init__(self, tell: Callable[[str], None]) -> None:
+        self.tell, self.last = tell, time.monotonic()
 
-    def step(self, what: str, count: int = 0) -> None:
-        """Says what comes now, after so many steps more."""
-        self.done += count
+    def __call__(self, text: str) -> None:
+        """Tells it, unless something was told just now."""
         if time.monotonic() - self.last > PATIENCE:
+            self.tell(text)
             self.last = time.monotonic()
-            tell(f"{self.done} of {self.total} steps are in plans; {what}")
 
 
 def named(names: Iterable[str]) -> str:
@@ -156,11 +155,11 @@ def print_plans(arguments: argparse.Namespace, fleet: Fleet, wanted: Wanted) -> 
     """Makes the plans that lead to a placement, has each checked, and prints it. Tells what is left."""
     path, sums = program.required(arguments.program), Sums()
     reach = Reach(fleet, wanted.target, limits_of(arguments, fleet))
-    progress = Progress(reach.size)
+    progress, size = Progress(tell), reach.size
     tell_beforehand(tell, fleet, wanted, reach)
     for leg in reach.legs():
         document = leg.document()
-        progress.step(f"smplan checks plan {sums.plans}", len(leg.blocks))
+        progress(f"{size - reach.size} of {size} steps are in plans; smplan checks plan {sums.plans}")
         check(path, document)
         print_document(arguments, document)
         sums.add(document["plan"], leg.blocks, leg.streams.copied)
@@ -188,7 +187,7 @@ def make_demotion(arguments: argparse.Namespace) -> int:
 def make_drain(arguments: argparse.Namespace) -> int:
     fleet = read_fleet(arguments.document)
     servers, avoid = servers_in(fleet, arguments.servers), servers_in(fleet, arguments.avoid)
-    return print_plans(arguments, fleet, drain(fleet, servers, avoid, arguments.prefer_secondary))
+    return print_plans(arguments, fleet, drain(fleet, servers, avoid, arguments.prefer_secondary, Progress(tell)))
 
 
 def tell_balance(fleet: Fleet, found: Balance) -> None:
@@ -204,7 +203,7 @@ def make_balance(arguments: argparse.Namespace) -> int:
     avoid = servers_in(fleet, arguments.avoid)
     if arguments.primaries:
         return print_plans(arguments, fleet, level_primaries(fleet, avoid))
-    found = balance(fleet, avoid, Fraction(arguments.over, 100), Budget(arguments.moves, arguments.load))
+    found = balance(fleet, avoid, Fraction(arguments.over, 100), Budget(arguments.moves, arguments.load), Progress(tell))
     tell_balance(fleet, found)
     wanted = after_moves(fleet, found.moves)
     wanted.left = [f"{fleet.servers[it]} stays above {percent(found.top)}" for it in found.stuck]

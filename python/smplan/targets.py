@@ -3,7 +3,7 @@ from __future__ import annotations
 
 from dataclasses import dataclass, field
 from itertools import combinations
-from typing import AbstractSet, Dict, List, Optional, Sequence, Tuple
+from typing import AbstractSet, Callable, Dict, List, Optional, Sequence, Tuple
 
 from .blocks import Unreachable, regions_without, role_change_fault
 from .draft import Draft
@@ -17,6 +17,14 @@ class Wanted:
 
     target: Target
     left: List[str] = field(default_factory=list)
+
+
+# How far a long choice is, in words, for whoever wants to hear it.
+Hear = Callable[[str], None]
+
+
+def ignore(_: str) -> None:
+    """Hears nothing."""
 
 
 # ---- no leaders at some servers
@@ -96,8 +104,8 @@ class Room:
 class Drain:
     """Empties servers, the replicas with the greatest loads first. Each goes where most room is left; if none fits, another one gives way, or two."""
 
-    def __init__(self, fleet: Fleet, servers: AbstractSet[int], avoid: AbstractSet[int], start: Target) -> None:
-        self.fleet, self.servers = fleet, servers
+    def __init__(self, fleet: Fleet, servers: AbstractSet[int], avoid: AbstractSet[int], start: Target, hear: Hear) -> None:
+        self.fleet, self.servers, self.hear = fleet, servers, hear
         self.draft = Draft(fleet, servers | avoid)
         self.draft.target = start
         self.left: List[str] = []
@@ -106,7 +114,8 @@ class Drain:
         """The placement without a replica at the servers."""
         load = self.fleet.load
         jobs = sorted(((shard, it) for it in self.servers for shard in self.fleet.at[it]), key=lambda it: (-load[it[0]], it))
-        for shard, server in jobs:
+        for number, (shard, server) in enumerate(jobs):
+            self.hear(f"{number} of {counted(len(jobs), 'replica')} have another place")
             target = next((it for it in self.draft.receivers(load[shard]) if self.may(shard, server, it)), None)
             if target is None:
                 rooms = self.room_for(shard, server)
@@ -168,10 +177,10 @@ class Drain:
         return line + f"at {fleet.servers[fit[0]]} it would lie in fewer than {counted(fleet.spread[shard], 'region')}"
 
 
-def drain(fleet: Fleet, servers: AbstractSet[int], avoid: AbstractSet[int] = frozenset(), prefers_secondary: bool = False) -> Wanted:
+def drain(fleet: Fleet, servers: AbstractSet[int], avoid: AbstractSet[int] = frozenset(), prefers_secondary: bool = False, hear: Hear = ignore) -> Wanted:
     """Nothing at these servers. If it prefers secondaries, primaries change their roles first, where they can."""
     start = demote(fleet, servers, avoid).target if prefers_secondary else fleet.target()
-    return Drain(fleet, servers, avoid, start).wanted()
+    return Drain(fleet, servers, avoid, start, hear).wanted()
 
 
 # ---- other numbers of replicas

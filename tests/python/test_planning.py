@@ -4,6 +4,7 @@ import os
 import stat
 import tempfile
 import unittest
+from unittest import mock
 
 from fixtures import example, load, program, tools, written
 from smplan.reports import read_report
@@ -85,6 +86,16 @@ class Commands(unittest.TestCase):
         done = tools("drain", DRAIN, "berlin-1", "--plan", "--pretty")
         self.assertEqual(["budget", "signals", "streams"], list(json.loads(done.out)))
         self.assertGreater(len(done.out.splitlines()), 20)
+
+
+class Progress(unittest.TestCase):
+    def test_long_work_tells_how_far_it_is(self):
+        with mock.patch("smplan.planning.PATIENCE", -1.0):
+            self.assertIn("smplan-tools: 1 of 2 replicas have another place\n", tools("drain", DRAIN, "berlin-1").err)
+            told = tools("balance", DRAIN, "--over", "40", "--batch", "1").err
+        self.assertIn("smplan-tools: 4 of 5 lists of moves are made\n", told)
+        self.assertIn("smplan-tools: 1 of 2 steps are in plans; smplan checks plan 0\n", told)
+        self.assertNotIn("lists", tools("balance", DRAIN).err)
 
 
 class Faults(unittest.TestCase):
