@@ -280,8 +280,10 @@ def known_document(controllers: Controllers, path: Optional[str]) -> Optional[Li
 def save(path: str, value: Json) -> None:
     """Writes what was recorded before, for `undo`."""
     try:
-        with open(path, "w", encoding="utf-8") as file:
+        with open(path, "x", encoding="utf-8") as file:
             json.dump(value, file)
+    except FileExistsError:
+        raise Failure(f"{path} is there, and may be of what you want to undo: name another file, or go on without --before") from None
     except OSError as why:
         raise Failure(f"{path}: {why.strerror}") from None
 
@@ -290,13 +292,13 @@ def run_campaign(told: argparse.Namespace, name: str, choice: Callable[[Fleet], 
     """Runs a campaign. The first interrupt ends it behind the present plan."""
     controllers = controllers_of(told)
     known = known_document(controllers, told.document)
-    state = controllers.state()
-    if state.get("is") == "open" and told.before:
-        save(told.before, document_of_state(state, known))
-    fleet = fleet_of_state(state, known) if state.get("is") == "open" else None
-    avoid = frozenset(servers_in(fleet, told.avoid)) if fleet else frozenset()
-    limits = Limits(streams=told.streams, at_server=told.at_server, blocks=told.batch, avoid=avoid, hops=told.hops, has_gap=not getattr(told, "no_gap", False))
+    limits = Limits(streams=told.streams, at_server=told.at_server, blocks=told.batch, hops=told.hops, drops_first=told.drop_first,
+                    has_gap=not getattr(told, "no_gap", False))
     campaign = Campaign(controllers, name, choice, limits, known, told.pause, told.stop, tell=lambda text: print(text, flush=True))
+    state = campaign.state()
+    campaign.limits = replace(limits, avoid=frozenset(servers_in(fleet_of_state(state, known), told.avoid)))
+    if told.before:
+        save(told.before, document_of_state(state, known))
 
     def stop(*_: object) -> None:
         campaign.is_stopped = True
@@ -339,12 +341,17 @@ def run_undo(told: argparse.Namespace) -> int:
     return run_campaign(told, "undo", lambda fleet: wanted_as_in(fleet, before))
 
 
+# The options that `add_choices` adds.
+CHOICES = ("avoid", "streams", "at_server", "hops", "drop_first", "document", "before")
+
+
 def add_choices(parser: argparse.ArgumentParser) -> None:
     """Adds the options that say how a campaign is made."""
     parser.add_argument("--avoid", action="append", default=[], metavar="SERVER", help="a server, or region:R, that gets nothing; may be given again")
     parser.add_argument("--streams", type=whole(1, MOST_STREAMS), default=32, metavar="N", help="copies at once at most (32)")
     parser.add_argument("--at-server", type=whole(0, MOST_STREAMS), default=2, metavar="N", help="copies at once that burden a server; 0: any number (2)")
     parser.add_argument("--hops", type=whole(0, MOST_MOVES), default=0, metavar="N", help="if nothing fits, replicas that may go by a third server, in each plan (0)")
+    parser.add_argument("--drop-first", action="store_true", help="if nothing fits, drop a replica before its successor is added, where one may be spared")
     parser.add_argument("--document", metavar="FILE", help="says in how many regions shards are to lie (what the controller knows; otherwise as many as now)")
     parser.add_argument("--before", metavar="FILE", help="write the placement as it is before, for 'undo'")
 

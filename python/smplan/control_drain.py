@@ -148,8 +148,8 @@ def drain(told: argparse.Namespace) -> int:
 
 
 def is_for_several(told: argparse.Namespace) -> bool:
-    """Whether servers are to be emptied together, or a choice is to be made that the proved planner does not make."""
-    return len(told.server) > 1 or told.server[0].startswith("region:") or told.prefer_secondary or bool(told.avoid) or told.before is not None
+    """Whether servers are to be emptied together, or something is asked for that the proved planner does not do."""
+    return len(told.server) > 1 or told.server[0].startswith("region:") or any(getattr(told, name) != it for name, it in told.usual.items())
 
 
 def at_least(least: float, kind: Callable[[str], float] = float) -> Callable[[str], float]:
@@ -164,7 +164,7 @@ def at_least(least: float, kind: Callable[[str], float] = float) -> Callable[[st
 
 def add_parser(subparsers: Any) -> None:
     """Adds the command."""
-    from .control_campaign import add_choices
+    from .control_campaign import CHOICES, add_choices
     parser = subparsers.add_parser(
         "drain", help="empties a server by small plans, one after the other",
         epilog="example: smplan-control drain berlin-1 --controller http://10.0.0.7:9200 --batch 2 --pause 5",
@@ -180,4 +180,4 @@ def add_parser(subparsers: Any) -> None:
     parser.add_argument("--pause", type=at_least(0), default=1.0, metavar="SECONDS", help="rest between two plans (1)")
     parser.add_argument("--stop", type=at_least(0), metavar="SECONDS", help="begin no further plan once one, or waiting for others' plans, takes longer than this")
     parser.add_argument("--json", action="store_true", help="print JSON in the end; what it does goes to standard error")
-    parser.set_defaults(run=run)
+    parser.set_defaults(run=run, usual={it: parser.get_default(it) for it in (*CHOICES, "prefer_secondary")})

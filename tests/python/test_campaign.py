@@ -7,7 +7,9 @@ import tempfile
 import unittest
 
 from fixtures import ROOT, example, load
-from smplan.control_campaign import Campaign, document_of_state, fleet_of_state
+from smplan import control_commands
+from smplan.control_campaign import Campaign, document_of_state, fleet_of_state, save
+from smplan.control_drain import is_for_several
 from smplan.control_http import Page, serve
 from smplan.control_leader import Refused
 from smplan.control_restart import Restarts, led_as_before, placement_before, unserved
@@ -356,6 +358,21 @@ class Failovers(unittest.TestCase):
     def test_one_that_follows_is_told_at_once(self):
         status, text, leaders = self.done(("demote", "v0"), "k0")
         self.assertEqual((3, 6), (status, len(leaders)), text)
+
+
+class CommandLines(unittest.TestCase):
+    def test_one_server_is_drained_by_the_proved_planner_unless_more_is_asked_for(self):
+        parse = control_commands.parser().parse_args
+        for words, is_so in (("a", False), ("a --batch 2 --pause 0", False), ("a --streams 32", False), ("a b", True), ("region:r", True), ("a --at-server 1", True),
+                             ("a --streams 4", True), ("a --hops 3", True), ("a --drop-first", True), ("a --prefer-secondary", True), ("a --before f", True),
+                             ("a --avoid b", True), ("a --document f", True)):
+            self.assertEqual(is_so, is_for_several(parse(["drain", *words.split()])), words)
+
+    def test_a_placement_that_is_kept_is_not_written_over(self):
+        with tempfile.TemporaryDirectory() as folder:
+            save(f"{folder}/was.json", {})
+            with self.assertRaisesRegex(Failure, "was.json is there, and may be of what you want to undo: name another file, or go on without --before"):
+                save(f"{folder}/was.json", {})
 
 
 class Recorded(unittest.TestCase):
