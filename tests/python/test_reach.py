@@ -131,6 +131,19 @@ class Batches(unittest.TestCase):
         self.assertEqual(30, leg.streams.duration)
 
 
+    def test_streams_end_at_about_the_same_time(self):
+        fleet = fleet_of("a:r:60 b:r:60 c:r:60", {f"s{at}:{load}": {"at": "a b"} for at, load in enumerate((1, 1, 2))})
+        (leg,), _ = legs_of(fleet, wanted(fleet, **{f"s{it}": "a c" for it in range(3)}), streams=2)
+        self.assertEqual(2, leg.streams.duration)
+
+    def test_the_busiest_server_is_never_idle(self):
+        shards = {f"big{it}:4": {"at": f"a{it} b{it}"} for it in range(2)} | {f"p{it}:2": {"at": f"h c{it}"} for it in range(4)}
+        fleet = fleet_of(" ".join(f"{it}:r:20" for it in "a0 a1 b0 b1 c0 c1 c2 c3 h d0 d1 d2 d3 d4 d5".split()), shards)
+        target = wanted(fleet, big0="a0 d0", big1="a1 d1", p0="h d2", p1="h d3", p2="h d4", p3="h d5")
+        (leg,), _ = legs_of(fleet, target, streams=2, at_server=1)
+        self.assertEqual((8, ["p0", "p1", "p2", "p3"]), (leg.streams.duration, [fleet.shards[it.shard] for it in leg.blocks[:4]]))
+
+
 class Random(unittest.TestCase):
     def test_each_plan_is_accepted_and_leads_there_and_back(self):
         counts = Counter()
