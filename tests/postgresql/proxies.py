@@ -67,6 +67,6 @@ def start(target, port, harm, seed):
     counts = {}
     kind = type("It", (Rough,), {"target": target, "harm": harm, "dice": random.Random(seed), "counts": counts})
     server = ThreadingHTTPServer(("127.0.0.1", port), kind)
-    server.daemon_threads = True
+    server.daemon_threads, server.handle_error = True, lambda *_: None  # (a controller that is killed ends its connections)
     threading.Thread(target=server.serve_forever, daemon=True).start()
     return counts

@@ -29,6 +29,9 @@ CREATE TABLE sm.slots (
 -- one is whole.
 CREATE TABLE sm.copying (shard text PRIMARY KEY, source int NOT NULL, since timestamptz NOT NULL DEFAULT now(), kept text);
 
+-- Streams that the copying of tables may have left at a source, by the beginning of their names.
+CREATE TABLE sm.left_behind (source int, streams text, PRIMARY KEY (source, streams));
+
 -- The copies that others make from here; they tell every second that they go on.
 CREATE TABLE sm.copied (shard text, server int, since timestamptz NOT NULL DEFAULT now(), seen timestamptz NOT NULL DEFAULT now(), PRIMARY KEY (shard, server));
 

@@ -163,7 +163,9 @@ def keep(tx: Connection, shard: str, number: int) -> str:
 
 
 def delete(tx: Connection, shard: str, number: int) -> None:
-    """Deletes a shard's data, publication and subscription."""
+    """Deletes a shard's data, publication and subscription. What the copying of tables has left at the source is dropped later."""
+    tx.execute("INSERT INTO sm.left_behind SELECT source, format('pg_%%s_sync_', s.oid) FROM sm.copying, pg_subscription s WHERE shard = %s AND subname = sm.stream(%s, %s) "
+               "ON CONFLICT DO NOTHING", (shard, shard, number))
     streams.drop_subscription(tx, streams.name_of(tx, shard, number))
     tx.execute(said("DROP PUBLICATION IF EXISTS {}", streams.name_of(tx, shard)))
     tx.execute(said("DROP SCHEMA IF EXISTS {} CASCADE", shard))

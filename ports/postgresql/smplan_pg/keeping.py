@@ -10,7 +10,7 @@ from smplan.agent import Cell
 
 from . import streams
 from .copies import REPLACED
-from .database import Row
+from .database import Row, value
 from .records import Records
 from .streams import Stuck, said
 
@@ -102,6 +102,17 @@ class Keeping:
                 tx.execute("SET LOCAL lock_timeout = '1s'")
                 tx.execute(said("DROP SCHEMA IF EXISTS {} CASCADE", row["schema"]))
                 tx.execute("DELETE FROM sm.asides WHERE schema = %s", (row["schema"],))
+
+    def tidy_sources(self) -> None:
+        """Drops streams that the copying of tables has left at other servers."""
+        own = value(self.server.database.row("SELECT system_identifier::text FROM pg_control_system()"))
+        for row in self.server.database.rows("SELECT source, streams FROM sm.left_behind"):
+            there = self.server.peer(row["source"])
+            left = "FROM pg_replication_slots WHERE starts_with(slot_name, %s) AND slot_name LIKE %s"
+            names = (row["streams"], f"%\\_{own}")
+            there.rows(f"SELECT pg_drop_replication_slot(slot_name) {left} AND NOT active", *names)
+            if not there.rows(f"SELECT 1 {left}", *names):
+                self.server.database.do("DELETE FROM sm.left_behind WHERE source = %s AND streams = %s", row["source"], row["streams"])
 
     def served(self) -> List[str]:
         """The shards whose primary this server is."""

@@ -211,7 +211,7 @@ class Server:
             elif not self.number:
                 raise Failure(f"the fleet's file names no {self.name}")
         for work, seconds in ((self.look, 2.0), (self.ask_for_slots, 0.5), (self.following.watch, 0.2), (self.following.listen, 0.5),
-                              (self.keeping.leave_out_the_dead, 1.0), (self.keeping.tidy, 2.0), (self.keep_own, 1.0)):
+                              (self.keeping.leave_out_the_dead, 1.0), (self.keeping.tidy, 2.0), (self.keeping.tidy_sources, 3.0), (self.keep_own, 1.0)):
             threading.Thread(target=self.repeat, args=(work, seconds), daemon=True).start()
         listen(self.http or self.peers[self.number].url, self.routes, self.token)
 
