@@ -135,7 +135,8 @@ def try_bug(name, seed, told):
         lines = done.stdout.strip().splitlines()
         at = next((n for n, it in enumerate(lines) if it.startswith("verdict")), None)
         found[bug] = (done.returncode, lines[at:at + 2] if at is not None else [done.stderr.strip()[-300:]])
-    is_good = found[name][0] == 1 and found[name][1][0].startswith("verdict") and found[""][0] == 0
+    is_found = found[name][0] == 1 and found[name][1][0].startswith("verdict") and "secondaries are copied" not in "".join(found[name][1])
+    is_good = is_found and found[""][0] == 0
     print(f"{'ok  ' if is_good else 'BAD '} {name} (seed {seed}): with it {' '.join(it.strip() for it in found[name][1])[:200]}; without {found[''][1][0]}", flush=True)
     return is_good
 
