@@ -58,6 +58,11 @@ class Block:
         return [it for it in holders if it != gone] + come
 
 
+def copies_in(blocks: Iterable[Block]) -> int:
+    """How many copies blocks make."""
+    return sum(it.copies for it in blocks)
+
+
 class Unreachable(Exception):
     """Why a shard does not get where it is wanted."""
 

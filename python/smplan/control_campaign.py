@@ -15,7 +15,7 @@ from fractions import Fraction
 from typing import Any, Callable, Dict, List, Optional, Set, Tuple
 
 from .balance import Budget, after_moves, balance, level_primaries
-from .blocks import CHANGE_ROLES
+from .blocks import CHANGE_ROLES, copies_in
 from .control_document import ROLES
 from .control_drain import PASSING, at_least
 from .control_leader import Controllers, Line, Refused, add_options, controllers_of
@@ -258,7 +258,7 @@ class Campaign:
 
 def in_words(leg: Leg) -> str:
     """What a plan does, in words."""
-    copies = sum(it.copies for it in leg.blocks)
+    copies = copies_in(leg.blocks)
     parts = [f"{counted(copies, 'copy', 'copies')} of load {leg.streams.copied}"]
     changed = [leg.before.shards[it.shard] for it in leg.blocks if it.kind in CHANGE_ROLES]
     return ", ".join(parts + ([f"the primary of {named(changed)} changes by two roles"] if changed else []))

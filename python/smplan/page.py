@@ -11,7 +11,7 @@ from typing import AbstractSet, Dict, List, Optional, Sequence, Tuple
 from .model import Document, Spot
 from .placement import Finding, Placement
 from .story import Story, led, servers_of
-from .width import AtOnce, most_at_once, most_in_turn
+from .width import AtOnce, copied_load, most_at_once, most_in_turn
 from .words import carried, counted, in_words, label, rights_in_words
 
 FOLDER = Path(__file__).parent
@@ -353,9 +353,9 @@ def at_once_tiles(at_once: Optional[AtOnce], rate: Optional[int]) -> List[Tile]:
 def change_tiles(stories: Sequence[Story]) -> List[Tile]:
     """What becomes of the replicas, and what is copied."""
     changes = [it for story in stories for it in story.changes()]
-    added, dropped = [it for it in changes if it.before is None], sum(it.after is None for it in changes)
-    copied = sum(stories[0].before.document.shards[it.shard].load for it in added)
-    return [(len(added), "replica to add"), (dropped, "replica to drop"), (copied, "load to copy")]
+    added, dropped = (sum(it is None for it in ends) for ends in ([it.before for it in changes], [it.after for it in changes]))
+    copied = sum(copied_load(it.plan, it.document) for it in stories if it.document)
+    return [(added, "replica to add"), (dropped, "replica to drop"), (copied, "load to copy")]
 
 
 def plan_tiles(plan: PlanPage) -> List[Tile]:

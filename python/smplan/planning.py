@@ -12,7 +12,7 @@ from typing import Any, Callable, Dict, Iterable, List, Set
 
 from . import program
 from .balance import Balance, Budget, after_moves, balance, level_primaries
-from .blocks import CHANGE_ROLES, Block
+from .blocks import CHANGE_ROLES, Block, copies_in
 from .failure import Failure
 from .files import document_from, name_of, read_value
 from .fleet import Fleet, primary_of
@@ -106,7 +106,7 @@ class Sums:
     def add(self, plan: Json, blocks: List[Block], load: int) -> None:
         self.plans += 1
         self.calls += plan["budget"]
-        self.copies += sum(it.copies for it in blocks)
+        self.copies += copies_in(blocks)
         self.load += load
         self.roles += sum(it.kind in CHANGE_ROLES for it in blocks)
 
@@ -135,17 +135,16 @@ def most_led(fleet: Fleet) -> int:
     return max(counts.values(), default=0)
 
 
-def forecast(fleet: Fleet, wanted: Wanted) -> str:
+def forecast(fleet: Fleet, wanted: Wanted, reach: Reach) -> str:
     """What a way to a placement comes to: what it copies, how full servers are, and how many shards they lead, before and after."""
     after = fleet.after(wanted.target)
-    new = [fleet.load[shard] for shard, cells in enumerate(wanted.target.cells) for it in cells if it not in fleet.cells[shard]]
-    return (f"{counted(len(new), 'replica')} to copy, load {sum(new)}, {percent(Fraction(sum(new), max(1, sum(fleet.used))))} of all; the fullest server "
+    return (f"{counted(reach.copies, 'replica')} to copy, load {reach.load}, {percent(Fraction(reach.load, max(1, sum(fleet.used))))} of all; the fullest server "
             f"{percent(most_used(fleet))} -> {percent(most_used(after))}; most primaries at a server {most_led(fleet)} -> {most_led(after)}")
 
 
 def tell_beforehand(tell: Callable[[str], None], fleet: Fleet, wanted: Wanted, reach: Reach) -> None:
     """Tells what a way to a placement comes to, and of which shards nobody is the primary meanwhile."""
-    tell(forecast(fleet, wanted))
+    tell(forecast(fleet, wanted, reach))
     gaps = reach.without_primary()
     if gaps:
         tell(f"for one call each nobody is the primary of {named(gaps)}")
@@ -214,9 +213,11 @@ def wants_of(fleet: Fleet, words: Iterable[str]) -> Dict[int, int]:
     """How many replicas of which shards are wanted, by words such as `orders=3`."""
     found = {}
     for word in words:
-        name, _, want = word.rpartition("=")
+        name, equals, want = word.rpartition("=")
+        if not equals:
+            raise Failure(f"{word}: how many replicas is it to have? Say SHARD=WANT, as {word}=3")
         if name not in fleet.shard_of:
-            raise Failure(f"no shard is named '{name or word}'{did_you_mean(name or word, fleet.shards)}; say SHARD=WANT")
+            raise Failure(f"no shard is named '{name}'{did_you_mean(name, fleet.shards)}")
         if not want.isascii() or not want.isdigit() or not 1 <= int(want) <= MOST_REPLICAS:
             raise Failure(f"{word}: a shard has 1 to {MOST_REPLICAS} replicas")
         found[fleet.shard_of[name]] = int(want)

@@ -5,7 +5,7 @@ from collections import defaultdict
 from dataclasses import dataclass
 from typing import Dict, FrozenSet, Iterator, List, Optional
 
-from .blocks import COPY, NEW_PRIMARY, Block, Kind, Unreachable, Way, keeps_regions
+from .blocks import COPY, NEW_PRIMARY, Block, Kind, Unreachable, Way, copies_in, keeps_regions
 from .fleet import Fleet, Target, primary_of
 from .limits import MOST_MOVES, MOST_STREAMS
 from .model import Json
@@ -72,7 +72,7 @@ class Reach:
         part: List[int] = []
         blocks = load = 0
         for shard, way in ways.items():
-            copied = self.fleet.load[shard] * sum(it.copies for it in way)
+            copied = self.fleet.load[shard] * copies_in(way)
             if part and (blocks + len(way) > self.limits.blocks or (self.limits.load is not None and load + copied > self.limits.load)):
                 yield self.busiest_first(part, ways)
                 part, blocks, load = [], 0, 0
@@ -88,7 +88,7 @@ class Reach:
         for shard, servers in burdened.items():
             for it in servers:
                 burden[it] += load[shard]
-        return sorted(part, key=lambda it: (-sum(burden[server] for server in set(burdened[it])), -load[it] * sum(block.copies for block in ways[it]), it))
+        return sorted(part, key=lambda it: (-sum(burden[server] for server in set(burdened[it])), -load[it] * copies_in(ways[it]), it))
 
     def burdened(self, shard: int, way: List[Block]) -> List[int]:
         """The servers that copies of a shard burden, once for each copy: its target, and that of the primary."""
@@ -103,6 +103,16 @@ class Reach:
     def size(self) -> int:
         """How many blocks are not yet in a plan."""
         return sum(map(len, self.rest.values()))
+
+    @property
+    def copies(self) -> int:
+        """How many copies these make."""
+        return sum(map(copies_in, self.rest.values()))
+
+    @property
+    def load(self) -> int:
+        """How much load they copy."""
+        return sum(self.fleet.load[shard] * copies_in(way) for shard, way in self.rest.items())
 
     def without_primary(self) -> List[str]:
         """The shards of which nobody is the primary for one call."""

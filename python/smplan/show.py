@@ -17,7 +17,7 @@ from .model import CALLS, Document, Instruction, Json, Spot, plan_of
 from .placement import Finding, Placement, opening_findings
 from .story import Change, Story, led, servers_of
 from .verdict import holding_findings, plan_findings
-from .width import AtOnce, most_at_once, most_in_turn
+from .width import AtOnce, copied_load, most_at_once, most_in_turn
 from .words import counted, in_words, label, rights_in_words
 
 SIGNS = {"add": "+", "drop": "-", "change": "~"}
@@ -43,9 +43,8 @@ def calls_of(story: Story) -> List[Instruction]:
 
 def copies_in_words(stories: Sequence[Story]) -> str:
     """Returns what becomes of the replicas, and what is copied, in words."""
-    changes = [it for story in stories for it in story.changes()]
-    kinds = [kind_of(it) for it in changes]
-    copied = sum(stories[0].before.document.shards[it.shard].load for it in changes if it.before is None)
+    kinds = [kind_of(it) for story in stories for it in story.changes()]
+    copied = sum(copied_load(it.plan, it.document) for it in stories if it.document)
     return f"{counted(kinds.count('add'), 'replica')} to add, {kinds.count('drop')} to drop, {kinds.count('change')} to change role; load {copied} to copy"
 
 

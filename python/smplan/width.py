@@ -56,6 +56,11 @@ def copies_of(plan: Plan, document: Document) -> List[Copy]:
     return found
 
 
+def copied_load(plan: Plan, document: Document) -> int:
+    """The load that a plan copies, if it runs to its end."""
+    return sum(document.shards[it.shard].load for it in copies_of(plan, document))
+
+
 def widest(copies: Sequence[Copy]) -> int:
     """The size of the widest set of copies of which none waits for another: as many as the chains that are needed to cover all."""
     later = [sum(1 << at for at, it in enumerate(copies) if it.waits_for(copy)) for copy in copies]

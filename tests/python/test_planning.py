@@ -40,6 +40,8 @@ class Commands(unittest.TestCase):
         document, told = self.one("demote", PLACEMENT, "berlin-2", "--no-gap")
         self.assertEqual("berlin-1 berlin-2", end(document)["orders"])
         self.assertIn("1 plan, 6 calls: 2 copies of load 80, no change of roles", told)
+        self.assertIn("2 replicas to copy, load 80, ", told)
+        self.assertIn("0 replicas to add, 0 to drop, 2 to change role; load 80 to copy", tools("show", "--summary", text=json.dumps(document)).out)
 
     def test_demote_tells_what_is_left(self):
         document, told = self.one("demote", PLACEMENT, "region:oslo", status=1)
@@ -108,6 +110,7 @@ class Faults(unittest.TestCase):
         self.fails(2, "no server is named 'berlin2'; did you mean 'berlin-2'?", "demote", PLACEMENT, "berlin2")
         self.fails(2, "no region is named 'osl'", "drain", PLACEMENT, "region:osl")
         self.fails(2, "no shard is named 'order'; did you mean 'orders'?", "scale", PLACEMENT, "order=3")
+        self.fails(2, "orders: how many replicas is it to have? Say SHARD=WANT, as orders=3", "scale", PLACEMENT, "orders")
         self.fails(2, "orders=0: a shard has 1 to 1024 replicas", "scale", PLACEMENT, "orders=0")
         self.fails(2, "65 is no whole number from 1 to 64", "drain", PLACEMENT, "berlin-1", "--streams", "65")
 

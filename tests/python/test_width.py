@@ -20,7 +20,7 @@ class Widths(unittest.TestCase):
     def test_streams_run_side_by_side_and_lanes_do_not(self):
         fleet = fleet_of("a:r:60 b:r:60 c:r:60 d:r:60", {f"s{it}:{it + 1}": {"at": "a b"} for it in range(4)})
         target = wanted(fleet, s0="a c", s1="a d", s2="a c", s3="a d")
-        for at_server, found in ((0, (4, 4, 4)), (2, (2, 2, 6)), (1, (1, 1, 10))):
+        for at_server, found in ((0, (4, 4, 4)), (2, (2, 2, 5)), (1, (1, 1, 10))):
             (leg,), _ = legs_of(fleet, target, at_server=at_server)
             value = leg.document()
             at_once = most_at_once(plan_of(value["plan"]), document_of(value))
