@@ -240,14 +240,17 @@ class Mover(threading.Thread):
 
 
 def harm(fleet, dice, kills, most_seconds, only):
-    """Kills at random moments, and starts anew. Returns how often what was killed."""
+    """Kills at random moments, and starts anew. Returns how often what was killed. A busy machine may need a while until somebody leads again: it waits
+    for that once nobody has led for 15 s, so that commands, which wait for a minute, are not at their end."""
     kinds = {"a server": lambda: dice.choice(list(fleet.urls)), "a controller": lambda: dice.choice(list(fleet.controllers)), "the leader": fleet.leading}
     if len(fleet.members) > 2:
         kinds.update({"a member of etcd": lambda: dice.choice(list(fleet.members)), "etcd's leader": fleet.leading_member})
     kinds = {kind: it for kind, it in kinds.items() if only in kind}
-    counts, until = Counter(), time.monotonic() + most_seconds
+    counts, until, led = Counter(), time.monotonic() + most_seconds, time.monotonic()
     while sum(counts[it] for it in kinds) < kills and time.monotonic() < until:
         time.sleep(dice.uniform(0.0, 2.0))
+        if fleet.leading() is not None or (time.monotonic() > led + 15.0 and fleet.leader()):
+            led = time.monotonic()
         kind = dice.choice(list(kinds))
         name = kinds[kind]()
         counts["ended by itself"] += len(fleet.guard())
