@@ -36,6 +36,8 @@ class Leaves:
             base, slot, mark = it.base(), it.slot(shard), it.mark(shard)
             if not base.known or base.fenced or int(line["journal"], 16) != base.journal or it.heard() != line["heard"]:
                 return {"later": "it knows of another reopening"}
+            if not self.may_answer(shard, number):
+                return {"later": "it leaves, too"}
             if not may_give(slot, mark.position, line):
                 return {"later": f"it does not serve {shard}"}
             if not it.has(shard, Mark(*line["mark"])):
@@ -44,6 +46,14 @@ class Leaves:
                 link = self.server.streams.link(self.server.live(shard), number)
                 link.left, link.joined = line["question"], link.joined + 1
         return {"leave": True}
+
+    def may_answer(self, shard: str, number: int) -> bool:
+        """Whether this server stays. Of two that ask each other the one with the higher number does, and asks anew."""
+        with self.server.changed:
+            live = self.server.live(shard)
+            if live.leaving and not live.leave and self.server.number > number:
+                live.stay()
+            return not live.leaving
 
     def take(self, shard: str, line: Line, others: List[int]) -> None:
         """Gets leave to drop a shard: from its primary, or, if that is this server or nobody, from another one that has all that is here. Who is

@@ -500,6 +500,13 @@ class CountsNoMore(Frame):
         self.streams.look_at = lambda number: None
 
 
+class GivesWhileItLeaves(Frame):
+    """Gives leave while it leaves itself."""
+    def __init__(self, number, peers):
+        super().__init__(number, peers)
+        self.leaves.may_answer = lambda shard, number: True
+
+
 class TellsWhileItLeaves(Frame):
     """Tells what it has while it asks for leave."""
     def __init__(self, number, peers):
@@ -587,6 +594,22 @@ def leave_is_given_up(kind):
     kv_rules.want((b.value(kv_rules.SHARD, "k"), a.streams.push(kv_rules.SHARD, 2, 1)), ("x", Told.HAS))
 
 
+def both_leave(kind):
+    """Two secondaries without a primary are dropped: who has leave gives none, and of two that ask each other one stays."""
+    a, b = kv_rules.pair(kind, Cell.SECONDARY)
+    kv_rules.push(a, "r1", "x")
+    kv_rules.want(kv_rules.answered(a, kv_rules.order(1, Call.CHANGE, role=Role.PRIMARY, new_role=Role.SECONDARY)), True)
+    drop = kv_rules.order(2, Call.DROP)
+    for it in (a, b):
+        kv_rules.want(it.order(kv_rules.SHARD, drop), Answer.BEGIN)
+    b.orders.prepare(kv_rules.SHARD, drop, b.line_of(kv_rules.SHARD, drop))
+    kv_rules.want((a.work(kv_rules.SHARD, drop), a.slot(kv_rules.SHARD).cell), (False, Cell.SECONDARY))
+    b.orders.end(kv_rules.SHARD, drop)
+    for it in (a, b):
+        it.live(kv_rules.SHARD).leaving = "ask"
+    kv_rules.want([it.leaves.may_answer(kv_rules.SHARD, other.number) for it, other in ((a, b), (b, a))], [False, True])
+
+
 def leave_ends_at_a_fence(kind):
     """A leave of before a fence drops nothing behind it."""
     a, b = kv_rules.pair(kind, Cell.SECONDARY)
@@ -603,7 +626,8 @@ SCHEDULES = (
     (ComesBackEmpty, kv_rules.lost_state),
     (KeepsItsNonce, kv_rules.given_up), (AcknowledgesAlone, kv_rules.lost_for_good), (ExecutesWhileForwarding, kv_rules.whole_handover),
     (ExecutesBeforeTheCut, passed_before_the_cut), (LosesWithoutAsking, lost_disk), (None, overtaken), (None, roles_change),
-    (DropsWithoutLeave, dropped_by_leave), (CountsNoMore, leave_is_given_up), (TellsWhileItLeaves, leave_is_given_up), (None, leave_ends_at_a_fence))
+    (DropsWithoutLeave, dropped_by_leave), (CountsNoMore, leave_is_given_up), (TellsWhileItLeaves, leave_is_given_up), (None, leave_ends_at_a_fence),
+    (GivesWhileItLeaves, both_leave))
 
 
 class RulesTest(unittest.TestCase):

@@ -44,6 +44,8 @@ func (it *Server) leaveGiven(line leaveLine) (any, error) {
 		switch {
 		case wrong != nil || !base.Known || base.Fenced || journal != base.Journal || kept.heard() != line.Heard:
 			answer = leftLine{Later: "it knows of another reopening"}
+		case !it.mayAnswer(line):
+			answer = leftLine{Later: "it leaves, too"}
 		case !mayGive(slot, here.Position, line):
 			answer = leftLine{Later: "it does not serve " + line.Shard}
 		case !kept.has(line.Shard, line.Mark):
@@ -57,6 +59,18 @@ func (it *Server) leaveGiven(line leaveLine) (any, error) {
 		return nil
 	})
 	return answer, err
+}
+
+// mayAnswer returns whether this server stays. Of two that ask each other the one with the higher number does, and asks anew.
+func (it *Server) mayAnswer(line leaveLine) (stays bool) {
+	number := it.number()
+	it.with(line.Shard, func(live *live) {
+		if live.leaving != "" && live.leave == "" && number > line.From {
+			live.stay()
+		}
+		stays = live.leaving == ""
+	})
+	return stays
 }
 
 // takeLeave gets leave to drop a shard: from its primary, or, if that is this server or nobody, from another one that has all that is here. Who is
