@@ -64,11 +64,18 @@ TURNED_AWAY = {"Old": "old", "Foreign": "foreign", "Refused": "refused"}
 
 
 class Auditor:
-    """Audits one server after the other, and at once one that turns a present order away."""
+    """Audits one server after the other, and at once one that turns a present order away. What it finds counts only if it still leads then: one that was
+    deposed has an older journal."""
 
-    def __init__(self, alarms: Alarms, ask: Callable[[Line], Awaitable[Line]], slots: Callable[[str], Awaitable[Line | None]]) -> None:
-        self.alarms, self.ask, self.slots = alarms, ask, slots
+    def __init__(self, alarms: Alarms, ask: Callable[[Line], Awaitable[Line]], slots: Callable[[str], Awaitable[Line | None]],
+                 leads: Callable[[], bool]) -> None:
+        self.alarms, self.ask, self.slots, self.leads = alarms, ask, slots, leads
         self.turn = 0
+
+    def give(self, about: str, what: str, text: str) -> None:
+        """Gives an alarm, if it leads."""
+        if self.leads():
+            self.alarms.give(about, what, text)
 
     async def audit_next(self) -> None:
         """Audits the server whose turn it is."""
@@ -86,12 +93,12 @@ class Auditor:
             return None
         for it in told["lacks"]:
             text = f"it leads {it['shard']} with {it['lacks']} writes less than {it['of']} has: acknowledged writes may be lost"
-            self.alarms.give(server, "lacks writes", text)
+            self.give(server, "lacks writes", text)
         audit = (await self.ask({"do": "audit", "server": server, "place": state["place"], "slots": told["slots"]})).get("audit", {})
         said = audit.get("is")
         if said in AUDITS:
             shards = ", ".join(it["shard"] for it in audit.get("slots", []))
-            self.alarms.give(server, said, AUDITS[said] + (f" ({shards})" if shards else ""))
+            self.give(server, said, AUDITS[said] + (f" ({shards})" if shards else ""))
         elif said == "agrees":
             self.alarms.end(server, *AUDITS)
         return said
@@ -104,5 +111,5 @@ class Auditor:
         line = {"do": "failed", "plan": order["plan"], "stream": order["stream"], "number": order["number"], "answer": answer}
         failed = (await self.ask(line)).get("failed")
         if failed is not None:
-            self.alarms.give(order["server"], answer, f"it says {said} to the present order {order['number']} for {order['shard']}: {failed['then']}")
+            self.give(order["server"], answer, f"it says {said} to the present order {order['number']} for {order['shard']}: {failed['then']}")
             await self.audit(order["server"])

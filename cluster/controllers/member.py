@@ -65,7 +65,7 @@ class Member:
         self.fleet = Fleet(settings.cluster, self.owner)
         self.controller: Leader | None = None
         self.alarms = Alarms(settings.log)
-        self.auditor = Auditor(self.alarms, self.ask, self.fleet.slots)
+        self.auditor = Auditor(self.alarms, self.ask, self.fleet.slots, lambda: self.lease.is_leader)
 
     @property
     def lease_waited_for(self) -> float:

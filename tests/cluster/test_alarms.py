@@ -32,7 +32,8 @@ class AuditorTest(unittest.IsolatedAsyncioTestCase):
             return {"slots": [], "lacks": list(lacks)} if server in "ab" else None
 
         self.alarms = Alarms(lambda text: None)
-        return Auditor(self.alarms, session.ask, slots)
+        self.leads = True
+        return Auditor(self.alarms, session.ask, slots, lambda: self.leads)
 
     def given(self):
         """The alarms that stand."""
@@ -57,6 +58,13 @@ class AuditorTest(unittest.IsolatedAsyncioTestCase):
         auditor = self.auditor(Session("ahead"))
         await auditor.look_at(ORDER, "Old: behind 9")
         self.assertEqual(self.given(), [("a", "ahead"), ("a", "old")])
+
+    async def test_one_that_leads_no_longer_gives_no_alarm(self):
+        auditor = self.auditor(Session("ahead"))
+        self.leads = False
+        await auditor.look_at(ORDER, "Old")
+        await auditor.audit_next()
+        self.assertEqual(self.given(), [])
 
     async def test_an_order_that_is_present_no_longer_is_no_alarm(self):
         session = Session(then=None)
