@@ -249,7 +249,7 @@ class Server(Store):
             self.store_base(base)
             self.db.execute("REPLACE INTO reopened VALUES (1, ?)", (told.number if isinstance(told, Settlement) else told.fence,))
             self.questions, self.named = {}, {}
-            for shard, slot in slots.items():
+            for shard, slot in {**{it: agent.VACANT for it in self.copied()}, **slots}.items():
                 self.store_slot(shard, slot)
                 self.put_old_owner(shard, 0)
                 if slot.cell == Cell.ABSENT:

@@ -48,6 +48,10 @@ class Store:
     def shards(self):
         return [shard for (shard,) in self.db.execute("SELECT shard FROM slots ORDER BY shard")]
 
+    def copied(self):
+        """The shards of which there is a copy."""
+        return [shard for (shard,) in self.db.execute("SELECT DISTINCT shard FROM views")]
+
     def used(self):
         return self.db.execute("SELECT COALESCE(SUM(load), 0) FROM slots").fetchone()[0]
 

@@ -424,6 +424,10 @@ class DeletesWhatItBringsBack(Server):
 def only_copy_comes_back(kind):
     a, b, c = returned(kind)
     push(b, "r4", "w")
+    with a.db:
+        a.heed(JOURNAL, 200)
+    want(a.restore(JOURNAL, 200, 200, a.base().nonce, {}), True)
+    want(a.mark(SHARD), None)
     want(a.db.execute("SELECT COUNT(*) FROM writes WHERE text = 'y'").fetchone(), (1,))
 
 
