@@ -112,9 +112,12 @@ def check(fleet, wanted, least=100, alive=None):
         owner = next((name for name, what in cells.items() if what == "primary"), None)
         if entries[shard]["to"] != owner or len(cells) != wanted[shard] or not set(cells) <= set(names):
             wrong.append(f"{shard}: {cells}, listed at {entries[shard]['to']}, wanted {wanted[shard]}")
-        wrong += replica_faults(fleet, shard, cells)
-        wrong += shard_faults(fleet, shard, cells, by_shard[shard])
-        wrong += guard_faults(fleet, shard, owner, names)
+        try:
+            wrong += shard_faults(fleet, shard, cells, by_shard[shard])
+            wrong += replica_faults(fleet, shard, cells)
+            wrong += guard_faults(fleet, shard, owner, names)
+        except psycopg.Error as why:
+            wrong.append(f"{shard}: {type(why).__name__} {why}")
     for attempt in range(100):
         left = leftovers(fleet, names, shards)
         if not left:

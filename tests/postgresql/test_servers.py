@@ -15,7 +15,8 @@ from smplan.agent import Base, Cell, Request, Slot
 from smplan.failure import Failure
 from smplan_pg import adopt, status, streams
 from smplan_pg.database import Database, signed, unsigned, value
-from smplan_pg.records import Cut, Mark, Records
+from smplan_pg.records import Cut, Mark, Peer, Records
+from smplan_pg.server import Server
 
 TABLES = "CREATE SCHEMA {0}; CREATE TABLE {0}.things (id bigserial PRIMARY KEY, word text)"
 VECTORS = Path(servers.ROOT) / "build/agent-vectors.txt"
@@ -368,6 +369,83 @@ class SchemaTest(Case):
         told = [value(DATABASE.row("SELECT sm.copy(%s, %s, 2)", self.shard, it)) for it in (2, 3, 4, 3)]
         self.assertEqual(told, [True, True, False, True])
         POST.query("DELETE FROM sm.copied")
+
+
+class WholeTest(Case):
+    """Fences, settles and restores."""
+
+    def setUp(self):
+        super().setUp()
+        self.adopt()
+        POST.query("DELETE FROM sm.slots")
+        serve(self.shard)
+        POST.query(f"INSERT INTO {self.shard}.sm_views VALUES (0, 0)")
+        POST.query("INSERT INTO sm.servers VALUES (1, 'a', ''), (2, 'b', '') ON CONFLICT DO NOTHING")
+        self.server = Server("a", DATABASE, POST.reach, [])
+        self.server.number, self.server.peers = 1, {1: Peer(1, "a", "", None), 2: Peer(2, "b", "", None)}
+
+    def fence(self, number):
+        return self.server.whole.fence({"journal": "9", "base": number})
+
+    def settle(self, number, nonce, *slots):
+        return self.server.whole.settle({"journal": "9", "base": number, "nonce": nonce, "slots": list(slots)})
+
+    def has(self):
+        return POST.query("SELECT to_regnamespace(%s) IS NOT NULL", (self.shard,)) == [(True,)]
+
+    def slot(self):
+        return POST.query("SELECT cell FROM sm.slots WHERE shard = %s", (self.shard,))
+
+    def test_told_and_settled(self):
+        told = self.fence(100)
+        self.assertEqual([(it["shard"], it["cell"], it["position"]) for it in told["slots"]], [(self.shard, "primary", 0)])
+        self.assertEqual(self.server.whole.tell_base({}), {"base": None})
+        self.assertEqual(self.settle(100, None, {"shard": self.shard, "cell": "primary", "load": 1}), {"done": True})
+        self.assertEqual((self.server.whole.tell_base({}), self.has()), ({"base": 100}, True))
+        self.assertEqual(self.settle(100, None, {"shard": self.shard, "cell": "absent", "load": 1}), {"done": True})
+        self.assertTrue(self.has())
+
+    def test_a_secondary_that_becomes_primary_begins_a_view(self):
+        serve(self.shard, Cell.SECONDARY)
+        self.fence(100)
+        self.settle(100, None, {"shard": self.shard, "cell": "primary", "load": 1})
+        self.assertEqual(POST.query(f"SELECT view, position FROM {self.shard}.sm_views ORDER BY view"), [(0, 0), (100, 0)])
+        self.assertEqual(POST.query("SELECT sealed_view, sealed_position, sealed IS NOT NULL FROM sm.slots WHERE shard = %s", (self.shard,)), [(0, 0, True)])
+        self.assertEqual(POST.query("SELECT pubinsert FROM pg_publication WHERE pubname = sm.stream(%s)", (self.shard,)), [(True,)])
+
+    def test_what_is_absent_at_the_end_is_deleted(self):
+        self.fence(100)
+        self.settle(100, None, {"shard": self.shard, "cell": "absent", "load": 1})
+        self.assertEqual((self.has(), self.slot()), (False, [(1,)]))
+
+    def test_a_copy_that_is_not_whole_is_not_told(self):
+        serve(self.shard, Cell.SECONDARY)
+        POST.query("UPDATE sm.slots SET is_whole = false")
+        self.assertEqual(self.fence(100), {"slots": []})
+
+    def test_what_a_server_brings_back_is_set_aside(self):
+        status.come_back(DATABASE)
+        told = self.fence(100)
+        self.assertEqual(list(told), ["unknown"])
+        self.assertEqual(self.settle(100, told["unknown"]), {"done": True})
+        self.assertEqual((self.has(), POST.query("SELECT shard FROM sm.asides WHERE shard = %s", (self.shard,))), (False, [(self.shard,)]))
+        status.drop(DATABASE, [], True, False)
+        self.assertEqual(POST.query("SELECT count(*) FROM pg_namespace WHERE nspname LIKE 'sm#_aside%' ESCAPE '#'"), [(0,)])
+
+    def test_no_restore_of_what_is_lost(self):
+        status.come_back(DATABASE)
+        nonce = DATABASE.row("SELECT nonce FROM sm.state")["nonce"]
+        line = {"server": "a", "journal": "9", "fence": 0, "base": 0, "nonce": f"{unsigned(nonce):x}", "slots": [
+            {"shard": self.shard, "cell": "primary", "load": 1}, {"shard": "elsewhere", "cell": "primary", "load": 1}]}
+        self.assertIn("no data of elsewhere", self.server.whole.restore(line)["said"])
+        self.assertEqual(self.server.whole.tell_base({}), {"base": None})
+        line["slots"].pop()
+        self.assertEqual(self.server.whole.restore(line), {"done": True})
+        self.assertEqual((self.server.whole.tell_base({}), self.slot()), ({"base": 0}, [(4,)]))
+
+    def test_left_behind(self):
+        self.server.whole.notice({"journal": "9", "fence": 50})
+        self.assertEqual((self.server.whole.tell_base({}), self.slot(), self.has()), ({"base": None}, [], True))
 
 
 class RefusedServerTest(unittest.TestCase):

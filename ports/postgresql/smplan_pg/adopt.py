@@ -53,9 +53,9 @@ def refuse_server(tx: Connection) -> None:
 def install(tx: Connection) -> None:
     """Puts schema sm into a database that has none, as an extension if its files are installed."""
     if value(tx.execute("SELECT to_regclass('sm.state') IS NULL").fetchone()):
-        if tx.execute("SELECT FROM pg_available_extensions WHERE name = 'smplan'").fetchone():
+        if tx.execute("SELECT FROM pg_available_extensions WHERE name = 'smplan'").fetchone() is not None:
             tx.execute("CREATE EXTENSION smplan")
-            if tx.execute("SELECT FROM pg_available_extensions WHERE name = 'smplan_agent'").fetchone():
+            if tx.execute("SELECT FROM pg_available_extensions WHERE name = 'smplan_agent'").fetchone() is not None:
                 tx.execute("CREATE EXTENSION smplan_agent")
         else:
             tx.execute(EXTENSION.read_text(encoding="utf-8"))

@@ -41,7 +41,7 @@ def members_of(c: Connection, shard: str) -> Dict[int, Peer]:
     slot, base = it.slot(shard), it.base()
     if slot.cell != Cell.PRIMARY or not base.known:
         raise Failure(f"{shard} is not served here: name its primary, which the map lists", 1)
-    if c.execute("SELECT FROM sm.copied WHERE shard = %s AND seen > clock_timestamp() - interval '10 s'", (shard,)).fetchone():
+    if c.execute("SELECT FROM sm.copied WHERE shard = %s AND seen > clock_timestamp() - interval '10 s'", (shard,)).fetchone() is not None:
         raise Failure(f"{shard} is copied now: try again once it has moved", 1)
     peers = it.peers()
     return {number: peers[number] for number in it.members(shard)}

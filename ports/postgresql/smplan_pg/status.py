@@ -108,7 +108,7 @@ def remove_all(it: Records) -> None:
     adopted = [row["nspname"] for row in it.tx.execute("SELECT nspname FROM pg_namespace n JOIN pg_class c ON relnamespace = n.oid AND relname = 'sm_counters'")]
     if held or adopted:
         raise Failure(f"there are shards here still: {', '.join(sorted({*held, *adopted}))}", 1)
-    if it.tx.execute("SELECT FROM pg_extension WHERE extname = 'smplan'").fetchone():
+    if it.tx.execute("SELECT FROM pg_extension WHERE extname = 'smplan'").fetchone() is not None:
         it.tx.execute("DROP EXTENSION smplan")
     else:
         it.tx.execute("DROP EVENT TRIGGER sm_ddl; DROP EVENT TRIGGER sm_drop; DROP SCHEMA sm CASCADE")

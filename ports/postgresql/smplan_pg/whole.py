@@ -149,7 +149,7 @@ class Whole:
         """All schemas here that have been a shard of a service."""
         rows = tx.execute("SELECT nspname FROM pg_namespace n JOIN pg_class c ON relnamespace = n.oid AND relname = 'sm_counters' "
                           "WHERE nspname NOT LIKE 'sm\\_aside\\_%'").fetchall()
-        return [it["nspname"] for it in rows if tx.execute(Records(tx).own("SELECT FROM {}.sm_views LIMIT 1", it["nspname"])).fetchone()]
+        return [it["nspname"] for it in rows if tx.execute(Records(tx).own("SELECT FROM {}.sm_views LIMIT 1", it["nspname"])).fetchone() is not None]
 
     def prepare(self, shard: str, before: Slot, after: Slot) -> None:
         """What goes before the transaction: a new primary follows nobody any more, and makes streams for those who may follow it."""
