@@ -1,4 +1,7 @@
 """What befalls servers, at moments that are waited for."""
+import contextlib
+import os
+import signal
 import threading
 import time
 
@@ -118,10 +121,15 @@ class Harm:
         """A server is lost for good, and the service reopened without it."""
         with self.lock:
             self.count("lose")
-            self.say(f"kill -9 {name} for good")
             self.gone.add(name)
+            frozen = self.freeze()
+            self.say(f"kill -9 {name} for good, while {len(frozen)} followers stand still")
+            time.sleep(0.7)
             self.fleet.agents[name].kill()
             self.fleet.posts[name].kill()
+            for pid in frozen:
+                with contextlib.suppress(OSError):
+                    os.kill(pid, signal.SIGCONT)
             begun = time.monotonic()
             for _ in range(20):
                 if self.fleet.command("reopen", "--lost", name, "--yes", "--accept-loss", "--wait", "60").wait() == 0:
@@ -130,6 +138,18 @@ class Harm:
             else:
                 self.wrong.append(f"the service could not be reopened without {name}")
             self.say(f"reopened after {time.monotonic() - begun:.1f} s")
+
+    def freeze(self):
+        """Lets half of the followers stand still for a moment, so that they lack what is written then; returns their processes."""
+        frozen = []
+        for name in self.present():
+            with contextlib.suppress(psycopg.Error):
+                for (pid,) in self.fleet.posts[name].query("SELECT pid FROM pg_stat_subscription WHERE pid IS NOT NULL"):
+                    if self.dice.random() < 0.5:
+                        with contextlib.suppress(OSError):
+                            os.kill(pid, signal.SIGSTOP)
+                            frozen.append(pid)
+        return frozen
 
     def replace(self, name):
         """A server that was lost comes back with an empty disk."""

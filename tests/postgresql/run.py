@@ -57,7 +57,7 @@ class Run:
             order = names[n % len(names):] + names[:n % len(names)]
             if n % len(names) == 0 or n % 3 == 0:
                 order = [names[0], *self.dice.sample(names[1:], len(names) - 1)]
-            cells[f"s{n}"] = order[:3 if n % 5 == 4 and len(names) > 3 else 2]
+            cells[f"s{n}"] = order[:3 if n % 3 == 2 and len(names) > 3 else 2]
 
         def fill(name):
             database = Database(self.fleet.posts[name].reach)

@@ -113,7 +113,7 @@ QUIET = ["--harm"]
 BUGS = {
     "no_lock": (no_lock, QUIET + ["--writers", "4", "--rest", "0.005"]), "identities": (identities, QUIET), "no_place": (no_place, ["--harm", "seal", "--rest", "0.005"]),
     "no_followers": (no_followers, QUIET + ["--lose", "1", "--writers", "4", "--rest", "0.001"]), "sequences": (sequences, QUIET), "ddl": (ddl, ["--harm", "ddl"]),
-    "guard": (guard, QUIET), "mark": (mark, ["--harm", "away", "--lose", "1"]), "early": (early, QUIET + ["--rows", "40000"]), "seal_early": (seal_early, QUIET + ["--rest", "0.002"]),
+    "guard": (guard, QUIET), "mark": (mark, QUIET + ["--servers", "4", "--shards", "6", "--lose", "1"]), "early": (early, QUIET + ["--rows", "40000"]), "seal_early": (seal_early, QUIET + ["--rest", "0.002"]),
     "slot_first": (slot_first, ["--harm", "copy", "--rows", "40000"]),
 }
 
