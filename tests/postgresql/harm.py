@@ -122,14 +122,14 @@ class Harm:
         with self.lock:
             self.count("lose")
             self.gone.add(name)
-            frozen = self.freeze()
-            self.say(f"kill -9 {name} for good, while {len(frozen)} followers stand still")
+            frozen = self.freeze(name)
+            self.say(f"kill -9 {name} for good, while {len(frozen)} of its streams stand still")
             time.sleep(0.7)
             self.fleet.agents[name].kill()
             self.fleet.posts[name].kill()
             for pid in frozen:
                 with contextlib.suppress(OSError):
-                    os.kill(pid, signal.SIGCONT)
+                    os.kill(pid, signal.SIGKILL)
             begun = time.monotonic()
             for _ in range(20):
                 if self.fleet.command("reopen", "--lost", name, "--yes", "--accept-loss", "--wait", "60").wait() == 0:
@@ -139,16 +139,15 @@ class Harm:
                 self.wrong.append(f"the service could not be reopened without {name}")
             self.say(f"reopened after {time.monotonic() - begun:.1f} s")
 
-    def freeze(self):
-        """Lets half of the followers stand still for a moment, so that they lack what is written then; returns their processes."""
+    def freeze(self, name):
+        """Lets half of the streams of a server stand still, so that their followers lack what is written then; returns their processes."""
         frozen = []
-        for name in self.present():
-            with contextlib.suppress(psycopg.Error):
-                for (pid,) in self.fleet.posts[name].query("SELECT pid FROM pg_stat_subscription WHERE pid IS NOT NULL"):
-                    if self.dice.random() < 0.5:
-                        with contextlib.suppress(OSError):
-                            os.kill(pid, signal.SIGSTOP)
-                            frozen.append(pid)
+        with contextlib.suppress(psycopg.Error):
+            for (pid,) in self.fleet.posts[name].query("SELECT pid FROM pg_stat_replication"):
+                if self.dice.random() < 0.5:
+                    with contextlib.suppress(OSError):
+                        os.kill(pid, signal.SIGSTOP)
+                        frozen.append(pid)
         return frozen
 
     def replace(self, name):
