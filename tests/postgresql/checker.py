@@ -30,6 +30,10 @@ def shard_faults(fleet, shard, cells, rows):
     history = Counter(it for (it,) in post.query(f'SELECT request FROM "{shard}".history'))
     torn = post.query(f'''SELECT count(*) FROM "{shard}".accounts a LEFT JOIN (SELECT account, sum(delta) AS delta FROM "{shard}".history
         GROUP BY account) h ON h.account = a.id WHERE a.balance <> coalesce(h.delta, 0)''')[0][0]
+    rows_wanted = json.loads((fleet.folder / "setup.json").read_text())["rows"]
+    rows_found = post.query(f'SELECT count(*) FROM "{shard}".accounts')[0][0]
+    if rows_found != rows_wanted:
+        wrong.append(f"{shard}: {rows_found} accounts of {rows_wanted}")
     ids = post.query(f'SELECT count(*), count(DISTINCT id) FROM "{shard}".history')[0]
     wrong += [f"{it[1]} was acknowledged and is lost" for it in rows if it[1] not in done or it[1] not in history]
     wrong += [f"{it[1]} was told {it[4]}, stored is {done[it[1]]}" for it in rows if it[1] in done and done[it[1]] != json.dumps(it[4])]

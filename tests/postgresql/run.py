@@ -116,7 +116,7 @@ class Run:
             words = ["drain", name, "--batch", "2", "--pause", "0.2", "--stop", "20"] + (["--prefer-secondary"] if self.dice.random() < self.told.roles else [])
             self.say(*words[:2], *(words[8:]))
             at = time.time()
-            status = self.command(*words, seconds=max(5.0, until - time.time() + 10))
+            status = self.command(*words, seconds=max(5.0, min(until - time.time() + 10, self.told.seconds / 3)))
             self.say(f"drain of {name} ended with {status}")
             self.spans.setdefault("drains", []).append((at, time.time()))
 

@@ -156,7 +156,7 @@ def main():
     parser.add_argument("--copies", default="2")
     given = parser.parse_args()
     sys.argv = ["run.py", given.folder, "--shards", str(given.shards), "--rows", str(given.rows), "--rest", str(given.rest), "--harm", "--seconds", "40", "--seed", "1",
-                "--option", f"--copies={given.copies}"]
+                f"--option=--copies={given.copies}"]
     story = Story(runs.arguments())
     try:
         wrong = story.run()

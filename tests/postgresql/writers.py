@@ -57,7 +57,7 @@ class Writer:
             except NotServed:
                 log([self.shard, request, account, delta, "not served", begun, time.time()])
                 continue
-            except psycopg.Error as why:
+            except Exception as why:  # pylint: disable=broad-exception-caught
                 log([self.shard, request, account, delta, f"fault {type(why).__name__} {why}", begun, time.time()])
                 continue
             log([self.shard, request, account, delta, reply, begun, time.time()])
