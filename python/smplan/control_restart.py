@@ -159,6 +159,18 @@ class Restarts:
 
     # Leaders.
 
+    def open_state(self) -> Line:
+        """What is recorded, once no reopening is under way."""
+        found: Line = {}
+
+        def hindrance() -> str:
+            nonlocal found
+            found = self.controllers.state()
+            return "" if found.get("is") == "open" else "a reopening is under way"
+
+        self.wait_while(hindrance)
+        return found
+
     def leads(self, server: str) -> List[str]:
         """The shards that nobody would serve if a server went down now; none if it is down."""
         state = self.controllers.state()
@@ -181,10 +193,7 @@ class Restarts:
 
     def need_successors(self, server: str) -> str:
         """Why others cannot lead yet what a server leads: before that another server has to be up. Fails if they cannot at all."""
-        state = self.controllers.state()
-        if state.get("is") != "open":
-            return "a reopening is under way"
-        fleet = fleet_of_state(state, self.known)
+        fleet = fleet_of_state(self.open_state(), self.known)
         wanted = self.demotion(server)(fleet)
         left = wanted.left + Reach(fleet, wanted.target, self.limits).left
         if left and not any(fleet.is_down):
@@ -215,8 +224,9 @@ def restart_as_it_is(told: argparse.Namespace, restarts: Restarts, led: List[str
     return 0
 
 
-def restart_without_primaries(told: argparse.Namespace, restarts: Restarts, state: Line) -> int:
+def restart_without_primaries(told: argparse.Namespace, restarts: Restarts) -> int:
     """Restarts the server once others lead, and gives its leaders back."""
+    state = restarts.open_state()
     led = restarts.leads(told.server)
     if led:
         restarts.need_successors(told.server)
@@ -248,7 +258,7 @@ def restart(told: argparse.Namespace) -> int:
     if not told.no_primaries:
         return restart_as_it_is(told, restarts, unserved(state, told.server))
     restarts.known = known_document(controllers, None)
-    return restart_without_primaries(told, restarts, state)
+    return restart_without_primaries(told, restarts)
 
 
 def add_options_of_restarts(parser: argparse.ArgumentParser) -> None:

@@ -288,6 +288,13 @@ class Restarting(unittest.TestCase):
         with self.assertRaisesRegex(Failure, "s0 keeps its primary at v0: its replica at v1 is down"):
             self.restarts(service, wait=2.0).restart("v0", "r8", ["true"])
 
+    def test_it_waits_for_the_end_of_a_reopening(self):
+        service = self.service(fleet_document())
+        service.do({"do": "reopen", "document": fleet_document(), "lost": [], "why": "test"})
+        with self.assertRaisesRegex(Failure, "a reopening is under way"):
+            self.restarts(service, wait=2.0).restart("v0", "r7", ["true"])
+        self.assertEqual((["waits: a reopening is under way"], [1.0, 1.0]), (self.told, service.rests))
+
     def test_leaders_that_others_moved_stay_where_they_are(self):
         service = self.service(fleet_document())
         target = demote(self.fleet, {3}).target
