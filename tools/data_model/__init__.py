@@ -8,5 +8,6 @@ each rule.
 smpland has not the lines that these rules need yet (docs/DATA.md): `driving_model` is what it does today.
 
 What it leaves out: more than five servers; a disk that goes back and does not know it; a server that was given up and
-comes back with its slots; forged messages. Whom a follower finds as the one that serves is read off the world.
+comes back with its slots; a controller that goes on from an older copy of its journal; forged messages. Whom a follower
+finds as the one that serves is read off the world.
 """
