@@ -45,11 +45,15 @@ class Story(runs.Run):
 
     def moves(self, _):
         self.step("pgbench on s0 beside the other clients", self.pgbench)
-        self.step("drain a", self.command, "drain", "a", "--batch", "2", "--pause", "0.2")
+        self.step("drain a", self.patient, "drain", "a", "--batch", "2", "--pause", "0.2")
         self.step("restart b, by permit", self.restart, "b")
         self.step("drain c, and kill -9 the server that has just handed a shard over", self.drain_and_kill, "c")
         self.step("kill -9 d for good, and reopen without it", self.lose, "d")
-        self.step("repair", self.command, "repair", "--yes")
+        self.step("repair", self.patient, "repair", "--yes")
+
+    def patient(self, *words):
+        """A command that may take long on a busy machine."""
+        return self.command(*words, seconds=300.0)
 
     def pgbench(self):
         """Transactions a second with everything, and of plain tables beside."""
@@ -69,11 +73,11 @@ class Story(runs.Run):
     def restart(self, name):
         """A restart of PostgreSQL as an operator makes it: once it is allowed."""
         asked = self.fleet.folder / "restart"
-        command = ["restart", name, "--by", "story", "--wait", "60", "--", "sh", "-c", f"touch {asked}; while [ -e {asked} ]; do sleep 0.05; done"]
+        command = ["restart", name, "--by", "story", "--wait", "300", "--", "sh", "-c", f"touch {asked}; while [ -e {asked} ]; do sleep 0.05; done"]
         told = []
-        waiting = threading.Thread(target=lambda: told.append(self.command(*command)))
+        waiting = threading.Thread(target=lambda: told.append(self.patient(*command)))
         waiting.start()
-        self.fleet.wait_for("the permit", asked.exists)
+        self.fleet.wait_for("the permit", asked.exists, 300.0)
         self.say(f"   {name} may restart")
         self.fleet.posts[name].stop(signal.SIGINT)
         self.fleet.posts[name].start()
@@ -85,9 +89,9 @@ class Story(runs.Run):
     def drain_and_kill(self, name):
         """The old owner is killed right behind its cut, and comes back."""
         told = []
-        waiting = threading.Thread(target=lambda: told.append(self.command("drain", name, "--batch", "2", "--pause", "0.2")))
+        waiting = threading.Thread(target=lambda: told.append(self.patient("drain", name, "--batch", "2", "--pause", "0.2")))
         waiting.start()
-        until = time.monotonic() + 30
+        until = time.monotonic() + 120
         while time.monotonic() < until and waiting.is_alive():
             try:
                 if self.fleet.posts[name].query("SELECT EXISTS (SELECT FROM sm.slots WHERE cell = 5)")[0][0]:
@@ -160,6 +164,8 @@ def main():
     story = Story(runs.arguments())
     try:
         wrong = story.run()
+    except TimeoutError as why:
+        wrong = [str(why)]
     finally:
         (story.fleet.folder / "stop").touch()
         story.fleet.close()
