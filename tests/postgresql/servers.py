@@ -161,7 +161,7 @@ class Fleet:
 
     def command(self, *words, **rest):
         """Begins a command of an operator."""
-        words = [str(ROOT / "scripts/smplan-control"), *words, "--controller", f"http://127.0.0.1:{self.page}"]
+        words = [str(ROOT / "scripts/smplan-control"), words[0], "--controller", f"http://127.0.0.1:{self.page}", *words[1:]]
         with (self.folder / "commands.log").open("a") as log:
             return subprocess.Popen(words, stdout=log, stderr=log, **rest)
 
