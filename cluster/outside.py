@@ -14,6 +14,8 @@ from cluster.launch.directory import add_directory, new_directory
 from cluster.launch.report import listed, trust_lines
 from cluster.run import Result, Run, Settings, add_load, add_session, shape_of
 
+# How many violations are shown.
+SHOWN = 3
 # For how many seconds the end of plans is waited for, and the operator tries something: some of them never end.
 ENDING, PATIENCE = 8.0, 25.0
 
@@ -45,7 +47,8 @@ def run_once(part: str, told: argparse.Namespace) -> Told:
     finally:
         shutil.rmtree(directory, ignore_errors=True)
     lost = {it: count for it, count in result.counts.items() if it == "lines of the journal lost"}
-    print("\n".join([*trust_lines(result.verdict.faults, result.verdict.counts), *([f"             {listed(lost)}"] if lost else [])]), flush=True)
+    lines = [*trust_lines(result.verdict.faults, result.verdict.counts), *([f"             {listed(lost)}"] if lost else [])]
+    print("\n".join([*lines, *(f"  {it}"[:200] for it in result.verdict.faults[:SHOWN])]), flush=True)
     return Told.of(result)
 
 

@@ -184,7 +184,10 @@ class Checker:
         self.begun[(host.name, event["shard"], event["number"])] = self.shards[event["shard"]].data.length
 
     def on_commit(self, host: Host, event: dict) -> None:
-        """An order has its effect."""
+        """An order has its effect. At a server that was given up, and does not know, that is nobody's concern as long as it serves nobody."""
+        if host.is_lost and host.base < self.epoch:
+            self.counts["orders done at servers that were given up"] += 1
+            return
         shard, at, number = event["shard"], host.shards[event["shard"]], event["number"]
         key = (number // STEP, event["plan"], event["stream"], number)
         self.commits[key] += 1

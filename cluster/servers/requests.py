@@ -178,7 +178,9 @@ class Requests:
         return await self.write(shard, identity, command, how, encode_reply(reply))
 
     async def write(self, shard: Shard, identity: str | None, command: tuple[str, ...], how: Request, reply: bytes) -> bytes:
-        """Executes a write with all that belongs to it in one transaction, and sends it to all who follow."""
+        """Executes a write with all that belongs to it in one transaction, and sends it to all who follow. Its lease may have ended since it came."""
+        if self.may_not_serve():
+            raise ErrorReply(f"TRYAGAIN {shard.name}")
         position = shard.position + 1
         entry = Entry(position, self.kept(identity), command, reply.decode("latin-1"), chained(shard.chain, identity, command))
         commands = self.store.entry_commands(shard.name, entry) + self.store.trim_commands(shard.name, position)
