@@ -73,7 +73,7 @@ class Story(runs.Run):
     def restart(self, name):
         """A restart of PostgreSQL as an operator makes it: once it is allowed."""
         asked = self.fleet.folder / "restart"
-        command = ["restart", name, "--by", "story", "--wait", "300", "--", "sh", "-c", f"touch {asked}; while [ -e {asked} ]; do sleep 0.05; done"]
+        command = ["restart", name, "--by", "story", "--yes", "--wait", "300", "--", "sh", "-c", f"touch {asked}; while [ -e {asked} ]; do sleep 0.05; done"]
         told = []
         waiting = threading.Thread(target=lambda: told.append(self.patient(*command)))
         waiting.start()
