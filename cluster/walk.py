@@ -133,6 +133,9 @@ class Walk(Run):
         async with self.chapter("servers are restarted as they are", leads_when_down=True) as it:
             for name in self.story.alive:
                 await self.control(it, "restart", name, "--by", f"plain-{name}", "--yes", "--", *self.restarting, name)
+        async with self.chapter("a server is restarted once others lead its shards") as it:
+            name = self.story.alive[0]
+            await self.control(it, "restart", name, "--no-primaries", "--by", "bare", "--yes", "--", *self.restarting, name)
         async with self.chapter("servers are restarted once others lead") as it:
             await self.control(it, "rolling-restart", "--by", "turn", *known, "--", *self.restarting, "{}")
         async with self.chapter("servers are restarted by handovers", changes_roles=False) as it:
