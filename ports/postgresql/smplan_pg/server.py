@@ -213,7 +213,7 @@ class Server:
         for work, seconds in ((self.look, 2.0), (self.ask_for_slots, 0.5), (self.following.watch, 0.2), (self.following.listen, 0.5),
                               (self.keeping.leave_out_the_dead, 1.0), (self.keeping.tidy, 2.0), (self.keeping.tidy_sources, 3.0), (self.keep_own, 1.0)):
             threading.Thread(target=self.repeat, args=(work, seconds), daemon=True).start()
-        listen(self.http or self.peers[self.number].url, self.routes, self.token)
+        listen(self.http or self.peers[self.number].url, self.routes, self.token, tls=None)
 
     def keep_own(self) -> None:
         """Takes the database again after its restart, and begins without work then."""
