@@ -248,9 +248,7 @@ class Generator:
                     reply = await router.call(server, ("LRANGE", key, "0", "-1"))
                 self.tell(line | {"reply": [it.decode() for it in reply]})
                 self.scouted += 1
-            except (OSError, TimeoutError):
-                router.drop(server)
-            except ErrorReply:
+            except (OSError, TimeoutError, ErrorReply):
                 pass
             await asyncio.sleep(dice.random() * 2 * max(0.02, self.load.pause))
         router.close()

@@ -5,6 +5,7 @@ from __future__ import annotations
 import asyncio
 import random
 import time
+from collections import defaultdict
 from dataclasses import dataclass
 
 from ..resp import ErrorReply, Redis, Reply
@@ -31,7 +32,8 @@ class Router:
 
     def __init__(self, cluster: Cluster, published: PublishedMap, dice: random.Random, stray: float = 0.0) -> None:
         self.cluster, self.published, self.dice, self.stray = cluster, published, dice, stray
-        self.connections: dict[str, Redis] = {}
+        # The connections at rest: each carries one request at a time, and is closed if that has no reply.
+        self.idle: dict[str, list[Redis]] = defaultdict(list)
         self.figures = Figures()
 
     async def request(self, shard: str, identity: str | None, *command: str, seconds: float = 10.0, attempt: float = 3.0) -> Reply:
@@ -51,7 +53,6 @@ class Router:
                     return await self.call(server, parts)
             except (OSError, TimeoutError):
                 self.figures.lost += 1
-                self.drop(server)
             except ErrorReply as error:
                 if error.kind not in AGAIN:
                     raise
@@ -70,19 +71,28 @@ class Router:
 
     async def call(self, server: str, parts: tuple[str, ...]) -> Reply:
         """One attempt at one server."""
-        connection = self.connections.get(server)
-        if connection is None or connection.is_closed:
-            address = self.cluster.servers[server].clients
-            connection = self.connections[server] = await Redis.open_port(address.host, address.port)
-        return await connection.call(*parts)
-
-    def drop(self, server: str) -> None:
-        """Ends a connection on which a reply is missing."""
-        connection = self.connections.pop(server, None)
-        if connection is not None:
+        connection = await self.connection_to(server)
+        try:
+            reply = await connection.call(*parts)
+        except ErrorReply:
+            self.idle[server].append(connection)
+            raise
+        except BaseException:
             connection.close()
+            raise
+        self.idle[server].append(connection)
+        return reply
+
+    async def connection_to(self, server: str) -> Redis:
+        """A connection to a server that carries nothing now."""
+        idle, address = self.idle[server], self.cluster.servers[server].clients
+        while idle:
+            connection = idle.pop()
+            if not connection.is_closed:
+                return connection
+        return await Redis.open_port(address.host, address.port)
 
     def close(self) -> None:
-        """Ends all connections."""
-        for server in list(self.connections):
-            self.drop(server)
+        """Ends all connections at rest."""
+        for connection in (it for idle in self.idle.values() for it in idle):
+            connection.close()
