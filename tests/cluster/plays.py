@@ -22,6 +22,8 @@ from cluster.resp import Redis
 from cluster.servers.history import history_of
 from cluster.wire import Failed
 
+# How often a play is played until a bug does harm in it: some need that one of two things comes first.
+TRIES = 3
 CELLS = {"s": {"a": "primary", "c": "secondary"}, "t": {"b": "primary", "a": "secondary"}}
 LOAD = Load(("s", "t"), clients=6)
 
@@ -159,7 +161,7 @@ async def late_seal(it: Scripted) -> None:
     await it.start("a")
     await it.send(orders[1])
     await push(it, "three")
-    await asyncio.sleep(3)
+    await asyncio.sleep(7)
     for order in orders[2:]:
         await it.send(order)
         it.publish({"s": "b"})
@@ -232,7 +234,7 @@ PLAYS = {
     "settle-twice": Play(late_settle),
     "add-without-cut": Play(early_add, lag=1.0),
     "fence-while-passed": Play(fence_amid_passing, Load(("s", "t"), clients=16), think=0.7),
-    "cut-unheeded": Play(late_seal, Load(("s", "t"), clients=0, comparers=0), lag=2.0),
+    "cut-unheeded": Play(late_seal, Load(("s", "t"), clients=0, comparers=0), lag=6.0),
     "change-while-writing": Play(change, think=0.1),
 }
 
@@ -287,6 +289,9 @@ def main() -> int:
         for bug in [None] * told.runs + ([] if told.sound else [name] * told.runs):
             began = time.monotonic()
             servers, clients, figures = asyncio.run(played(name, bug))
+            for _ in range(TRIES - 1 if bug else 0):
+                if not servers and not clients:
+                    servers, clients, figures = asyncio.run(played(name, bug))
             is_wrong = not (servers or clients) if bug else bool(servers or clients or figures["end"] or figures["failures"])
             wrong += is_wrong
             how, end = "with the bug" if bug else "sound", "   WRONG" if is_wrong else ""
