@@ -152,7 +152,7 @@ async def early_add(it: Scripted) -> None:
 
 async def late_seal(it: Scripted) -> None:
     """The old owner is killed, and hands over as soon as it is back, before the new one follows it again: the cut
-    comes with a request."""
+    comes with a request. Then the new owner is lost."""
     orders = it.handover("s", "a", "b", ["a", "c"])
     await push(it, "one")
     await it.send(orders[0])
@@ -161,10 +161,8 @@ async def late_seal(it: Scripted) -> None:
     await it.start("a")
     await it.send(orders[1])
     await push(it, "three")
-    await asyncio.sleep(7)
-    for order in orders[2:]:
-        await it.send(order)
-        it.publish({"s": "b"})
+    it.kill("b")
+    await it.settle(await it.fence("a", "c"), {"s": {"a": "primary", "c": "secondary"}, "t": {"a": "primary"}})
     await push(it, "four")
 
 
@@ -234,7 +232,7 @@ PLAYS = {
     "settle-twice": Play(late_settle),
     "add-without-cut": Play(early_add, lag=1.0),
     "fence-while-passed": Play(fence_amid_passing, Load(("s", "t"), clients=16), think=0.7),
-    "cut-unheeded": Play(late_seal, Load(("s", "t"), clients=0, comparers=0), lag=6.0),
+    "cut-unheeded": Play(late_seal, Load(("s", "t"), clients=0, comparers=0), lag=3.0),
     "change-while-writing": Play(change, think=0.1),
 }
 
@@ -260,7 +258,8 @@ async def played(name: str, bug: str | None) -> tuple[list[str], list[str], dict
                 told = repr(error)
             stopping.set()
             await running
-        await asyncio.sleep(0.6)
+        # (who follows late may connect late, too, before it takes what it lacks)
+        await asyncio.sleep(0.6 + 2.5 * play.lag)
         for server in list(scripted.processes):
             scripted.kill(server)
         return await server_faults(scripted, {"s": 2, "t": 2}), check_clients([str(path)])[0], {**generator.figures(), "end": told}
