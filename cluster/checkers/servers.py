@@ -153,8 +153,8 @@ class Checker:
     def set_slots(self, host: Host, event: dict) -> None:
         """It has the slots that were brought."""
         host.base, host.is_known, host.is_fenced = event["base"], True, False
-        for other in self.hosts.values():  # (who was not fenced for this epoch was given up, or carried over)
-            if event["kind"] == "settle" and other.base < event["base"]:
+        for other in self.hosts.values():  # (who was not fenced for this epoch was given up, or is carried over as it is: down under a permit)
+            if event["kind"] == "settle" and other.base < event["base"] and (other.is_lost or not other.is_down):
                 self.clear(other)
         for name in set(host.shards) | set(event["slots"]):
             at, brought = host.shards[name], event["slots"].get(name)

@@ -189,10 +189,14 @@ def settled(it: History, a: dict, b: dict) -> History:
     return it.add("a", "settle", base=2 * STEP, slots=a, nonce=None).add("b", "settle", base=2 * STEP, slots=b, nonce=None)
 
 
+def reopened_without_a(it: History, state: str = "secondary") -> History:
+    """A reopening in which b alone is fenced and settled."""
+    return it.add("b", "fence", base=2 * STEP, slots={}, at_work=0, nonce="mb").add("b", "settle", base=2 * STEP, slots={"s": [state, 0]}, nonce=None)
+
+
 def given_up(it: History) -> History:
     """Server a is given up, and b takes over."""
-    return with_secondary(it).add("a", "lost").add("b", "fence", base=2 * STEP, slots={}, at_work=0, nonce="mb").add(
-        "b", "settle", base=2 * STEP, slots={"s": ["primary", 0]}, nonce=None)
+    return reopened_without_a(with_secondary(it).add("a", "lost"), "primary")
 
 
 def started(it: History, nonce: str) -> History:
@@ -286,11 +290,14 @@ RIGHT_SERVERS = {
     "loads": lambda it: with_secondary(it).found(loads={"s": 1}),
     "a write without a member that is long gone": lambda it: it.write("a").add("a", "alone", shard="s", position=1, without={"b": 3.2}).found(),
     "a replica that has all": lambda it: with_secondary(it).write("a", identity="x").found(data=replicas(1, 1)),
+    "a primary that is carried over a reopening, and serves before it hears of that": lambda it: reopened_without_a(
+        with_secondary(it).add("a", "permit", down=True)).write("a").found(),
     "an order at a server that was given up": lambda it: given_up(it).order("a", "prepare_drop", "forwarding", number=STEP + 9).found(),
     "a restore": lambda it: it.add("b", "forget", before=STEP, nonce="k").add("b", "restore", base=STEP + 1, slots={}, nonce="k").found(),
 }
 WRONG_SERVERS = {
     "executed by a server that is absent": lambda it: given_up(it).write("a").found(),
+    "a request is executed by a server that is absent": lambda it: given_up(it.add("a", "permit", down=True)).write("a").found(),
     "has its effect again": lambda it: it.handover().order("b", "drop", "absent", number=STEP + 3).found(),
     "has its effect behind": lambda it: it.handover().order("b", "drop", "absent", number=STEP + 2).found(),
     "fenced or Unknown": lambda it: fenced(it).order("b", "prepare_add", "prepared", number=2 * STEP + 1).found(),
