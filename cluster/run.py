@@ -18,6 +18,7 @@ from dataclasses import dataclass, field
 from pathlib import Path
 
 from cluster.controllers.etcd import EtcdFault
+from cluster.faults.dice import KEPT
 from cluster.faults.handovers import HandoverStory
 from cluster.faults.parts import EVERY, OUTSIDE, drawn, evenly
 from cluster.faults.reopenings import NotOpened
@@ -233,14 +234,14 @@ class Run:
                   f"{len(told.get('orders', []))} orders outstanding, some {size // 110} requests", end="", flush=True)
             await asyncio.sleep(0.5)
 
-    def judge_service(self, asked: list[dict], gaps: dict[str, float]) -> None:
+    def judge_service(self, asked: list[dict], gaps: dict[str, float], standstill: float) -> None:
         """Who is slow is a violation, too: on a machine with other work only a shard without service for long, as what a request waits at rest
-        tells."""
+        tells, and for longer than the proxies could not run."""
         assert self.verdict is not None
         failures = unacknowledged(asked, self.story.forsaken)
         if failures and not self.settings.is_busy:
             self.verdict.faults.append(f"{failures} requests were not acknowledged within 10 s")
-        longest = min(OUTAGE_IF_BUSY, max(OUTAGE, OUTAGE * self.wait_at_rest(asked) / USUAL)) if self.settings.is_busy else OUTAGE
+        longest = min(OUTAGE_IF_BUSY, max(OUTAGE, OUTAGE * self.wait_at_rest(asked) / USUAL)) + standstill if self.settings.is_busy else OUTAGE
         self.verdict.faults += [f"{shard} was without service for {gap:.0f} s" for shard, gap in gaps.items() if gap > longest and shard not in self.story.forsaken]
 
     def wait_at_rest(self, asked: list[dict]) -> float:
@@ -254,12 +255,12 @@ class Run:
         where = self.settings.directory
         log = (where / "logs" / "clients.log").read_text().splitlines()
         clients = json.loads(next((it for it in log if it.startswith("{")), "{}"))
-        counts = Counter(faults) + self.story.counts + self.mover.counts
         asked = lines_of(where / "clients.jsonl")
         by_span = {name: rate_of(asked, spans) for name, spans in self.spans.items() if spans}
         histories = lines_of(where / "histories.jsonl")
+        self.judge_service(asked, gaps := without_service(asked), faults.pop(KEPT, 0) / 1000)
+        counts = Counter(faults) + self.story.counts + self.mover.counts
         situations = situations_of(histories, self.verdict.replies, self.verdict.counts + self.story.counts)
-        self.judge_service(asked, gaps := without_service(asked))
         orders = self.verdict.counts["orders"] / self.moved_for if self.moved_for else 0.0
         return Result(self.verdict, clients, counts, self.story.failovers, request_waits(asked), handovers_of(histories, asked), situations, by_span, orders,
                       order_waits(histories, self.story.deaths), copied(histories), gaps)

@@ -4,13 +4,14 @@ from __future__ import annotations
 import argparse
 import asyncio
 import json
+import time
 from collections import Counter
 from dataclasses import replace
 from pathlib import Path
 
 from cluster.wire import Address, Failed, Message, listen
 
-from .dice import Dice, Rates
+from .dice import KEPT, Dice, Rates
 from .proxies import Link, open_proxy, send_by_itself
 
 
@@ -28,9 +29,23 @@ def release(link: Link) -> None:
     link.copies = None
 
 
+# How long the proxies rest between two looks, and by how much longer this is if other work on the machine keeps them from running, in seconds.
+REST, LATE = 0.1, 0.5
+
+
+async def count_standstill(counts: Counter[str]) -> None:
+    """Counts for how long the proxies could not run: nothing got through then, by no fault of the cluster."""
+    while True:
+        begun = time.monotonic()
+        await asyncio.sleep(REST)
+        late = time.monotonic() - begun - REST
+        counts[KEPT] += int(1000 * late) if late > LATE else 0
+
+
 async def run(told: dict) -> None:
     """Opens the proxies, and waits for orders."""
     counts: Counter[str] = Counter()
+    counting = asyncio.create_task(count_standstill(counts))
     links = []
     for it in told["links"]:
         rates = Rates(**told["rates"].get(it["name"].partition(" ")[0], {}))
@@ -63,7 +78,7 @@ async def run(told: dict) -> None:
 
     await listen(Address("127.0.0.1", told["control"]), obey)
     print("ready", flush=True)
-    await asyncio.Event().wait()
+    await counting
 
 
 if __name__ == "__main__":
