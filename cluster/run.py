@@ -45,10 +45,9 @@ REST = 0.08
 # What begins only when everything else of the story has ended: without a server that is lost for good, no other one may be restarted.
 LAST = ("lose_server",)
 JOURNAL_BITS = 64
-# For how many seconds a shard may be without service, if no server that had it was given up; on a busy machine longer by as much as a request waits
-# longer at
-# rest than it usually does, up to the second.
-OUTAGE, OUTAGE_IF_BUSY, USUAL = 12.0, 60.0, 0.03
+# For how many seconds a shard may be without service, if no server that had it was given up; on a busy machine from the second up to the third, by as
+# much as a request waits longer at rest than it usually does.
+OUTAGE, LEAST_IF_BUSY, OUTAGE_IF_BUSY, USUAL = 12.0, 30.0, 60.0, 0.03
 # The exit status of a run that a slow machine kept from its end.
 NO_VERDICT = 4
 # The session in Python, which decides if there is no built one, and is compared with the one that decides.
@@ -241,7 +240,9 @@ class Run:
         failures = unacknowledged(asked, self.story.forsaken)
         if failures and not self.settings.is_busy:
             self.verdict.faults.append(f"{failures} requests were not acknowledged within 10 s")
-        longest = min(OUTAGE_IF_BUSY, max(OUTAGE, OUTAGE * self.wait_at_rest(asked) / USUAL)) + standstill if self.settings.is_busy else OUTAGE
+        longest = OUTAGE
+        if self.settings.is_busy:
+            longest = min(OUTAGE_IF_BUSY, max(LEAST_IF_BUSY, OUTAGE * self.wait_at_rest(asked) / USUAL)) + standstill
         self.verdict.faults += [f"{shard} was without service for {gap:.0f} s" for shard, gap in gaps.items() if gap > longest and shard not in self.story.forsaken]
 
     def wait_at_rest(self, asked: list[dict]) -> float:
