@@ -8,7 +8,7 @@ from dataclasses import dataclass, field
 
 from smplan.control import Line
 
-# After so many seconds an alarm that was not given again is over.
+# The seconds after which an alarm ends that nobody has given again.
 OVER = 15.0
 
 

@@ -7,7 +7,7 @@ from dataclasses import dataclass, field
 
 from smplan.control import Line
 
-# How many times as fast as one clock another one may run. The wait of a controller is so many times as long as the lease of a server, and a moment
+# The greatest ratio of the speeds of two clocks. A controller waits for the lease of a server times this ratio, and a moment
 # longer.
 CLOCKS, MOMENT = 1.1, 0.2
 
@@ -21,7 +21,7 @@ class GivenUp:
     fenced: set[str] | None = None
     # When this process heard of the reopening.
     since: float = 0.0
-    # Those of which an operator has said that they are off.
+    # The servers that an operator has called off.
     off: set[str] = field(default_factory=set)
 
     def heed(self, reply: Line) -> None:

@@ -71,7 +71,7 @@ class LossStory(ReopeningStory):
 
     async def kill_at_rest(self, server: str, seconds: float = 4.0) -> bool:
         """Kills a server once nobody else lacks a write that it executed, and lets it acknowledge none meanwhile: a secondary that it has ceased to
-        wait for would not have it. Tells whether it came to that."""
+        wait for would not have it. The result is whether this happened."""
         async with self.cut(f"client clients {server}"):
             if not await self.wait_for_replicas([server], seconds):
                 return False

@@ -13,9 +13,8 @@ from smplan.control import Line
 from .operator import NoLeader, Operator
 from .plans import abrupt_stream, move_stream, plan_of, swap_stream
 
-# How many primaries are handed over at once, and one more by a drain: few, since clients that never rest use these shards, and each handover is to
-# meet
-# many requests. These clients come to a shard so many seconds before its handover begins: what is moved is in use then, too.
+# How many primaries are handed over at once, and one more by a drain: few, since clients that never rest use these shards, and each handover is
+# to meet many requests. These clients come to a shard this many seconds before its handover begins, so that it is in use when it moves.
 HANDOVERS = 2
 BEFORE = 0.3
 

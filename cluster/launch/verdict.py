@@ -61,7 +61,7 @@ class Evidence:
     # What the map had shown when etcd's history was compacted last, and at which revision that was.
     shown: Shown = field(default_factory=dict)
     compacted_at: int = 0
-    # Whether something happened that the rules do not survive, of which controllers give the alarm.
+    # Whether the run breaks the rules' premises, so that controllers have to give an alarm.
     is_outside: bool = False
 
 

@@ -1,4 +1,4 @@
-"""The bugs of bugs.py: each is a server of which one part is another one."""
+"""The bugs of bugs.py: each is a server with one part replaced."""
 from __future__ import annotations
 
 import asyncio

@@ -19,7 +19,7 @@ class Reopenings:
 
     def __init__(self, server: "Server") -> None:
         self.server, self.store = server, server.store
-        # The shards that a restore was to have it serve, and of which it has no data.
+        # The shards that a restore would have it serve, without their data.
         self.lost: list[str] = []
 
     async def fence(self, told: Message) -> Message:

@@ -530,7 +530,7 @@ chooses w k c a =
     begins-view w k c.heir c.view copy a.1.copy_is a.1.later c.replicas (λ _. false) c.needed (if c.named then [] else w.acknowledged) all
     (kept-below c.named w.acknowledged w.view k.below) (kept-whole c.named w.lists w.acknowledged k.whole) (omega arith)
 
--- What holds holds after each event that is allowed.
+-- Each event that may happen keeps the invariant.
 pub kept : (w : Shard) → IsKept w → (e : Event) → MayHappen w e → IsKept (left_by w e)
 kept w k (Executes write) a = executes w k write a
 kept w k (Copies s) a = copies-anew w k s

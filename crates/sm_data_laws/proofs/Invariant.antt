@@ -1,4 +1,4 @@
--- What holds of a shard's data at each moment.
+-- The invariant of a shard's data.
 use Rattle.std.proofs.Common.{subst, suc, zero, ◌∷◌, ◌≡◌, ℕ, ◌<◌, ◌≤◌, inl, inr, Bool, true, false, not, ◌&&◌, List, [], Option, Some, None, is_some, length, slice_get, refl, sym, ap, arith}
 use Rattle.std.specs.List.{AllByRecursion}
 use Rattle.std.proofs.lemmas.Bool.{and_parts, cases_lt, false≢true}
@@ -17,7 +17,7 @@ pub record AreLists (lists : ℕ → List ListEntry) : Type 0 where
 abbrev pub AreCopies : (ℕ → List ListEntry) → (ℕ → Option (List ListEntry)) → Type 0
 AreCopies lists copies = (s : ℕ) (xs : List ListEntry) → copies s ≡ Some xs → begins xs (lists (view_of xs)) ≡ true
 
--- What is acknowledged is a beginning of each list that has begun in its view or later.
+-- Each list of the acknowledged view or a later one begins with all that is acknowledged.
 abbrev pub IsWhole : (ℕ → List ListEntry) → List ListEntry → Type 0
 IsWhole lists acknowledged = (u : ℕ) → 0 < length (lists u) → view_of acknowledged ≤ u → begins acknowledged (lists u) ≡ true
 
@@ -26,7 +26,7 @@ pub record HasUpTo (list : List ListEntry) (copies : ℕ → Option (List ListEn
   pub bound : position ≤ length list
   pub part : (xs ys : List ListEntry) → copies s ≡ Some xs → begins ys list ≡ true → length ys ≤ position → begins ys xs ≡ true
 
--- What was told of a copy of the primary's view is so; none of a later view was told.
+-- A told copy of the primary's view is still there, up to its position; nobody has told a later view.
 pub record IsTrueOf (view : ℕ) (list : List ListEntry) (copies : ℕ → Option (List ListEntry)) (word : ToldCopy) : Type 0 where
   pub below : word.view ≤ view
   pub has : word.view ≡ view → HasUpTo list copies word.server word.position
