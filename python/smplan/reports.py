@@ -123,7 +123,10 @@ def add_parser(subparsers: Any) -> None:
         "json",
         epilog="example: smplan run < placement.json | smplan-tools json",
         help="print a report as JSON",
-        description="Prints a report of smplan as one JSON object.",
+        description="Prints a report of smplan as one JSON object. It has these members, if the report has them: 'refused' (the line that says why there is "
+        "no more); 'accepted' with 'calls' and 'streams'; the 'plan' that was made; lists of 'calls', 'events' or 'asks' by number with the 'answer'; "
+        "'streams' with 'steps', 'calls' and 'budget' (run), or with 'at' and 'length' or the state 'done' (play); 'plans' that are refused or not begun; "
+        "'servers'; 'shards' with 'cells', which in a handover have 'other' and 'number'.",
     )
     parser.add_argument("report", nargs="?", default="-", metavar="REPORT", help="a report of smplan (standard input)")
     parser.add_argument("--compact", action="store_true", help="print one line")
