@@ -48,6 +48,8 @@ class Campaign:
     is_stopped: bool = False
     moved: int = 0
     waited: float = 0.0
+    # the journal's place at the last refusal, if no plan ran then
+    at_rest: Optional[int] = None
 
     def run(self) -> int:
         """Runs until the server is empty: 0; or stopped: 1."""
@@ -70,10 +72,13 @@ class Campaign:
         return 1
 
     def let_pass(self, why: Refused, step: float = 0.5) -> None:
-        """Waits a moment if a running plan may be why a line was refused; raises the refusal otherwise, and once this takes longer than the patience."""
-        plans = self.post("/ask", {"do": "state"}).get("state", {}).get("plans", [])
-        running = [it["name"] for it in plans if it["is"] == "running"]
-        may_pass = why.kind in SHORT or (why.kind in PASSING and running)
+        """Waits a moment if a running plan may be why a line was refused, or one that has ended since; raises the refusal otherwise, and once this takes
+        longer than the patience."""
+        state = self.post("/ask", {"do": "state"}).get("state", {})
+        running = [it["name"] for it in state.get("plans", []) if it["is"] == "running"]
+        before, self.at_rest = self.at_rest, None if running else state.get("place")
+        has_changed = bool(running) or self.at_rest != before
+        may_pass = why.kind in SHORT or (why.kind in PASSING and has_changed)
         if not may_pass or (self.patience is not None and self.waited > self.patience):
             raise why
         if not self.waited:

@@ -116,6 +116,24 @@ class DrainTest(unittest.TestCase):
         self.assertEqual(campaign.run(), 0)
         self.assertEqual(self.rests, [0.5, 0.5])
 
+    def test_tries_again_if_the_plan_in_its_way_has_ended(self):
+        fake = FakeController("s")
+        held = [{"refused": {"kind": "Held", "text": "no plan: 3 Held shard s server a"}}]
+        campaign = self.campaign(fake)
+        campaign.post = lambda path, line: held.pop() if held and line["do"] == "drain" else fake.post(path, line)
+        self.assertEqual(campaign.run(), 0)
+        self.assertEqual(self.rests, [0.5])
+
+    def test_refused_at_rest(self):
+        asked = []
+        refused = {"refused": {"kind": "Held", "text": "no plan: 3 Held shard s server a"}}
+        rest = {"state": {"epoch": 1, "place": 7, "plans": [{"name": "other", "is": "ended"}]}}
+        campaign = self.campaign(FakeController("s"))
+        campaign.post = lambda path, line: asked.append(line["do"]) or (refused if line["do"] == "drain" else rest)
+        with self.assertRaisesRegex(Failure, "Held"):
+            campaign.run()
+        self.assertEqual(asked, ["drain", "state", "drain", "state"])
+
     def test_waits_no_longer_than_its_patience(self):
         refused = {"refused": {"kind": "Taken", "text": "held: 2 Taken cell s b"}}
         campaign = Campaign(lambda path, line: refused if line["do"] == "drain" else {"state": STATE}, "a", patience=1.0, tell=lambda text: None, sleep=lambda seconds: None)
