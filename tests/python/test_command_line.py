@@ -42,12 +42,12 @@ class Slips(unittest.TestCase):
 class Terminal(unittest.TestCase):
     """scripts/smplan, with a terminal as its standard error."""
 
-    def run_script(self, name: str, *words: str, is_terminal: bool = True) -> Tuple[str, str, int]:
+    def run_script(self, name: str, *words: str, is_terminal: bool = True, place: str = "build") -> Tuple[str, str, int]:
         with tempfile.TemporaryDirectory(prefix="smplan-terminal-") as folder:
-            for part in ("scripts", "build"):
-                (pathlib.Path(folder) / part).mkdir()
+            for part in ("scripts", place):
+                (pathlib.Path(folder) / part).mkdir(parents=True)
             shutil.copy(ROOT / "scripts" / "smplan", f"{folder}/scripts")
-            os.symlink(PROGRAM, f"{folder}/build/smplan")
+            os.symlink(PROGRAM, f"{folder}/{place}/smplan")
             ours, theirs = pty.openpty()
             done = subprocess.run([f"{folder}/scripts/smplan", *words], input=example(name).read_bytes(), stdout=subprocess.PIPE, stderr=theirs if is_terminal else subprocess.PIPE, check=False)
             os.write(theirs, b"end\n")
@@ -65,6 +65,9 @@ class Terminal(unittest.TestCase):
         out, told, status = self.run_script("drain-without-a-place", "plan")
         self.assertEqual((example("drain-without-a-place").with_suffix(".txt").read_text(), 1), (out, status))
         self.assertIn("smplan-tools explain FILE", told)
+
+    def test_an_installed_program_is_the_first(self):
+        self.assertEqual(("bad input: 4 UnknownName server\n", 2), self.run_script("unknown-server", "calls", place="lib/smplan")[::2])
 
     def test_a_file_as_a_word(self):
         out, told, status = self.run_script("placement", "calls", str(example("placement")))
