@@ -1,24 +1,17 @@
-// Command kv is a key-value service over the frame for servers: examples/kv_http.py in Go.
-//
-//	cd ports/go && go build -o /tmp/kv ./examples/kv
-//	/tmp/kv [-new] [-token FILE] [-cert FILE -key FILE] NAME http://127.0.0.1:9200 /var/lib/kv/NAME.log
+// Command kv is examples/kv_http.py in Go, over the frame for servers: texts by key. Commands are ["get", key] and ["append", key, text]; a reply is the whole text.
 package main
 
 import (
 	"encoding/json"
 	"fmt"
-	"net/url"
-	"strings"
-
 	"hammerecru.example/smplan/server"
+	"strings"
 )
 
-// texts are a shard's: texts by key. "append" adds to one; the reply is the whole text.
 type texts struct{}
 
-func place(shard, key string) string { return "kv/" + url.QueryEscape(shard) + "/" + key }
+func place(shard, key string) string { return "kv/" + shard + "/" + key }
 
-// wordsOf are a command's words: ["get", key] or ["append", key, text].
 func wordsOf(command json.RawMessage) (words []string) {
 	if json.Unmarshal(command, &words) != nil || len(words) < 2 {
 		return []string{"", ""}
@@ -27,7 +20,6 @@ func wordsOf(command json.RawMessage) (words []string) {
 }
 
 func (texts) IsRead(command json.RawMessage) bool { return wordsOf(command)[0] == "get" }
-
 func (texts) Read(tx server.Tx, shard string, command json.RawMessage) (any, error) {
 	text, _ := tx.Get(place(shard, wordsOf(command)[1]))
 	return text, nil
@@ -65,5 +57,4 @@ func (texts) Drop(tx server.Tx, shard string) {
 		tx.Delete(pair.Key)
 	}
 }
-
 func main() { server.Main(texts{}) }
