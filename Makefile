@@ -101,7 +101,7 @@ check-program:
 	scripts/check-memory
 	scripts/check-threads
 	scripts/check-storm 20
-	crates/board_trials/out/board_trials looks check
+	build/board_trials-unproved looks check
 
 check-tests:
 	$(MAKE) agent vectors
@@ -130,7 +130,6 @@ page-test: ## loads the tools' pages in Debian's chromium, and writes pictures t
 
 # (over the program as it is now, and not as the gate may have built it before)
 storm: ## makes 1,000 runs of 64 streams, beside clients, restarts and halts, with lost calls or two plans; kills build/smpland 1,000 times, refuses each of its calls, spoils 100,000 lines
-	rm -f crates/board_trials/out/board_trials
 	scripts/check-storm
 	scripts/check-smpland-kills 1000
 	scripts/check-smpland-faults
