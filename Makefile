@@ -68,7 +68,6 @@ test: ## the gate, in more than an hour: all proofs from nothing, all tests, wro
 	cp crates/smpland/out/smpland build/smpland
 	scripts/keep-verdict build/rt.log
 	scripts/check-tests
-	scripts/check-try-edits
 	scripts/try-edits --always tests/must-fail --until 0
 	$(MAKE) --jobs=2 --output-sync=line check-caught check-program check-tests
 	@if [ -s build/left-out ]; then echo "This machine lacks something, so that tests were left out:"; sort -u build/left-out; else echo "No test was left out."; fi
@@ -113,6 +112,7 @@ edits: ## tries all wrong versions, over what make test has proved: hours of a p
 	@mkdir -p build
 	rm -rf crates/*/out/rlib
 	rt ci >build/rt-edits.log 2>&1 || { tail -n 20 build/rt-edits.log; exit 1; }
+	scripts/check-try-edits
 	scripts/try-edits --always tests/must-fail
 
 cluster: ## a minute of a real cluster of Redis servers, moved and harmed while clients write (it needs Debian's etcd-server and redis-server)
