@@ -19,6 +19,14 @@ def acknowledged(folder):
     return by_shard, notes
 
 
+def plain_faults(fleet, shard, owner, losses):
+    """Statements of clients that know nothing of shards, committed and lost, though no server was lost around then."""
+    rows = [json.loads(line) for path in sorted(fleet.folder.glob("plain-*.jsonl")) for line in path.read_text().splitlines()]
+    has = {it for (it,) in fleet.posts[owner].query(f'SELECT id FROM "{shard}".notes')}
+    wrong = [note for its, note, at in rows if its == shard and note not in has and not any(begun - 6 < at < ended for begun, ended in losses)]
+    return [f"{shard}: {len(wrong)} statements were committed and are lost: {wrong[:3]}"] if wrong else []
+
+
 def shard_faults(fleet, shard, cells, rows):
     """What is wrong with one shard."""
     wrong = []
@@ -45,7 +53,7 @@ def shard_faults(fleet, shard, cells, rows):
 
 SUM = '''SELECT md5(coalesce((SELECT string_agg(id || ' ' || reply, ',' ORDER BY id) FROM "{0}".sm_requests), '')
     || (SELECT sum(balance * id) FROM "{0}".accounts) || coalesce((SELECT string_agg(request, ',' ORDER BY request) FROM "{0}".history), '')
-    || (SELECT count(*) FROM "{0}".accounts) || (SELECT sum(writes) FROM "{0}".sm_counters)
+    || (SELECT count(*) FROM "{0}".accounts) || coalesce((SELECT string_agg(id, ',' ORDER BY id) FROM "{0}".notes), '') || (SELECT sum(writes) FROM "{0}".sm_counters)
     || coalesce((SELECT string_agg(server || ' ' || was_owner, ',' ORDER BY server) FROM "{0}".sm_members), '')
     || coalesce((SELECT string_agg(view || ' ' || position, ',' ORDER BY view) FROM "{0}".sm_views), '') || (SELECT count(*) FROM "{0}".sm_cut))'''
 
@@ -87,10 +95,10 @@ def leftovers(fleet, names, shards):
         count = fleet.posts[name].query("SELECT count(*) FROM pg_subscription")[0][0]
         if count != len(has - primary):
             wrong.append(f"{name}: {count} subscriptions for {len(has - primary)} secondaries")
-        streams = fleet.posts[name].query("SELECT count(*) FROM pg_replication_slots")[0][0]
+        streams = [it for (it,) in fleet.posts[name].query("SELECT slot_name FROM pg_replication_slots ORDER BY 1")]
         wanted = sum(len(shards[shard]) - 1 for shard in primary)
-        if streams != wanted:
-            wrong.append(f"{name}: {streams} streams for {wanted} followers")
+        if len(streams) != wanted:
+            wrong.append(f"{name}: {len(streams)} streams for {wanted} followers: {', '.join(streams)}")
     return wrong
 
 
@@ -100,23 +108,24 @@ def gaps_of(rows, begun, ended):
     return max((y - x for x, y in zip(acks, acks[1:]) if y > begun and x < ended), default=0.0)
 
 
-def check(fleet, wanted, least=100, alive=None):
-    """All that is wrong, and the figures."""
+def check(fleet, wanted, least=100, alive=None, losses=()):
+    """All that is wrong, and the figures. A loss is when it began and when the service was open again."""
     names = [it for it in fleet.names if alive is None or it in alive]
     by_shard, notes = acknowledged(fleet.folder)
     wrong = list(notes)
     if sum(len(it) for it in by_shard.values()) < least:
         wrong.append("clients wrote next to nothing")
     state = fleet.ask({"do": "state"})["state"]
-    entries = json.loads(fleet.map_file.read_text())["entries"]
     shards = {}
     for it in state["shards"]:
         shard, cells = it["shard"], {cell["server"]: cell["state"] for cell in it["cells"]}
         shards[shard] = cells
         owner = next((name for name, what in cells.items() if what == "primary"), None)
-        if entries[shard]["to"] != owner or len(cells) != wanted[shard] or not set(cells) <= set(names):
-            wrong.append(f"{shard}: {cells}, listed at {entries[shard]['to']}, wanted {wanted[shard]}")
+        listed = [json.loads(path.read_text())["entries"][shard]["to"] for path in fleet.map_files]
+        if set(listed) != {owner} or len(cells) != wanted[shard] or not set(cells) <= set(names):
+            wrong.append(f"{shard}: {cells}, listed at {listed}, wanted {wanted[shard]}")
         try:
+            wrong += plain_faults(fleet, shard, owner, losses)
             wrong += shard_faults(fleet, shard, cells, by_shard[shard])
             wrong += replica_faults(fleet, shard, cells)
             wrong += guard_faults(fleet, shard, owner, names)

@@ -7,13 +7,24 @@ import time
 
 import psycopg
 
+# When a moment has come to a server; `drop`: a schema is dropped in a transaction that has not ended.
 MOMENTS = {
     "copy": "SELECT EXISTS (SELECT FROM pg_subscription_rel WHERE srsubstate <> 'r')",
     "cut": "SELECT EXISTS (SELECT FROM sm.slots WHERE cell = 5)",
     "seal": "SELECT EXISTS (SELECT FROM sm.slots WHERE cell = 2 AND has_cut = 1)",
     "over": "SELECT EXISTS (SELECT FROM sm.slots WHERE cell = 5 AND source IS NOT NULL)",
     "order": "SELECT EXISTS (SELECT FROM sm.slots WHERE at_work <> 0)",
+    "drop": "SELECT EXISTS (SELECT FROM pg_locks WHERE locktype = 'object' AND mode = 'AccessExclusiveLock' AND granted AND classid = 'pg_namespace'::regclass)",
+    "prepared": "SELECT EXISTS (SELECT FROM sm.slots WHERE cell = 2 AND has_cut = 0 AND is_whole)",
 }
+KILLS = ("copy", "cut", "seal", "over", "order", "drop")
+KINDS = (*KILLS, "controller", "hold", "ddl", "away", "late copy", "late stream")
+
+
+def resume(pid):
+    """Lets a process go on."""
+    with contextlib.suppress(OSError):
+        os.kill(pid, signal.SIGCONT)
 
 
 class Harm:
@@ -21,8 +32,9 @@ class Harm:
 
     def __init__(self, fleet, dice, say):
         self.fleet, self.dice, self.say = fleet, dice, say
-        self.counts, self.wrong, self.gone = {}, [], set()
+        self.counts, self.wrong, self.gone, self.losses = {}, [], set(), []
         self.lock = threading.Lock()
+        self.looks = {}
 
     def count(self, what):
         self.counts[what] = self.counts.get(what, 0) + 1
@@ -30,18 +42,51 @@ class Harm:
     def present(self):
         return [it for it in self.fleet.names if it not in self.gone]
 
+    def do(self, kind, stop=lambda: False):
+        """One harm of a kind, unless its moment does not come."""
+        dead = 2.0 + self.fleet.dead
+        works = {"controller": self.controller, "hold": lambda: self.hold(self.dice.uniform(0.5, 3.0)), "ddl": self.ddl, "away": lambda: self.away(dead),
+                 "late copy": lambda: self.delay("copy", stop), "late stream": lambda: self.delay("prepared", stop)}
+        works.get(kind, lambda: self.strike(kind, stop))()
+
+    def look(self, name, moment):
+        """Whether a moment has come to a server."""
+        try:
+            if name not in self.looks:
+                self.looks[name] = psycopg.connect(self.fleet.posts[name].reach, autocommit=True, connect_timeout=5)
+            return self.looks[name].execute(MOMENTS[moment]).fetchone()[0]
+        except psycopg.Error:
+            if name in self.looks:
+                self.looks.pop(name).close()
+            return False
+
     def victim(self, moment, seconds=8.0, stop=lambda: False):
         """A server to which a moment has come; none if it does not come."""
         until = time.monotonic() + seconds
         while time.monotonic() < until and not stop():
             for name in self.dice.sample(self.present(), len(self.present())):
-                try:
-                    if self.fleet.posts[name].query(MOMENTS[moment])[0][0]:
-                        return name
-                except psycopg.Error:
-                    continue
-            time.sleep(0.01)
+                if self.look(name, moment):
+                    return name
+            time.sleep(0.002)
         return None
+
+    def delay(self, moment, stop):
+        """What a server copies, or what it would follow to the cut of a handover, stands still for a moment."""
+        name = self.victim(moment, stop=stop)
+        if name is None:
+            return
+        number = 1 + self.fleet.names.index(name)
+        streams = ("SELECT pid FROM pg_stat_replication WHERE application_name LIKE 'pg\\_%\\_sync\\_%'" if moment == "copy" else
+                   f"SELECT active_pid FROM pg_replication_slots WHERE active AND slot_name LIKE 'sm\\_%\\_{number}'")
+        with self.lock, contextlib.ExitStack() as frozen:
+            for source in set(self.present()) - {name}:
+                with contextlib.suppress(psycopg.Error):
+                    for (pid,) in self.fleet.posts[source].query(streams):
+                        with contextlib.suppress(OSError):
+                            os.kill(pid, signal.SIGSTOP)
+                            frozen.callback(resume, pid)
+            self.count(f"late {'copy' if moment == 'copy' else 'stream'}")
+            time.sleep(self.dice.uniform(0.3, 1.0))
 
     def strike(self, moment, stop=lambda: False):
         """Kills a server, its side, or both, when a moment has come; and starts them again."""
@@ -79,13 +124,14 @@ class Harm:
             self.revive(name)
 
     def controller(self):
-        """The controller and its session are killed, and started again."""
+        """A controller and its session are killed, and started again; of several mostly the one that leads."""
         with self.lock:
+            number = self.fleet.leader() if self.dice.random() < 0.7 else self.dice.randrange(len(self.fleet.controllers))
             self.count("controller")
-            self.say("kill -9 the controller")
-            self.fleet.kill_controller()
+            self.say(f"kill -9 controller {number}")
+            self.fleet.kill_controller(number)
             time.sleep(self.dice.uniform(0.1, 1.0))
-            self.fleet.controller.start()
+            self.fleet.controllers[number].start()
 
     def hold(self, seconds):
         """A client leaves a transaction open."""
@@ -117,10 +163,19 @@ class Harm:
             except psycopg.Error:
                 continue
 
+    def is_followed(self, name):
+        """Whether each shard that a server serves has a follower that counts."""
+        post = self.fleet.posts[name]
+        served = [it for (it,) in post.query("SELECT shard FROM sm.slots WHERE cell IN (4, 5) OR (cell = 2 AND has_cut = 1)")]
+        return all(post.query(f"SELECT EXISTS (SELECT FROM {it}.sm_members)")[0][0] for it in served)
+
     def lose(self, name):
-        """A server is lost for good, and the service reopened without it."""
+        """A server is lost for good, and the service reopened without it. (Whose followers are all away just then is not lost: nobody else would have its
+        last writes.)"""
         with self.lock:
+            self.fleet.wait_for(f"what {name} serves is followed", lambda: self.is_followed(name), 120.0)
             self.count("lose")
+            at = time.time()
             self.gone.add(name)
             frozen = self.freeze(name)
             self.say(f"kill -9 {name} for good, while {len(frozen)} of its streams stand still")
@@ -137,17 +192,22 @@ class Harm:
                 time.sleep(0.5)
             else:
                 self.wrong.append(f"the service could not be reopened without {name}")
+            self.losses.append((at, time.time()))
             self.say(f"reopened after {time.monotonic() - begun:.1f} s")
 
     def freeze(self, name):
-        """Lets half of the streams of a server stand still, so that their followers lack what is written then; returns their processes."""
-        frozen = []
+        """Lets streams of a server stand still, so that their followers lack what is written then: of a shard with several followers not all. Returns the
+        streams' processes."""
+        frozen, streams = [], {}
         with contextlib.suppress(psycopg.Error):
-            for (pid,) in self.fleet.posts[name].query("SELECT pid FROM pg_stat_replication"):
-                if self.dice.random() < 0.5:
-                    with contextlib.suppress(OSError):
-                        os.kill(pid, signal.SIGSTOP)
-                        frozen.append(pid)
+            for slot, pid in self.fleet.posts[name].query("SELECT slot_name, active_pid FROM pg_replication_slots WHERE active AND slot_name LIKE 'sm\\_%' ORDER BY 1"):
+                streams.setdefault(slot.rsplit("_", 1)[0], []).append(pid)
+        for pids in streams.values():
+            most = len(pids) - 1 if len(pids) > 1 else self.dice.randrange(2)
+            for pid in self.dice.sample(pids, most):
+                with contextlib.suppress(OSError):
+                    os.kill(pid, signal.SIGSTOP)
+                    frozen.append(pid)
         return frozen
 
     def replace(self, name):

@@ -13,15 +13,15 @@ import time
 from pathlib import Path
 
 import checker
-from harm import Harm
+from harm import KINDS, Harm
 from servers import Fleet
 
 HERE = Path(__file__).resolve().parent
 TABLES = """CREATE SCHEMA {0};
 CREATE TABLE {0}.accounts (id int PRIMARY KEY, balance bigint NOT NULL DEFAULT 0, filler text);
 CREATE TABLE {0}.history (id bigserial PRIMARY KEY, request text NOT NULL, account int NOT NULL, delta int NOT NULL);
+CREATE TABLE {0}.notes (id text PRIMARY KEY);
 INSERT INTO {0}.accounts SELECT it, 0, repeat(md5(it::text), 9) FROM generate_series(1, {1}) it;"""
-KINDS = ("copy", "cut", "seal", "over", "order", "controller", "hold", "ddl", "away")
 
 
 class Run:
@@ -30,7 +30,9 @@ class Run:
     def __init__(self, told):
         self.told, self.dice, self.begun, self.events = told, random.Random(told.seed), time.time(), []
         names = [chr(ord("a") + it) for it in range(told.servers)]
-        self.fleet = Fleet(told.folder, names, told.shards, options=["--dead", str(told.dead), *told.option], harm=told.messages, seed=told.seed, bug=told.bug)
+        self.fleet = Fleet(told.folder, names, told.shards, options=["--dead", str(told.dead), *told.option], harm=told.messages, seed=told.seed, bug=told.bug,
+                           controllers=told.controllers)
+        self.fleet.dead = told.dead
         self.harm = Harm(self.fleet, random.Random(f"{told.seed} harm"), self.say)
         self.stopping = threading.Event()
         self.writers, self.spans, self.drained = [], {}, None
@@ -57,7 +59,7 @@ class Run:
             order = names[n % len(names):] + names[:n % len(names)]
             if n % len(names) == 0 or n % 3 == 0:
                 order = [names[0], *self.dice.sample(names[1:], len(names) - 1)]
-            cells[f"s{n}"] = order[:3 if n % 3 == 2 and len(names) > 3 else 2]
+            cells[f"s{n}"] = order[:3 if len(names) > 3 and (self.told.wide or n % 3 == 2) else 2]
 
         def fill(name):
             database = Database(self.fleet.posts[name].reach)
@@ -77,27 +79,18 @@ class Run:
     def start_writers(self):
         """Clients in processes of their own."""
         (self.fleet.folder / "setup.json").write_text(json.dumps({
-            "servers": {it: post.reach for it, post in self.fleet.posts.items()}, "map": str(self.fleet.map_file), "shards": self.fleet.shards, "rows": self.told.rows}))
-        self.writers = [subprocess.Popen(["/usr/bin/python3", "writers.py", str(self.fleet.folder), str(n), "1", str(self.told.rest)], cwd=HERE,
+            "servers": {it: post.reach for it, post in self.fleet.posts.items()}, "maps": [str(it) for it in self.fleet.map_files], "shards": self.fleet.shards, "rows": self.told.rows}))
+        self.writers = [subprocess.Popen(["/usr/bin/python3", "writers.py", str(self.fleet.folder), str(n), "1", str(self.told.rest), str(self.told.plain)], cwd=HERE,
                                          stdout=(self.fleet.folder / f"writers-{n}.log").open("w"), stderr=subprocess.STDOUT) for n in range(self.told.writers)]
 
     # -- what goes on
 
     def harms(self):
         """One harm after the other, with rests between."""
-        while not self.stopping.wait(self.harm.dice.uniform(0.3, 2.0)):
+        while not self.stopping.wait(self.harm.dice.uniform(0.15, 1.0) * self.told.every):
             kind = self.harm.dice.choice(self.told.harm)
             try:
-                if kind in ("copy", "cut", "seal", "over", "order"):
-                    self.harm.strike(kind, self.stopping.is_set)
-                elif kind == "controller":
-                    self.harm.controller()
-                elif kind == "hold":
-                    self.harm.hold(self.harm.dice.uniform(0.5, 3.0))
-                elif kind == "ddl":
-                    self.harm.ddl()
-                elif kind == "away":
-                    self.harm.away(self.told.dead + 2.0)
+                self.harm.do(kind, self.stopping.is_set)
             except Exception as why:  # pylint: disable=broad-exception-caught
                 self.say("harm", kind, type(why).__name__, why)
 
@@ -105,13 +98,18 @@ class Run:
         """Drains one server after the other, and repairs what shards lack."""
         begun, loses = time.time(), self.told.lose
         while time.time() < until:
-            if loses and time.time() > (begun + until) / 2:
-                name = self.dice.choice(self.harm.present())
+            if loses and time.time() > begun + (until - begun) * self.told.lose_at:
+                name = self.to_lose()
                 self.harm.lose(name)
                 self.command("repair", "--yes")
                 self.harm.replace(name)
                 self.command("repair", "--yes")
                 loses = 0
+            if self.dice.random() < self.told.back:
+                name = self.dice.choice(self.harm.present())
+                words = ["restart", name, "--no-primaries", "--by", "storm", "--yes", "--wait", "20", "--", "true"]
+                self.say(f"others lead for {name}, and give back: {self.command(*words, seconds=40.0)}")
+                continue
             name = self.next_to_drain()
             words = ["drain", name, "--batch", "2", "--pause", "0.2", "--stop", "20"] + (["--prefer-secondary"] if self.dice.random() < self.told.roles else [])
             self.say(*words[:2], *(words[8:]))
@@ -119,6 +117,12 @@ class Run:
             status = self.command(*words, seconds=max(5.0, min(until - time.time() + 10, self.told.seconds / 3)))
             self.say(f"drain of {name} ended with {status}")
             self.spans.setdefault("drains", []).append((at, time.time()))
+
+    def to_lose(self):
+        """A server that is lost for good: one that serves most, so that there is something to lose."""
+        state = self.fleet.ask({"do": "state"})["state"]
+        served = [cell["server"] for it in state["shards"] for cell in it["cells"] if cell["state"] == "primary"]
+        return max(self.harm.present(), key=served.count)
 
     def next_to_drain(self):
         """A server that has something, and was not drained last."""
@@ -164,8 +168,9 @@ class Run:
         """Heals all, and waits until the service is at rest."""
         for name in self.harm.present():
             self.harm.revive(name)
-        if not self.fleet.controller.is_up():
-            self.fleet.controller.start()
+        for it in [*([self.fleet.store] if self.fleet.store else []), *self.fleet.controllers]:
+            if not it.is_up():
+                it.start()
         self.fleet.wait_for("the service is at rest", self.is_quiet, self.told.patience)
 
     def run(self):
@@ -193,7 +198,7 @@ class Run:
         (self.fleet.folder / "stop").touch()
         for it in self.writers:
             it.wait()
-        wrong, by_shard = checker.check(self.fleet, {shard: len(its) for shard, its in self.cells.items()}, self.told.least, self.harm.present())
+        wrong, by_shard = checker.check(self.fleet, {shard: len(its) for shard, its in self.cells.items()}, self.told.least, self.harm.present(), self.harm.losses)
         self.report(by_shard)
         return stuck + self.harm.wrong + wrong
 
@@ -208,8 +213,6 @@ class Run:
             drain = max((checker.gaps_of(rows, *it) for it in self.spans.get("drains", [])), default=0.0)
             print(f"{shard}: {len(rows)} acknowledged; longest time without one: {rest * 1e3:.0f} ms at rest, {drain * 1e3:.0f} ms while shards moved")
         print("harm:", dict(self.harm.counts), "messages:", {it: dict(counts) for it, counts in self.fleet.proxied.items()})
-        for it in self.writers:
-            pass
         for n in range(len(self.writers)):
             print((self.fleet.folder / f"writers-{n}.log").read_text().strip()[-300:])
 
@@ -226,7 +229,13 @@ def arguments():
     parser.add_argument("--rest", type=float, default=0.02)
     parser.add_argument("--harm", nargs="*", default=list(KINDS))
     parser.add_argument("--messages", type=float, default=0.0, help="the share of messages that are lost, late or doubled")
+    parser.add_argument("--every", type=float, default=2.0, help="the longest rest between two harms, in seconds")
+    parser.add_argument("--controllers", type=int, default=1, help="several are over etcd")
+    parser.add_argument("--plain", type=float, default=0.0, help="a client that knows nothing of shards for each, and for how long it leaves a transaction open")
+    parser.add_argument("--wide", action="store_true", help="all shards want three replicas")
+    parser.add_argument("--back", type=float, default=0.0, help="the share of moves in which others lead for a server, and give back at once")
     parser.add_argument("--lose", type=int, default=0)
+    parser.add_argument("--lose-at", type=float, default=0.5, help="the share of the time behind which a server is lost")
     parser.add_argument("--roles", type=float, default=0.4, help="the share of drains that change roles first")
     parser.add_argument("--dead", type=float, default=4.0)
     parser.add_argument("--patience", type=float, default=120.0)

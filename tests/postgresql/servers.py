@@ -96,31 +96,51 @@ class Postgres(Process):
 
 
 class Fleet:
-    """Servers a, b, .. with a controller."""
+    """Servers a, b, .. with a controller, or with several over etcd."""
 
-    def __init__(self, folder, names, shards=12, program=None, options=(), harm=0.0, seed=0, bug=""):
+    def __init__(self, folder, names, shards=12, program=None, options=(), harm=0.0, seed=0, bug="", controllers=1):
         self.folder, self.names, self.shards, self.room = pathlib.Path(folder), list(names), [], 1000
         shutil.rmtree(self.folder, ignore_errors=True)
         self.folder.mkdir(parents=True)
         os.chmod(self.folder, 0o777)
         self.program = program or smpland()
-        ports = free_ports(3 * len(names) + 1)
-        self.page = ports[0]
-        self.posts = {name: Postgres(self.folder, name, ports[1 + n], shards, len(names)) for n, name in enumerate(names)}
-        self.urls = {name: f"http://127.0.0.1:{ports[1 + len(names) + n]}" for n, name in enumerate(names)}
+        ports = free_ports(3 * len(names) + controllers + 2)
+        self.pages = [f"http://127.0.0.1:{ports.pop()}" for _ in range(controllers)]
+        self.posts = {name: Postgres(self.folder, name, ports.pop(), shards, len(names)) for name in names}
+        self.urls = {name: f"http://127.0.0.1:{ports.pop()}" for name in names}
         program = [str(ROOT / "ports/postgresql/smplan-pg")] if not bug else ["/usr/bin/python3", str(ROOT / "tests/postgresql/wrong.py"), bug]
         environment = {**os.environ, "PATH": f"{BIN}:{os.environ['PATH']}"}
-        self.agents = {name: Process(name, [*program, "serve", "--dsn", it.reach, "--name", name, "--http", self.urls[name], "--controller",
-                                            f"http://127.0.0.1:{self.page}", *options], self.folder / f"serve-{name}.log", env=environment)
-                       for name, it in self.posts.items()}
-        self.map_file = self.folder / "map.json"
-        shown = {name: f"http://127.0.0.1:{ports[1 + 2 * len(names) + n]}" for n, name in enumerate(names)} if harm else self.urls
+        told = [word for it in self.pages for word in ("--controller", it)]
+        self.agents = {name: Process(name, [*program, "serve", "--dsn", it.reach, "--name", name, "--http", self.urls[name], *told, *options],
+                                     self.folder / f"serve-{name}.log", env=environment) for name, it in self.posts.items()}
+        shown = {name: f"http://127.0.0.1:{ports.pop()}" for name in names} if harm else self.urls
         self.proxied = {name: proxies.start(self.urls[name], int(url.rsplit(":", 1)[1]), harm, f"{seed} {name}") for name, url in shown.items()} if harm else {}
-        fleet = {"servers": {name: {"number": 1 + n, "url": shown[name]} for n, name in enumerate(names)}, "map": {"file": str(self.map_file)}}
-        (self.folder / "fleet.json").write_text(json.dumps(fleet))
-        words = [str(ROOT / "scripts/smplan-control"), "run", str(self.folder / "fleet.json"), "--session", f"{self.program} {self.folder}/journal", "--http",
-                 f"127.0.0.1:{self.page}", "--open", str(self.folder / "service.json")]
-        self.controller = Process("controller", words, self.folder / "controller.log")
+        self.map_files = [self.folder / f"map-{it}.json" for it in range(controllers)]
+        for n, it in enumerate(self.map_files):
+            fleet = {"servers": {name: {"number": 1 + n, "url": shown[name]} for n, name in enumerate(names)}, "map": {"file": str(it)}}
+            (self.folder / f"fleet-{n}.json").write_text(json.dumps(fleet))
+        self.store = self.make_store(*ports) if controllers > 1 else None
+        self.controllers = [self.make_controller(n, it) for n, it in enumerate(self.pages)]
+
+    def make_store(self, client, peer):
+        """Several controllers' etcd, of one member."""
+        urls = [f"http://127.0.0.1:{it}" for it in (client, peer)]
+        words = ["etcd", "--name", "e", "--data-dir", str(self.folder / "etcd"), "--listen-client-urls", urls[0], "--advertise-client-urls", urls[0],
+                 "--listen-peer-urls", urls[1], "--initial-advertise-peer-urls", urls[1], "--initial-cluster", f"e={urls[1]}", "--log-level", "error",
+                 "--heartbeat-interval", "300", "--election-timeout", "3000"]
+        it = Process("etcd", words, self.folder / "etcd.log")
+        it.url = urls[0]
+        return it
+
+    def make_controller(self, number, page):
+        """One controller. It has a folder of its own, as its session's files do."""
+        words = [str(ROOT / "scripts/smplan-control"), "run", str(self.folder / f"fleet-{number}.json"), "--http", page.removeprefix("http://"),
+                 "--open", str(self.folder / "service.json")]
+        if self.store:
+            words += ["--session", f"{self.program} -", "--etcd", self.store.url, "--name", f"k{number}", "--lease", "3"]
+        else:
+            words += ["--session", f"{self.program} {self.folder}/journal"]
+        return Process(f"controller {number}", words, self.folder / f"controller-{number}.log")
 
     def make(self):
         """Makes and starts the clusters."""
@@ -135,16 +155,29 @@ class Fleet:
     def open(self, document):
         """Starts the controller and all servers' sides."""
         (self.folder / "service.json").write_text(json.dumps(document))
-        self.controller.start()
-        for it in self.agents.values():
+        if self.store:
+            self.store.start()
+        for it in [*self.controllers, *self.agents.values()]:
             it.start()
 
-    def kill_controller(self):
-        """Kills the controller with its session."""
-        told = subprocess.run(["ps", "--ppid", str(self.controller.process.pid), "-o", "pid="], capture_output=True, text=True, check=False)
-        self.controller.kill()
-        for it in told.stdout.split():
-            os.kill(int(it), signal.SIGKILL)
+    def leader(self):
+        """Which controller leads; the first if nobody says so."""
+        from smplan.control_http import fetch
+        for n, it in enumerate(self.pages if self.store else []):
+            try:
+                if fetch(f"{it}/healthz", timeout=2).get("leads"):
+                    return n
+            except Exception:  # pylint: disable=broad-exception-caught
+                continue
+        return 0
+
+    def kill_controller(self, number):
+        """Kills a controller with its session."""
+        it = self.controllers[number]
+        told = subprocess.run(["ps", "--ppid", str(it.process.pid), "-o", "pid="], capture_output=True, text=True, check=False)
+        it.kill()
+        for pid in told.stdout.split():
+            os.kill(int(pid), signal.SIGKILL)
 
     def remake(self, name):
         """Starts a server with an empty disk."""
@@ -161,14 +194,15 @@ class Fleet:
 
     def command(self, *words, **rest):
         """Begins a command of an operator."""
-        words = [str(ROOT / "scripts/smplan-control"), words[0], "--controller", f"http://127.0.0.1:{self.page}", *words[1:]]
+        told = [word for it in self.pages for word in ("--controller", it)]
+        words = [str(ROOT / "scripts/smplan-control"), words[0], *told, *words[1:]]
         with (self.folder / "commands.log").open("a") as log:
             return subprocess.Popen(words, stdout=log, stderr=log, **rest)
 
     def ask(self, line):
-        """Asks the controller."""
+        """Asks the controller that leads."""
         from smplan.control_http import fetch
-        return fetch(f"http://127.0.0.1:{self.page}/ask", line)
+        return fetch(f"{self.pages[self.leader()]}/ask", line)
 
     def wait_for(self, what, condition, seconds=60.0):
         """Waits for something; ends the run if it does not come."""
@@ -187,15 +221,15 @@ class Fleet:
         """What is not answered, and what servers say of it."""
         from smplan.control_http import fetch
         try:
-            return [{it: row[it] for it in ("message", "tries", "said")} for row in fetch(f"http://127.0.0.1:{self.page}/outgoing")][:4]
+            return [{it: row[it] for it in ("message", "tries", "said")} for row in fetch(f"{self.pages[self.leader()]}/outgoing")][:4]
         except Exception as why:  # pylint: disable=broad-exception-caught
             return str(why)
 
     def close(self):
         """Stops all."""
-        for it in [self.controller, *self.agents.values()]:
+        for it in [*self.controllers, *self.agents.values()]:
             it.stop(seconds=5)
-        for it in self.posts.values():
+        for it in [*self.posts.values(), *([self.store] if self.store else [])]:
             it.stop(signal.SIGINT)
 
 

@@ -72,7 +72,7 @@ class FleetTest(unittest.TestCase):
         self.assertIn("follows a", self.pg("status", "--dsn", FLEET.posts["b"].reach).stdout)
 
     def test_2_one_side_alone(self):
-        told = self.pg("serve", "--name", "a", "--dsn", FLEET.posts["a"].reach, "--controller", f"http://127.0.0.1:{FLEET.page}")
+        told = self.pg("serve", "--name", "a", "--dsn", FLEET.posts["a"].reach, "--controller", FLEET.pages[0])
         self.assertEqual(told.returncode, 2)
         self.assertIn("another smplan-pg serves", told.stderr)
 

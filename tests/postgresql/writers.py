@@ -1,11 +1,11 @@
 """Clients that write all the time, by the router; what they are told stands in FOLDER/acknowledged-N.jsonl.
 
-    python3 writers.py FOLDER NUMBER THREADS_PER_SHARD REST_SECONDS     (until FOLDER/stop is there)
+    python3 writers.py FOLDER NUMBER THREADS_PER_SHARD REST_SECONDS PLAIN_SECONDS    (until FOLDER/stop is there)
 
-One request of fifty is sent again after its acknowledgement, and one of a hundred loses its connection while COMMIT is under way.
+One request of fifty is sent again after its acknowledgement, and one of a hundred loses its connection while COMMIT is under way. With PLAIN_SECONDS above 0
+each shard has a client, too, that knows nothing of shards, and leaves each transaction open for up to so long; what it has committed stands in plain-N.jsonl.
 """
 import json
-import os
 import random
 import sys
 import threading
@@ -15,8 +15,6 @@ from pathlib import Path
 import servers  # (it makes the packages be found)
 import psycopg
 from smplan_pg.router import NotServed, Router
-
-BUG = os.environ.get("PG_BUG", "")
 
 
 class RoughRouter(Router):
@@ -70,24 +68,56 @@ class Writer:
             time.sleep(random.random() * 2 * self.rest)
 
 
-def main(folder, number, threads, rest):
+class PlainWriter:
+    """A client of one shard that knows nothing of shards: it connects to where the map lists it."""
+
+    def __init__(self, folder, setup, shard, name, longest):
+        self.folder, self.setup, self.shard, self.name, self.longest = folder, setup, shard, name, longest
+
+    def run(self, log):
+        number, c = 0, None
+        while not (self.folder / "stop").exists():
+            number += 1
+            try:
+                if c is None:
+                    entry = json.loads(Path(self.setup["maps"][0]).read_text())["entries"][self.shard]
+                    c = psycopg.connect(self.setup["servers"][entry["to"]], connect_timeout=5)
+                with c.transaction():
+                    c.execute(f"INSERT INTO {self.shard}.notes VALUES (%s)", (f"{self.name}-{number}",))
+                    time.sleep(random.random() * self.longest)
+                log([self.shard, f"{self.name}-{number}", time.time()])
+            except (psycopg.Error, OSError, LookupError, ValueError):
+                if c is not None:
+                    c.close()
+                c = None
+            time.sleep(0.03)
+
+
+class Log:
+    """Lines of JSON that threads write."""
+
+    def __init__(self, path):
+        self.lock, self.file = threading.Lock(), path.open("w")
+
+    def __call__(self, line):
+        with self.lock:
+            self.file.write(json.dumps(line) + "\n")
+
+
+def main(folder, number, threads, rest, longest):
     setup = json.loads((folder / "setup.json").read_text())
-    routers = [RoughRouter(setup["servers"], setup["map"], patience=60.0) for _ in range(2)]
-    lock, file = threading.Lock(), (folder / f"acknowledged-{number}.jsonl").open("w")
-
-    def log(line):
-        with lock:
-            file.write(json.dumps(line) + "\n")
-
-    all_writers = [Writer(folder, routers[it % 2], setup, shard, f"{shard}-{number}-{it}", rest) for shard in setup["shards"] for it in range(threads)]
-    running = [threading.Thread(target=it.run, args=(log,)) for it in all_writers]
-    for it in running:
-        it.start()
-    for it in running:
-        it.join()
-    file.close()
+    routers = [RoughRouter(setup["servers"], setup["maps"][it % len(setup["maps"])], patience=60.0) for it in range(2)]
+    told, plain = Log(folder / f"acknowledged-{number}.jsonl"), Log(folder / f"plain-{number}.jsonl")
+    work = [(Writer(folder, routers[it % 2], setup, shard, f"{shard}-{number}-{it}", rest), told) for shard in setup["shards"] for it in range(threads)]
+    work += [(PlainWriter(folder, setup, shard, f"{shard}-{number}", longest), plain) for shard in setup["shards"] if longest]
+    running = [threading.Thread(target=it.run, args=(log,)) for it, log in work]
+    for step in (threading.Thread.start, threading.Thread.join):
+        for it in running:
+            step(it)
+    for it in (told, plain):
+        it.file.close()
     print("writers:", dict(sum((it.counts for it in routers), start=routers[0].counts.__class__())), flush=True)
 
 
 if __name__ == "__main__":
-    main(Path(sys.argv[1]), int(sys.argv[2]), int(sys.argv[3]), float(sys.argv[4]))
+    main(Path(sys.argv[1]), int(sys.argv[2]), int(sys.argv[3]), float(sys.argv[4]), float(sys.argv[5]))

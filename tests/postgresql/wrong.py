@@ -1,6 +1,7 @@
 """Wrong versions of smplan-pg, each of which breaks a rule: `wrong.py BUG COMMAND ..` runs one, `wrong.py` alone tries that each is found by a run.
 
-    wrong.py [--seeds 1] [--only BUG ..]      each bug in a run with the harm that shows it, and a sound run with the same seed and harm, which is clean
+    wrong.py [--seeds 3] [--first 1] [--only BUG ..]     each bug in a run whose harm brings the situation that its rule is about, and sound runs with the same
+                                                         seeds and harm, which are clean; tells how many of how many found it
 """
 import argparse
 import dataclasses
@@ -8,6 +9,7 @@ import os
 import subprocess
 import sys
 import tempfile
+import time
 from pathlib import Path
 
 HERE = Path(__file__).resolve().parent
@@ -97,24 +99,37 @@ def seal_early():
 
 
 def slot_first():
-    """A slot is committed before its data."""
-    from smplan_pg.copies import Copies
+    """The slot of an old owner is committed before its cut."""
+    from smplan.agent import Call
     from smplan_pg.orders import Orders
-    make = Copies.make
-    Copies.make = lambda self, shard, number, still, tell: None
+    store, once, deferred = Orders.store, Orders.once, {}
 
-    def commit_copy(self, shard, order, source):
-        sound(self, shard, order, source)
-        make(self.server.copies, shard, source, lambda: True, lambda _: None)
-    sound, Orders.commit_copy = Orders.commit_copy, commit_copy
+    def store_later(self, tx, shard, order, *rest):
+        if order.call == Call.PREPARE_DROP:
+            deferred[shard] = (order, *rest)
+        else:
+            store(self, tx, shard, order, *rest)
+
+    def once_and_then(self, shard, order, line):
+        once(self, shard, order, line)
+        if shard in deferred:
+            time.sleep(0.05)
+            with self.server.database.transaction() as tx:
+                store(self, tx, shard, *deferred.pop(shard))
+    Orders.store, Orders.once = store_later, once_and_then
 
 
-QUIET = ["--harm"]
+# The runs, by what comes in them. Harm that waits for a moment brings the situation in each run, not by chance.
+RUNS = {
+    "moves": ["--seconds", "12", "--harm", "ddl", "late stream", "late stream", "late copy", "--plain", "0.08"],
+    "loss": ["--servers", "4", "--wide", "--harm", "--lose", "1", "--lose-at", "0", "--seconds", "1"],
+    "cuts": ["--seconds", "15", "--harm", "cut"],
+    "back": ["--seconds", "10", "--harm", "--back", "1"],
+}
 BUGS = {
-    "no_lock": (no_lock, QUIET + ["--writers", "4", "--rest", "0.005"]), "identities": (identities, QUIET), "no_place": (no_place, ["--harm", "seal", "--rest", "0.005"]),
-    "no_followers": (no_followers, QUIET + ["--lose", "1", "--writers", "4", "--rest", "0.001"]), "sequences": (sequences, QUIET), "ddl": (ddl, ["--harm", "ddl"]),
-    "guard": (guard, QUIET), "mark": (mark, QUIET + ["--servers", "4", "--shards", "6", "--lose", "1"]), "early": (early, QUIET + ["--rows", "40000"]), "seal_early": (seal_early, QUIET + ["--rest", "0.002"]),
-    "slot_first": (slot_first, ["--harm", "copy", "--rows", "40000"]),
+    "no_lock": (no_lock, "moves"), "identities": (identities, "moves"), "sequences": (sequences, "moves"), "ddl": (ddl, "moves"), "guard": (guard, "moves"),
+    "early": (early, "moves"), "seal_early": (seal_early, "moves"), "no_followers": (no_followers, "loss"), "mark": (mark, "loss"),
+    "slot_first": (slot_first, "cuts"), "no_place": (no_place, "back"),
 }
 
 
@@ -123,22 +138,50 @@ def plant(name):
     BUGS[name][0]()
 
 
-def try_bug(name, seed, told):
-    """What is said of a run with a bug, and of the sound one of the same seed: whether it is as it should be."""
-    words = ["/usr/bin/python3", str(HERE / "run.py"), "", "--quiet", "--seed", str(seed), "--seconds", str(told.seconds), "--patience", str(told.patience),
-             "--servers", "3", "--shards", "4", "--rows", str(told.rows), *BUGS[name][1]]
-    found = {"": (0, ["not run"])}
-    for bug in (name,) if told.without_sound else (name, ""):
-        with tempfile.TemporaryDirectory(prefix="pg-wrong-", dir="/dev/shm") as folder:
-            os.chmod(folder, 0o711)
-            done = subprocess.run([*words[:2], folder + "/run", *words[3:], "--bug", bug], capture_output=True, text=True, check=False)
-        lines = done.stdout.strip().splitlines()
-        at = next((n for n, it in enumerate(lines) if it.startswith("verdict")), None)
-        found[bug] = (done.returncode, lines[at:at + 2] if at is not None else [done.stderr.strip()[-300:]])
-    is_found = found[name][0] == 1 and found[name][1][0].startswith("verdict") and "secondaries are copied" not in "".join(found[name][1])
-    is_good = is_found and found[""][0] == 0
-    print(f"{'ok  ' if is_good else 'BAD '} {name} (seed {seed}): with it {' '.join(it.strip() for it in found[name][1])[:200]}; without {found[''][1][0]}", flush=True)
-    return is_good
+def run(kind, bug, seed, told):
+    """Whether a run is clean; none if it has no verdict; and what it said."""
+    words = ["/usr/bin/python3", str(HERE / "run.py"), "", "--quiet", "--seed", str(seed), "--patience", str(told.patience), "--servers", "3", "--shards", "4",
+             "--rows", str(told.rows), "--writers", "1", "--every", "0.8", "--bug", bug, *RUNS[kind]]
+    with tempfile.TemporaryDirectory(prefix="pg-wrong-", dir="/dev/shm") as folder:
+        os.chmod(folder, 0o711)
+        try:
+            done = subprocess.run([*words[:2], folder + "/run", *words[3:]], capture_output=True, text=True, check=False, timeout=600)
+        except subprocess.TimeoutExpired:
+            return None, "no end"
+    lines = done.stdout.strip().splitlines()
+    at = next((n for n, it in enumerate(lines) if it.startswith("verdict")), None)
+    if at is None or "secondaries are copied" in done.stdout.split("verdict")[1]:
+        return None, (done.stdout + done.stderr).strip()[-300:]
+    return done.returncode == 0, " ".join(it.strip() for it in lines[at + 1:at + 3])[:200]
+
+
+class Trials:
+    """Runs with and without bugs, and what they said."""
+
+    def __init__(self, told):
+        self.told, self.sound, self.found = told, {}, {}
+
+    def try_seed(self, seed):
+        """All bugs with one seed. The sound run of a kind is made once."""
+        for kind in dict.fromkeys(BUGS[it][1] for it in self.told.only):
+            if not self.told.without_sound:
+                self.note(self.sound, kind, seed, "", run(kind, "", seed, self.told))
+            for bug in (it for it in self.told.only if BUGS[it][1] == kind):
+                self.note(self.found, bug, seed, bug, run(kind, bug, seed, self.told))
+
+    def note(self, notes, name, seed, bug, told):
+        """Stores and tells one run."""
+        notes.setdefault(name, []).append(told[0])
+        words = {True: "clean", False: "violations", None: "no verdict"}[told[0]]
+        print(f"{'ok  ' if told[0] is (not bug) else 'BAD '} {bug or 'sound'} ({BUGS[name][1] if bug else name}, seed {seed}, load {os.getloadavg()[0]:.0f}): {words} {told[1]}", flush=True)
+
+    def is_good(self):
+        """Whether nine of ten runs found each bug, and all sound runs were clean. Tells the sums."""
+        for name, its in self.sound.items():
+            print(f"sound {name}: {its.count(True)} of {len(its)} clean")
+        for name, its in self.found.items():
+            print(f"{name}: found in {its.count(False)} of {len(its)}")
+        return all(all(its) for its in self.sound.values()) and all(10 * its.count(False) >= 9 * len(its) for its in self.found.values())
 
 
 def main():
@@ -147,15 +190,17 @@ def main():
         from smplan_pg.command_line import main as command
         sys.exit(command(sys.argv[2:]))
     parser = argparse.ArgumentParser()
-    parser.add_argument("--seeds", type=int, default=1)
-    parser.add_argument("--seconds", type=float, default=20)
-    parser.add_argument("--patience", type=float, default=40)
+    parser.add_argument("--seeds", type=int, default=3)
+    parser.add_argument("--first", type=int, default=1, help="the first seed")
+    parser.add_argument("--patience", type=float, default=90)
     parser.add_argument("--rows", type=int, default=2000)
     parser.add_argument("--without-sound", action="store_true", help="do not make the sound runs")
     parser.add_argument("--only", nargs="*", default=list(BUGS))
     told = parser.parse_args()
-    bad = [name for name in told.only for seed in range(told.seeds) if not try_bug(name, seed + 1, told)]
-    sys.exit(1 if bad else 0)
+    trials = Trials(told)
+    for seed in range(told.first, told.first + told.seeds):
+        trials.try_seed(seed)
+    sys.exit(0 if trials.is_good() else 1)
 
 
 if __name__ == "__main__":

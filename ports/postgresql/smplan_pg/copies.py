@@ -103,11 +103,15 @@ class Copies:
 
     def wait(self, number: int, shard: str, mine: str, still: Still, said_of: Callable[[str], None]) -> None:
         """Waits until all tables are copied, and all that the source had executed by then is here."""
-        again, goal = 0.0, None
+        again, goal, before, since = 0.0, None, None, 0.0
         while True:
             with self.server.database.connection() as c:
                 lacking = streams.lacks_tables(c, mine)
                 position = value(c.execute("SELECT sm.position(%s)", (shard,)).fetchone())
+                now = (lacking, position, value(c.execute("SELECT sum(bytes_processed) FROM pg_stat_progress_copy").fetchone()))
+            before, since = (before, since) if now == before else (now, time.monotonic())
+            if time.monotonic() - since > 10 * self.server.limits.stalled:
+                raise Stuck("the copy does not get on: it begins anew")
             if not lacking and goal is None:
                 goal = value(self.server.peer(number).row("SELECT sm.position(%s)", shard))
             if goal is not None and position >= goal:

@@ -2,6 +2,7 @@
 from __future__ import annotations
 
 import time
+from contextlib import suppress
 from dataclasses import dataclass
 from typing import TYPE_CHECKING, Dict, List, Optional
 
@@ -25,6 +26,9 @@ STREAMS = """SELECT r.slot_name, r.active, r.wal_status = 'lost' AS is_lost, r.c
     ON r.slot_name = sm.stream(w.shard, w.server)
   WHERE r.database = current_database() AND r.slot_name ~ '^sm_.*_[0-9a-f]{8}_[0-9]+$'"""
 
+# Streams by which tables are copied, and which nobody reads now.
+UNREAD = "SELECT slot_name FROM pg_replication_slots WHERE database = current_database() AND NOT active AND slot_name ~ '^pg_[0-9]+_sync_[0-9]+_[0-9]+$'"
+
 
 @dataclass
 class Watched:
@@ -41,6 +45,7 @@ class Keeping:
     def __init__(self, server: "Server") -> None:
         self.server = server
         self.watched: Dict[str, Watched] = {}
+        self.unread: Dict[str, float] = {}
 
     def leave_out_the_dead(self) -> None:
         """A follower that has read nothing for a while, or got on with nothing for long, counts no more, and copies the shard anew; an old owner counts, dead or
@@ -113,6 +118,15 @@ class Keeping:
             there.rows(f"SELECT pg_drop_replication_slot(slot_name) {left} AND NOT active", *names)
             if not there.rows(f"SELECT 1 {left}", *names):
                 self.server.database.do("DELETE FROM sm.left_behind WHERE source = %s AND streams = %s", row["source"], row["streams"])
+
+    def drop_unread(self) -> None:
+        """Drops streams by which tables were copied and which nobody has read for long: who read them is lost, or begins anew."""
+        now = time.monotonic()
+        self.unread = {it["slot_name"]: self.unread.get(it["slot_name"], now) for it in self.server.database.rows(UNREAD)}
+        for name, since in self.unread.items():
+            if now - since > 2 * self.server.limits.dead:
+                with suppress(Stuck, psycopg.Error):
+                    streams.drop_stream(self.server.database, name, 0.0)
 
     def served(self) -> List[str]:
         """The shards whose primary this server is."""

@@ -166,15 +166,20 @@ class Server:
     # -- what goes on by itself
 
     def repeat(self, work: Callable[[], Any], seconds: float) -> None:
-        """Does something again and again."""
+        """Does something again and again. The same trouble is told once."""
+        told = ""
         while True:
             try:
                 work()
+                told = ""
             except Failure as why:
                 print(why, file=sys.stderr, flush=True)
                 os._exit(2)
             except Exception as why:  # pylint: disable=broad-exception-caught  (the next round comes)
-                self.say(type(why).__name__, str(why).strip())
+                words = f"{type(why).__name__} {why}".strip()
+                if words != told:
+                    self.say(words)
+                told = words
             time.sleep(seconds)
 
     def ask_for_slots(self) -> None:
@@ -211,7 +216,8 @@ class Server:
             elif not self.number:
                 raise Failure(f"the fleet's file names no {self.name}")
         for work, seconds in ((self.look, 2.0), (self.ask_for_slots, 0.5), (self.following.watch, 0.2), (self.following.listen, 0.5),
-                              (self.keeping.leave_out_the_dead, 1.0), (self.keeping.tidy, 2.0), (self.keeping.tidy_sources, 3.0), (self.keep_own, 1.0)):
+                              (self.keeping.leave_out_the_dead, 1.0), (self.keeping.tidy, 2.0), (self.keeping.tidy_sources, 3.0), (self.keeping.drop_unread, 2.0),
+                              (self.keep_own, 1.0)):
             threading.Thread(target=self.repeat, args=(work, seconds), daemon=True).start()
         listen(self.http or self.peers[self.number].url, self.routes, self.token, tls=None)
 
