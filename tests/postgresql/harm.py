@@ -1,5 +1,6 @@
 """What befalls servers, at moments that are waited for."""
 import contextlib
+import json
 import os
 import signal
 import threading
@@ -18,7 +19,7 @@ MOMENTS = {
     "prepared": "SELECT EXISTS (SELECT FROM sm.slots WHERE cell = 2 AND has_cut = 0 AND is_whole)",
 }
 KILLS = ("copy", "cut", "seal", "over", "order", "drop")
-KINDS = (*KILLS, "controller", "hold", "ddl", "away", "late copy", "late stream")
+KINDS = (*KILLS, "controller", "hold", "ddl", "away", "late copy", "late stream", "late commit")
 
 
 def resume(pid):
@@ -46,7 +47,8 @@ class Harm:
         """One harm of a kind, unless its moment does not come."""
         dead = 2.0 + self.fleet.dead
         works = {"controller": self.controller, "hold": lambda: self.hold(self.dice.uniform(0.5, 3.0)), "ddl": self.ddl, "away": lambda: self.away(dead),
-                 "late copy": lambda: self.delay("copy", stop), "late stream": lambda: self.delay("prepared", stop)}
+                 "late copy": lambda: self.delay("copy", stop), "late stream": lambda: self.delay("prepared", stop),
+                 "late commit": lambda: self.late_commit(stop)}
         works.get(kind, lambda: self.strike(kind, stop))()
 
     def look(self, name, moment):
@@ -67,7 +69,7 @@ class Harm:
             for name in self.dice.sample(self.present(), len(self.present())):
                 if self.look(name, moment):
                     return name
-            time.sleep(0.002)
+            time.sleep(0.005)
         return None
 
     def delay(self, moment, stop):
@@ -87,6 +89,25 @@ class Harm:
                             frozen.callback(resume, pid)
             self.count(f"late {'copy' if moment == 'copy' else 'stream'}")
             time.sleep(self.dice.uniform(0.3, 1.0))
+
+    def late_commit(self, stop):
+        """A client that knows nothing of shards writes just before a cut, and commits once the new owner has sealed; if the cut waits for it, after a while."""
+        name = self.victim("prepared", stop=stop)
+        row = name and self.looks[name].execute("SELECT shard, party FROM sm.slots WHERE cell = 2 AND has_cut = 0 AND is_whole LIMIT 1").fetchone()
+        if not row:
+            return
+        shard, owner, note, until = row[0], self.fleet.names[row[1] - 1], f"late-{time.time()}", time.monotonic() + 3.0
+        try:
+            with psycopg.connect(self.fleet.posts[owner].reach, connect_timeout=2) as c:
+                c.execute(f"INSERT INTO {shard}.notes VALUES (%s)", (note,))
+                self.count("late commit")
+                sealed = "SELECT EXISTS (SELECT FROM sm.slots WHERE shard = %s AND (has_cut = 1 OR cell <> 2))"
+                while time.monotonic() < until and not self.looks[name].execute(sealed, (shard,)).fetchone()[0]:
+                    time.sleep(0.02)
+            with (self.fleet.folder / "plain-late.jsonl").open("a") as file:
+                file.write(json.dumps([shard, note, time.time()]) + "\n")
+        except psycopg.Error:
+            pass
 
     def strike(self, moment, stop=lambda: False):
         """Kills a server, its side, or both, when a moment has come; and starts them again."""

@@ -86,9 +86,11 @@ class Run:
     # -- what goes on
 
     def harms(self):
-        """One harm after the other, with rests between."""
+        """One harm after the other, with rests between; each kind comes once before any comes again."""
+        kinds = []
         while not self.stopping.wait(self.harm.dice.uniform(0.15, 1.0) * self.told.every):
-            kind = self.harm.dice.choice(self.told.harm)
+            kinds = kinds or self.harm.dice.sample(self.told.harm, len(self.told.harm))
+            kind = kinds.pop()
             try:
                 self.harm.do(kind, self.stopping.is_set)
             except Exception as why:  # pylint: disable=broad-exception-caught

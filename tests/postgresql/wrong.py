@@ -121,7 +121,7 @@ def slot_first():
 
 # The runs, by what comes in them. Harm that waits for a moment brings the situation in each run, not by chance.
 RUNS = {
-    "moves": ["--seconds", "12", "--harm", "ddl", "late stream", "late stream", "late copy", "--plain", "0.08"],
+    "moves": ["--seconds", "12", "--harm", "ddl", "late stream", "late copy", "late commit", "--plain", "0.05"],
     "loss": ["--servers", "4", "--wide", "--harm", "--lose", "1", "--lose-at", "0", "--seconds", "1"],
     "cuts": ["--seconds", "15", "--harm", "cut"],
     "back": ["--seconds", "10", "--harm", "--back", "1"],
@@ -140,8 +140,8 @@ def plant(name):
 
 def run(kind, bug, seed, told):
     """Whether a run is clean; none if it has no verdict; and what it said."""
-    words = ["/usr/bin/python3", str(HERE / "run.py"), "", "--quiet", "--seed", str(seed), "--patience", str(told.patience), "--servers", "3", "--shards", "4",
-             "--rows", str(told.rows), "--writers", "1", "--every", "0.8", "--bug", bug, *RUNS[kind]]
+    words = ["/usr/bin/python3", str(HERE / "run.py"), "", "--quiet", "--seed", str(seed), "--patience", str(told.patience), "--servers", "3", "--shards", "3",
+             "--rows", str(told.rows), "--writers", "1", "--rest", "0.06", "--every", "0.8", "--bug", bug, *RUNS[kind]]
     with tempfile.TemporaryDirectory(prefix="pg-wrong-", dir="/dev/shm") as folder:
         os.chmod(folder, 0o711)
         try:
@@ -192,8 +192,8 @@ def main():
     parser = argparse.ArgumentParser()
     parser.add_argument("--seeds", type=int, default=3)
     parser.add_argument("--first", type=int, default=1, help="the first seed")
-    parser.add_argument("--patience", type=float, default=90)
-    parser.add_argument("--rows", type=int, default=2000)
+    parser.add_argument("--patience", type=float, default=120)
+    parser.add_argument("--rows", type=int, default=1000)
     parser.add_argument("--without-sound", action="store_true", help="do not make the sound runs")
     parser.add_argument("--only", nargs="*", default=list(BUGS))
     told = parser.parse_args()

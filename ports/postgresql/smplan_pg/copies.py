@@ -49,7 +49,7 @@ class Copies:
             with self.server.database.connection() as c:
                 mine, publication = streams.name_of(c, shard, self.server.number), streams.name_of(c, shard)
             streams.drop_stream(there, mine)
-            check(still)
+            self.begin_stream(there, mine, still, said_of)
             self.copy_schema(there, shard)
             reach = self.server.peers[number].reach
             with self.server.database.connection() as c:
@@ -69,6 +69,17 @@ class Copies:
             said_of("waits for other copies")
             check(still)
             time.sleep(0.2)
+
+    def begin_stream(self, there: Database, mine: str, still: Still, said_of: Callable[[str], None]) -> None:
+        """Makes a stream at its source, which waits for the transactions that run there. (No transaction is open here meanwhile, as by CREATE SUBSCRIPTION:
+        two servers that copy from each other would wait for ever.)"""
+        while True:
+            check(still)
+            try:
+                there.row("SELECT pg_create_logical_replication_slot(%s, 'pgoutput')", mine)
+                return
+            except psycopg.errors.QueryCanceled:
+                said_of("waits for transactions that are open at the source")
 
     def clear(self, shard: str, number: int) -> None:
         """Deletes what an attempt before has left, and the old copy of a follower; never a schema that it did not make."""

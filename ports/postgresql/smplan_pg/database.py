@@ -28,8 +28,8 @@ def unsigned(number: int) -> int:
     return number + (1 << 64) if number < 0 else number
 
 
-# How smplan-pg itself connects: guards let it pass, and what it stores is durable.
-OWN = "-c sm.own=on -c synchronous_commit=local"
+# How smplan-pg itself connects: guards let it pass, what it stores is durable, and what it waits for ends soon after it.
+OWN = "-c sm.own=on -c synchronous_commit=local -c client_connection_check_interval=1000"
 
 # A connection that has rested for so long, in seconds, is tried before it is used.
 RESTED = 1.0

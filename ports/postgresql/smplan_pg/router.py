@@ -27,6 +27,9 @@ Work = Callable[[psycopg.Cursor], Any]
 # What may be over when a request is sent again: the server is gone, or has ended the session, or two transactions were in each other's way.
 PASSING = (psycopg.OperationalError, psycopg.InterfaceError)
 
+# The shortest rest between two tries, the longest while a handover may be the reason, and the longest behind HANDOVER, in seconds.
+SHORTEST, LONGEST, LONGEST_LATER, HANDOVER = 0.003, 0.02, 0.15, 1.0
+
 
 class NotServed(Exception):
     """A request could not be executed within its patience. It may have been: send it again under its identity."""
@@ -71,8 +74,8 @@ class Router:
 
     def send(self, shard: str, identity: Optional[str], work: Work) -> Any:
         """Tries until it is done."""
-        until, onward = time.monotonic() + self.patience, None
-        while time.monotonic() < until:
+        begun, onward, pause = time.monotonic(), None, SHORTEST
+        while time.monotonic() < begun + self.patience:
             place = onward or self.place(shard)
             try:
                 told = Told(NOT_HERE) if place is None else self.once(place, shard, identity, work)
@@ -86,7 +89,8 @@ class Router:
             if told.answer == NOT_HERE:
                 self.listed.pop(shard, None)
             if told.answer != PASS_ON:
-                time.sleep(0.002 + random.random() * 0.004)
+                time.sleep(pause * (0.5 + random.random()))
+                pause = min(1.3 * pause, LONGEST if time.monotonic() < begun + HANDOVER else LONGEST_LATER)
         raise NotServed(f"{shard}: not within {self.patience:g} s")
 
     def place(self, shard: str) -> Optional[Onward]:

@@ -59,16 +59,19 @@ def halt(database: Database, name: str, seconds: float = 3.0) -> None:
 
 
 def drop_subscription(tx: Connection, name: str) -> None:
-    """Drops a subscription. A transaction that may end otherwise halts it before: its place is forgotten even if the transaction is rolled back."""
+    """Drops a subscription. A transaction that may end otherwise halts it before: its place is forgotten even if the transaction is rolled back.
+    (If tables are not copied yet, DROP SUBSCRIPTION would ask the source to drop their streams, and wait while these wait for transactions there: two
+    servers that copy from each other would wait for ever. So it finds no source.)"""
     if has_subscription(tx, name):
         tx.execute(said("ALTER SUBSCRIPTION {} DISABLE", name))
         tx.execute(said("ALTER SUBSCRIPTION {} SET (slot_name = NONE)", name))
+        tx.execute(said("ALTER SUBSCRIPTION {} CONNECTION 'host=/nowhere'", name))
         tx.execute(said("DROP SUBSCRIPTION {}", name))
 
 
 def follow(c: Connection, name: str, publication: str, reach: str) -> None:
-    """Copies all that a publication has, and follows it."""
-    c.execute(said("CREATE SUBSCRIPTION {} CONNECTION {reach} PUBLICATION {} WITH (slot_name = {name}, synchronous_commit = 'local')",
+    """Copies all that a publication has, and follows it by a stream that is there already."""
+    c.execute(said("CREATE SUBSCRIPTION {} CONNECTION {reach} PUBLICATION {} WITH (slot_name = {name}, create_slot = false, synchronous_commit = 'local')",
                    name, publication, reach=reach, name=name))
 
 

@@ -1,0 +1,117 @@
+"""bench.py FOLDER [--shards 12] [--rows 20000] [--copies 1] [--rest 0.03]: one of four PostgreSQL servers is drained while clients write; tells how long that
+takes, for how long shards' writes pause at their handover and beside those of others, and what pg_dump | psql of one such schema takes.
+
+A pause is the longest time without an acknowledged write of a shard. Exit status 1: something was lost, or the drain did not end.
+"""
+import argparse
+import os
+import signal
+import subprocess
+import sys
+import time
+from pathlib import Path
+
+import checker
+import run as runs
+from servers import BIN
+from story import handovers
+
+# How far around its handover a shard's pause is looked for, in seconds.
+AROUND = (1.0, 5.0)
+
+
+class Bench(runs.Run):
+    """One drain."""
+
+    def moves(self, _):
+        self.before, begun = os.getloadavg()[0], time.time()
+        self.say("drain a")
+        self.status = self.command("drain", "a", "--batch", "2", "--pause", "0.2", seconds=7200.0)
+        self.drain, self.after = (begun, time.time()), os.getloadavg()[0]
+
+    def cuts(self):
+        """When shards were cut, from the servers' logs."""
+        found = {}
+        for path in self.fleet.folder.glob("serve-*.log"):
+            for line in path.read_text().splitlines():
+                words = line.split()
+                if words[2:3] == ["prepare_drop"] and words[-1] == "done":
+                    found.setdefault(words[3], []).append(float(words[0]))
+        return found
+
+    def report(self, by_shard):
+        """What the drain took, and how long writes paused."""
+        begun, ended = self.drain
+        cuts = self.cuts()
+        print(machine(self.fleet.folder), f"; load {self.before:.1f} before, {self.after:.1f} after", sep="")
+        size = self.fleet.posts[self.fleet.names[1]].query("SELECT pg_database_size(current_database()) >> 20")[0][0]
+        print(f"{len(by_shard)} shards of {self.size} MB, {len(self.fleet.names)} servers, {self.told.option}; a server's database has {size} MB in the end")
+        print(f"drain: {ended - begun:.1f} s, status {self.status}; {sum(map(len, by_shard.values()))} acknowledged writes")
+        print(told("at rest", [checker.gaps_of(rows, *self.spans["rest"][0]) for rows in by_shard.values()]))
+        print(told("at their handover", [max(checker.gaps_of(by_shard[it], at - AROUND[0], at + AROUND[1]) for at in ats) for it, ats in cuts.items()]))
+        moved = {it for it in by_shard if it in cuts or "a" in self.cells[it]}
+        print(told("of shards that do not move", [checker.gaps_of(rows, begun, ended) for it, rows in by_shard.items() if it not in moved]))
+        for title, times in handovers(self.fleet.folder).items():
+            print(told(title, times))
+        print(f"pg_dump | psql of one schema: {self.dump():.1f} s")
+
+    def dump(self):
+        """How long pg_dump | psql of one schema takes."""
+        shard = self.fleet.shards[0]
+        state = self.fleet.ask({"do": "state"})["state"]
+        owner = next(cell["server"] for it in state["shards"] if it["shard"] == shard for cell in it["cells"] if cell["state"] == "primary")
+        there = next(it for it in self.fleet.names if it != owner)
+        self.fleet.posts[there].query("CREATE DATABASE dumped")
+        ports = [self.fleet.posts[it].port for it in (owner, there)]
+        begun = time.monotonic()
+        words = "{0}/pg_dump -h 127.0.0.1 -p {1} -U postgres -n {3} --exclude-table='{3}.sm_*' --no-publications postgres | {0}/psql -qX -h 127.0.0.1 -p {2} -U postgres dumped"
+        subprocess.run(words.format(BIN, *ports, shard), shell=True, stdout=subprocess.DEVNULL, stderr=subprocess.DEVNULL, check=False)
+        return time.monotonic() - begun
+
+    def make(self):
+        document = super().make()
+        self.size = document["shards"][0]["load"]
+        return document
+
+
+def told(title, times):
+    """Median and longest of times, in words."""
+    its = sorted(it * 1e3 for it in times)
+    return f"{title}: median {its[len(its) // 2]:.0f} ms, longest {its[-1]:.0f} ms of {len(its)}" if its else f"{title}: none"
+
+
+def machine(folder):
+    """What the machine is."""
+    model = next((it.split(":")[1].strip() for it in Path("/proc/cpuinfo").read_text().splitlines() if it.startswith("model name")), "?")
+    memory = int(Path("/proc/meminfo").read_text().split()[1]) >> 20
+    disk = subprocess.run(["df", "--output=fstype", str(folder)], capture_output=True, text=True, check=False).stdout.split()[-1]
+    return f"{os.cpu_count()} processors ({model}), {memory} GB, {disk}"
+
+
+def main():
+    signal.signal(signal.SIGTERM, lambda *_: sys.exit(143))
+    parser = argparse.ArgumentParser()
+    parser.add_argument("folder")
+    for name, value in (("--shards", "12"), ("--rows", "20000"), ("--copies", "1"), ("--rest", "0.03"), ("--writers", "1"), ("--patience", "1200")):
+        parser.add_argument(name, default=value)
+    given = parser.parse_args()
+    sys.argv = ["run.py", given.folder, "--harm", "--seconds", "40", "--seed", "1", f"--option=--copies={given.copies}"]
+    for name in ("shards", "rows", "rest", "writers", "patience"):
+        sys.argv += [f"--{name}", getattr(given, name)]
+    bench = Bench(runs.arguments())
+    try:
+        wrong = bench.run()
+        wrong += [] if bench.status == 0 else [f"the drain ended with {bench.status}"]
+    except TimeoutError as why:
+        wrong = [str(why)]
+    finally:
+        (bench.fleet.folder / "stop").touch()
+        bench.fleet.close()
+        for it in bench.writers:
+            it.kill()
+    print(f"verdict: {len(wrong)} violations", *wrong[:20], sep="\n  ", flush=True)
+    os._exit(1 if wrong else 0)
+
+
+if __name__ == "__main__":
+    main()
