@@ -8,6 +8,9 @@ import time
 
 import psycopg
 
+# The shards that a server copies, or that are copied from it, or that it hands over.
+MOVES = "SELECT shard FROM sm.copied WHERE seen > clock_timestamp() - interval '8 s' UNION SELECT shard FROM sm.slots WHERE cell IN (2, 5)"
+
 # When a moment has come to a server; `drop`: a schema is dropped in a transaction that has not ended.
 MOMENTS = {
     "copy": "SELECT EXISTS (SELECT FROM pg_subscription_rel WHERE srsubstate <> 'r')",
@@ -16,6 +19,7 @@ MOMENTS = {
     "over": "SELECT EXISTS (SELECT FROM sm.slots WHERE cell = 5 AND source IS NOT NULL)",
     "order": "SELECT EXISTS (SELECT FROM sm.slots WHERE at_work <> 0)",
     "drop": "SELECT EXISTS (SELECT FROM pg_locks WHERE locktype = 'object' AND mode = 'AccessExclusiveLock' AND granted AND classid = 'pg_namespace'::regclass)",
+    "moves": f"SELECT EXISTS ({MOVES})",
     "prepared": "SELECT EXISTS (SELECT FROM sm.slots WHERE cell = 2 AND has_cut = 0 AND is_whole)",
 }
 KILLS = ("copy", "cut", "seal", "over", "order", "drop")
@@ -46,7 +50,7 @@ class Harm:
     def do(self, kind, stop=lambda: False):
         """One harm of a kind, unless its moment does not come."""
         dead = 2.0 + self.fleet.dead
-        works = {"controller": self.controller, "hold": lambda: self.hold(self.dice.uniform(0.5, 3.0)), "ddl": self.ddl, "away": lambda: self.away(dead),
+        works = {"controller": self.controller, "hold": lambda: self.hold(self.dice.uniform(0.5, 3.0)), "ddl": lambda: self.ddl(stop), "away": lambda: self.away(dead),
                  "late copy": lambda: self.delay("copy", stop), "late stream": lambda: self.delay("prepared", stop),
                  "late commit": lambda: self.late_commit(stop)}
         works.get(kind, lambda: self.strike(kind, stop))()
@@ -168,21 +172,22 @@ class Harm:
             except psycopg.Error:
                 continue
 
-    def ddl(self):
+    def ddl(self, stop):
         """Somebody changes the schema of a shard that moves: it has to be refused."""
-        moves = ("SELECT shard FROM sm.copied WHERE seen > clock_timestamp() - interval '8 s' UNION SELECT shard FROM sm.slots WHERE cell IN (2, 5)")
-        for name in self.present():
-            try:
-                with psycopg.connect(self.fleet.posts[name].reach, connect_timeout=2) as c:
-                    for (shard,) in c.execute(moves).fetchall():
-                        self.count("ddl")
-                        c.execute("SET lock_timeout = '200ms'")
-                        c.execute(f"ALTER TABLE {shard}.accounts ADD COLUMN other int")
-                        if (shard,) in c.execute(moves).fetchall():
-                            self.wrong.append(f"the schema of {shard} was changed at {name} while it moves")
-                    c.rollback()
-            except psycopg.Error:
-                continue
+        name = self.victim("moves", stop=stop)
+        if name is None:
+            return
+        try:
+            with psycopg.connect(self.fleet.posts[name].reach, connect_timeout=2) as c:
+                for (shard,) in c.execute(MOVES).fetchall():
+                    self.count("ddl")
+                    c.execute("SET lock_timeout = '200ms'")
+                    c.execute(f"ALTER TABLE {shard}.accounts ADD COLUMN other int")
+                    if (shard,) in c.execute(MOVES).fetchall():
+                        self.wrong.append(f"the schema of {shard} was changed at {name} while it moves")
+                c.rollback()
+        except psycopg.Error:
+            pass
 
     def is_followed(self, name):
         """Whether each shard that a server serves has a follower that counts."""

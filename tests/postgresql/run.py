@@ -17,11 +17,33 @@ from harm import KINDS, Harm
 from servers import Fleet
 
 HERE = Path(__file__).resolve().parent
+
+# Who gets a smaller share of a processor is too slow for a verdict on what comes too late.
+SLOW = 0.3
 TABLES = """CREATE SCHEMA {0};
 CREATE TABLE {0}.accounts (id int PRIMARY KEY, balance bigint NOT NULL DEFAULT 0, filler text);
 CREATE TABLE {0}.history (id bigserial PRIMARY KEY, request text NOT NULL, account int NOT NULL, delta int NOT NULL);
 CREATE TABLE {0}.notes (id text PRIMARY KEY);
 INSERT INTO {0}.accounts SELECT it, 0, repeat(md5(it::text), 9) FROM generate_series(1, {1}) it;"""
+
+
+class Share(threading.Thread):
+    """Which share of a processor a thread gets that wants it all, looked at each second."""
+
+    def __init__(self):
+        super().__init__(daemon=True)
+        self.shares = []
+
+    def run(self):
+        while True:
+            begun, used = time.monotonic(), time.thread_time()
+            while time.thread_time() < used + 0.01:
+                pass
+            self.shares.append(0.01 / max(0.01, time.monotonic() - begun))
+            time.sleep(1.0)
+
+    def mean(self):
+        return sum(self.shares) / max(1, len(self.shares))
 
 
 class Run:
@@ -35,7 +57,8 @@ class Run:
         self.fleet.dead = told.dead
         self.harm = Harm(self.fleet, random.Random(f"{told.seed} harm"), self.say)
         self.stopping = threading.Event()
-        self.writers, self.spans, self.drained = [], {}, None
+        self.writers, self.spans, self.drained, self.share = [], {}, None, Share()
+        self.share.start()
 
     def say(self, *words):
         """Tells what happens."""
@@ -98,8 +121,8 @@ class Run:
 
     def moves(self, until):
         """Drains one server after the other, and repairs what shards lack."""
-        begun, loses = time.time(), self.told.lose
-        while time.time() < until:
+        begun, loses, done = time.time(), self.told.lose, 0
+        while time.time() < until or (done < self.told.drains and time.time() < begun + self.told.patience):
             if loses and time.time() > begun + (until - begun) * self.told.lose_at:
                 name = self.to_lose()
                 self.harm.lose(name)
@@ -110,13 +133,16 @@ class Run:
             if self.dice.random() < self.told.back:
                 name = self.dice.choice(self.harm.present())
                 words = ["restart", name, "--no-primaries", "--by", "storm", "--yes", "--wait", "20", "--", "true"]
-                self.say(f"others lead for {name}, and give back: {self.command(*words, seconds=40.0)}")
+                status = self.command(*words, seconds=self.told.patience)
+                done += status == 0
+                self.say(f"others lead for {name}, and give back: {status}")
                 continue
             name = self.next_to_drain()
             words = ["drain", name, "--batch", "2", "--pause", "0.2", "--stop", "20"] + (["--prefer-secondary"] if self.dice.random() < self.told.roles else [])
             self.say(*words[:2], *(words[8:]))
             at = time.time()
-            status = self.command(*words, seconds=max(5.0, min(until - time.time() + 10, self.told.seconds / 3)))
+            status = self.command(*words, seconds=self.told.patience if self.told.drains else max(5.0, min(until - time.time() + 10, self.told.seconds / 3)))
+            done += status == 0
             self.say(f"drain of {name} ended with {status}")
             self.spans.setdefault("drains", []).append((at, time.time()))
 
@@ -214,6 +240,7 @@ class Run:
             rest = checker.gaps_of(rows, *self.spans["rest"][0])
             drain = max((checker.gaps_of(rows, *it) for it in self.spans.get("drains", [])), default=0.0)
             print(f"{shard}: {len(rows)} acknowledged; longest time without one: {rest * 1e3:.0f} ms at rest, {drain * 1e3:.0f} ms while shards moved")
+        print(f"load {os.getloadavg()[0]:.0f}; share of a processor {self.share.mean():.2f}")
         print("harm:", dict(self.harm.counts), "messages:", {it: dict(counts) for it, counts in self.fleet.proxied.items()})
         for n in range(len(self.writers)):
             print((self.fleet.folder / f"writers-{n}.log").read_text().strip()[-300:])
@@ -238,6 +265,7 @@ def arguments():
     parser.add_argument("--back", type=float, default=0.0, help="the share of moves in which others lead for a server, and give back at once")
     parser.add_argument("--lose", type=int, default=0)
     parser.add_argument("--lose-at", type=float, default=0.5, help="the share of the time behind which a server is lost")
+    parser.add_argument("--drains", type=int, default=0, help="so many drains have to end, however long it takes")
     parser.add_argument("--roles", type=float, default=0.4, help="the share of drains that change roles first")
     parser.add_argument("--dead", type=float, default=4.0)
     parser.add_argument("--patience", type=float, default=120.0)
@@ -266,7 +294,8 @@ def main():
         for it in run.writers:
             it.kill()
     print(f"verdict: {len(wrong)} violations (seed {told.seed})", *wrong[:20], sep="\n  ", flush=True)
-    os._exit(1 if wrong else 0)
+    is_late = all(it.endswith(": not served") or it.startswith("not within ") for it in wrong)
+    os._exit(0 if not wrong else 4 if is_late and run.share.mean() < SLOW else 1)
 
 
 if __name__ == "__main__":

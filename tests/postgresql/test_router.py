@@ -3,6 +3,7 @@ import json
 import os
 import shutil
 import signal
+import subprocess
 import tempfile
 import time
 import unittest
@@ -167,6 +168,78 @@ class RouterTest(Case):
         self.router.patience = 0.2
         with self.assertRaises(NotServed):
             self.router.run("s", "r1", add(5))
+
+
+GOCODE = Path("/usr/share/gocode")
+
+
+@unittest.skipUnless(shutil.which("go") and (GOCODE / "src/github.com/lib/pq").exists(), "there is no go, or no golang-github-lib-pq-dev")
+class GoTest(Case):
+    """The router in Go, over lib/pq."""
+
+    @classmethod
+    def setUpClass(cls):
+        here = FOLDER / "go/src/hammerecru.example/smplan-pg"
+        here.mkdir(parents=True)
+        for path in (servers.ROOT / "ports/postgresql/go").glob("*.go"):
+            shutil.copy(path, here)
+        cls.environment = {**os.environ, "GOPATH": f"{FOLDER}/go:{GOCODE}", "GO111MODULE": "off", "GOCACHE": f"{FOLDER}/cache", "GOFLAGS": ""}
+        main = Path(__file__).parent / "go/main.go"
+        for words in (["go", "vet", str(here)], ["go", "build", "-o", str(FOLDER / "requests"), str(main)]):
+            subprocess.run(words, env=cls.environment, cwd=FOLDER, check=True)
+
+    def setUp(self):
+        super().setUp()
+        words = [str(FOLDER / "requests"), str(self.map), *(f"{name}={reach} sslmode=disable" for name, reach in REACH.items())]
+        self.process = subprocess.Popen(words, stdin=subprocess.PIPE, stdout=subprocess.PIPE, text=True)
+
+    def tearDown(self):
+        self.process.stdin.close()
+        self.process.wait()
+        self.process.stdout.close()
+        super().tearDown()
+
+    def ask(self, identity, n, statement="UPDATE sums SET n = n + $1 WHERE id = 1 RETURNING n", patience=3.0):
+        self.process.stdin.write(json.dumps({"Shard": "s", "Identity": identity, "N": n, "Statement": statement, "Patience": patience}) + "\n")
+        self.process.stdin.flush()
+        told = json.loads(self.process.stdout.readline())
+        return told["reply"] if told["error"] == "<nil>" else told["error"]
+
+    def test_executed_once_and_read(self):
+        self.assertEqual([self.ask(it, 5) for it in ("r1", "r1", "r2", "r1")], [5, 5, 10, 5])
+        self.assertEqual(self.ask("", 1, "SELECT n + $1 FROM sums"), 11)
+
+    def test_passed_on_behind_a_cut_that_is_reached(self):
+        self.slots(a=Slot(Cell.FORWARDING, 2, 1, load=1, cut=0, has_cut=1), b=Slot(Cell.PREPARED, 1, 1, load=1))
+        self.assertIn("not served", self.ask("r1", 5, patience=0.5))
+        self.slots(b=Slot(Cell.PREPARED, 1, 1, load=1, cut=0, has_cut=1))
+        self.assertEqual(self.ask("r1", 5), 5)
+        self.assertEqual((self.sum("a"), self.sum("b")), (0, 5))
+
+    def test_the_map_is_looked_at_again(self):
+        self.ask("r1", 5)
+        self.slots(a=Slot(Cell.ABSENT), b=Slot(Cell.PRIMARY, load=1))
+        self.show("b")
+        self.assertEqual(self.ask("r2", 1), 1)
+
+    def test_connections_that_were_ended_are_replaced(self):
+        self.ask("r1", 5)
+        POST.query("SELECT pg_terminate_backend(pid) FROM pg_stat_activity WHERE datname = 'a' AND application_name = ''")
+        self.assertEqual([self.ask(it, 5) for it in ("r1", "r2")], [5, 10])
+
+    def test_not_acknowledged_until_the_members_have_it(self):
+        with DATABASES["a"].transaction() as tx:
+            Records(tx).put_members("s", {2: False})
+        try:
+            self.assertIn("not served", self.ask("r1", 5, patience=0.5))
+        finally:
+            with DATABASES["a"].transaction() as tx:
+                Records(tx).put_members("s", {})
+        self.assertEqual((self.ask("r1", 5), self.sum("a")), (5, 5))
+
+    def test_what_the_work_raises_comes_back_and_changes_nothing(self):
+        self.assertIn("duplicate key", self.ask("r1", 1, "INSERT INTO sums VALUES ($1, 0) RETURNING n"))
+        self.assertEqual(self.ask("r1", 5), 5)
 
 
 @unittest.skipUnless(shutil.which("pgbouncer", path=f"{os.environ['PATH']}:/usr/sbin"), "there is no pgbouncer")

@@ -1,0 +1,3 @@
+module hammerecru.example/smplan-pg
+
+go 1.18
