@@ -22,6 +22,12 @@ MOMENTS = {
     "moves": f"SELECT EXISTS ({MOVES})",
     "prepared": "SELECT EXISTS (SELECT FROM sm.slots WHERE cell = 2 AND has_cut = 0 AND is_whole)",
 }
+# Of what stands still: the shard, and the name of its stream.
+LATE = {
+    "copy": "SELECT nspname, format('pg\\_%s\\_sync\\_%s\\_%%', srsubid, srrelid) FROM pg_subscription_rel JOIN pg_class c ON c.oid = srrelid JOIN pg_namespace n "
+            "ON n.oid = relnamespace WHERE relname = 'accounts' AND srsubstate <> 'r'",
+    "prepared": "SELECT shard, sm.stream(shard, me) FROM sm.slots, sm.state WHERE cell = 2 AND has_cut = 0 AND is_whole",
+}
 KILLS = ("copy", "cut", "seal", "over", "order", "drop")
 KINDS = (*KILLS, "controller", "hold", "ddl", "away", "late copy", "late stream", "late commit")
 
@@ -77,22 +83,27 @@ class Harm:
         return None
 
     def delay(self, moment, stop):
-        """What a server copies, or what it would follow to the cut of a handover, stands still for a moment."""
-        name = self.victim(moment, stop=stop)
-        if name is None:
+        """A table that a server copies, or what it would follow to the cut of a handover, stands still: until it has sealed all the same, or for a while."""
+        name, until = self.victim(moment, stop=stop), time.monotonic() + self.fleet.late
+        row = name and self.looks[name].execute(LATE[moment]).fetchone()
+        if not row:
             return
-        number = 1 + self.fleet.names.index(name)
-        streams = ("SELECT pid FROM pg_stat_replication WHERE application_name LIKE 'pg\\_%\\_sync\\_%'" if moment == "copy" else
-                   f"SELECT active_pid FROM pg_replication_slots WHERE active AND slot_name LIKE 'sm\\_%\\_{number}'")
+        shard, stream = row
+        reads = f"SELECT active_pid FROM pg_replication_slots WHERE active AND slot_name LIKE '{stream}'"
         with self.lock, contextlib.ExitStack() as frozen:
-            for source in set(self.present()) - {name}:
-                with contextlib.suppress(psycopg.Error):
-                    for (pid,) in self.fleet.posts[source].query(streams):
-                        with contextlib.suppress(OSError):
-                            os.kill(pid, signal.SIGSTOP)
+            found = []
+            while not found and time.monotonic() < until and not stop():
+                for source in set(self.present()) - {name}:
+                    with contextlib.suppress(psycopg.Error, OSError):
+                        for (pid,) in self.fleet.posts[source].query(reads):
                             frozen.callback(resume, pid)
-            self.count(f"late {'copy' if moment == 'copy' else 'stream'}")
-            time.sleep(self.dice.uniform(0.3, 1.0))
+                            os.kill(pid, signal.SIGSTOP)
+                            found.append(pid)
+            if found:
+                self.count(f"late {'copy' if moment == 'copy' else 'stream'}")
+            serves = f"SELECT EXISTS (SELECT FROM sm.slots WHERE shard = '{shard}' AND (cell = 4 OR has_cut = 1))"
+            while found and time.monotonic() < until and not self.fleet.posts[name].query(serves)[0][0]:
+                time.sleep(0.05)
 
     def late_commit(self, stop):
         """A client that knows nothing of shards writes just before a cut, and commits once the new owner has sealed; if the cut waits for it, after a while."""

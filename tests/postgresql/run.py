@@ -54,7 +54,7 @@ class Run:
         names = [chr(ord("a") + it) for it in range(told.servers)]
         self.fleet = Fleet(told.folder, names, told.shards, options=["--dead", str(told.dead), *told.option], harm=told.messages, seed=told.seed, bug=told.bug,
                            controllers=told.controllers)
-        self.fleet.dead = told.dead
+        self.fleet.dead, self.fleet.late = told.dead, told.late
         self.harm = Harm(self.fleet, random.Random(f"{told.seed} harm"), self.say)
         self.stopping = threading.Event()
         self.writers, self.spans, self.drained, self.share = [], {}, None, Share()
@@ -132,10 +132,9 @@ class Run:
                 loses = 0
             if self.dice.random() < self.told.back:
                 name = self.dice.choice(self.harm.present())
-                words = ["restart", name, "--no-primaries", "--by", "storm", "--yes", "--wait", "20", "--", "true"]
-                status = self.command(*words, seconds=self.told.patience)
+                status = self.lead_away(name)
                 done += status == 0
-                self.say(f"others lead for {name}, and give back: {status}")
+                self.say(f"others lead for {name} while it is killed and starts again, and give back: {status}")
                 continue
             name = self.next_to_drain()
             words = ["drain", name, "--batch", "2", "--pause", "0.2", "--stop", "20"] + (["--prefer-secondary"] if self.dice.random() < self.told.roles else [])
@@ -145,6 +144,24 @@ class Run:
             done += status == 0
             self.say(f"drain of {name} ended with {status}")
             self.spans.setdefault("drains", []).append((at, time.time()))
+
+    def lead_away(self, name):
+        """Others lead for a server, which is killed and starts again once that is allowed; and they give back."""
+        asked = self.fleet.folder / "restart"
+        process = self.fleet.command("restart", name, "--no-primaries", "--by", "storm", "--yes", "--wait", "20", "--", "sh", "-c",
+                                     f"touch {asked}; while [ -e {asked} ]; do sleep 0.05; done")
+        until = time.monotonic() + self.told.patience
+        while process.poll() is None and time.monotonic() < until:
+            if asked.exists():
+                with self.harm.lock:
+                    self.fleet.posts[name].kill()
+                    self.harm.revive(name)
+                asked.unlink()
+            time.sleep(0.05)
+        asked.unlink(missing_ok=True)
+        if process.poll() is None:
+            process.kill()
+        return process.wait()
 
     def to_lose(self):
         """A server that is lost for good: one that serves most, so that there is something to lose."""
@@ -263,6 +280,7 @@ def arguments():
     parser.add_argument("--plain", type=float, default=0.0, help="a client that knows nothing of shards for each, and for how long it leaves a transaction open")
     parser.add_argument("--wide", action="store_true", help="all shards want three replicas")
     parser.add_argument("--back", type=float, default=0.0, help="the share of moves in which others lead for a server, and give back at once")
+    parser.add_argument("--late", type=float, default=1.5, help="for how long a copy or a stream stands still, in seconds")
     parser.add_argument("--lose", type=int, default=0)
     parser.add_argument("--lose-at", type=float, default=0.5, help="the share of the time behind which a server is lost")
     parser.add_argument("--drains", type=int, default=0, help="so many drains have to end, however long it takes")

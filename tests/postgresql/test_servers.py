@@ -2,6 +2,9 @@
 import itertools
 import os
 import shutil
+import socketserver
+import struct
+import subprocess
 import tempfile
 import threading
 import time
@@ -331,6 +334,29 @@ class StreamTest(Case):
         streams.drop_stream(DATABASE, name)
 
 
+    def test_dropped_while_the_copy_of_a_table_waits_at_the_source(self):
+        POST.query("CREATE DATABASE far")
+        far = POST.reach.replace("dbname=postgres", "dbname=far")
+        with psycopg.connect(far, autocommit=True) as there, psycopg.connect(far) as other:
+            there.execute(f"CREATE SCHEMA {self.shard}; CREATE TABLE {self.shard}.things (id int PRIMARY KEY, word text); CREATE PUBLICATION p FOR TABLE {self.shard}.things")
+            there.execute("SELECT pg_create_logical_replication_slot('sm_far', 'pgoutput')")
+            other.execute("SELECT txid_current()")
+            with DATABASE.connection() as c:
+                streams.follow(c, "sm_far", "p", far)
+                while not c.execute("SELECT FROM pg_replication_slots WHERE slot_name LIKE 'pg#_%' ESCAPE '#'").fetchall():
+                    time.sleep(0.02)
+            streams.halt(DATABASE, "sm_far", 30.0)
+            begun = time.monotonic()
+            with DATABASE.transaction() as tx:
+                tx.execute("SET LOCAL statement_timeout = '20s'")
+                streams.drop_subscription(tx, "sm_far")
+            self.assertLess(time.monotonic() - begun, 20.0)
+            other.rollback()
+            database = Database(far)
+            streams.drop_stream(database, "sm_far", 30.0)
+            database.close()
+
+
 class SchemaTest(Case):
     """Changes of a schema."""
 
@@ -448,34 +474,97 @@ class WholeTest(Case):
         self.assertEqual((self.server.whole.tell_base({}), self.slot(), self.has()), ({"base": None}, [], True))
 
 
+class OldServer(socketserver.BaseRequestHandler):
+    """Enough of a server of PostgreSQL 14 to be asked for its version; it notes all statements."""
+
+    statements = []
+
+    def send(self, kind, body):
+        self.request.sendall(kind + struct.pack("!i", len(body) + 4) + body)
+
+    def read(self, count):
+        parts = b""
+        while len(parts) < count:
+            part = self.request.recv(count - len(parts))
+            if not part:
+                raise ConnectionError
+            parts += part
+        return parts
+
+    def handle(self):
+        try:
+            while struct.unpack("!i", self.read(struct.unpack("!i", self.read(4))[0] - 4)[:4])[0] != 3 << 16:
+                self.request.sendall(b"N")  # (neither TLS nor GSS)
+            self.send(b"R", struct.pack("!i", 0))
+            for name, told in ((b"server_version", b"14.11"), (b"client_encoding", b"UTF8"), (b"standard_conforming_strings", b"on")):
+                self.send(b"S", name + b"\0" + told + b"\0")
+            self.send(b"Z", b"I")
+            while (kind := self.read(1)) != b"X":
+                self.answer(kind, self.read(struct.unpack("!i", self.read(4))[0] - 4))
+        except OSError:
+            pass
+
+    def answer(self, kind, body):
+        if kind in (b"P", b"Q"):
+            self.statement = body.strip(b"\0").split(b"\0")[0].decode()
+            self.statements.append(self.statement)
+        shows = self.statement.startswith("SHOW")
+        if kind in (b"D", b"Q") and shows:
+            self.send(b"T", struct.pack("!h", 1) + b"it\0" + struct.pack("!ihihih", 0, 0, 25, -1, -1, 0))
+        elif kind == b"D":
+            self.send(b"n", b"")
+        if kind in (b"E", b"Q"):
+            if shows:
+                self.send(b"D", struct.pack("!hi", 1, 6) + b"140011")
+            self.send(b"C", self.statement.split()[0].encode() + b"\0")
+            self.state = b"I" if self.statement.startswith(("COMMIT", "ROLLBACK")) else b"T"
+        if kind in (b"P", b"B"):
+            self.send(b"1" if kind == b"P" else b"2", b"")
+        if kind in (b"S", b"Q"):
+            self.send(b"Z", self.state)
+
+
 class RefusedServerTest(unittest.TestCase):
     """Servers on which nothing is changed."""
 
+    def refusals(self, reach):
+        """What the commands say that would change something."""
+        for words in (["adopt", "public"], ["serve", "--name", "a", "--controller", "http://127.0.0.1:1"]):
+            told = subprocess.run([str(servers.ROOT / "ports/postgresql/smplan-pg"), *words, "--dsn", reach], capture_output=True, text=True, check=False, timeout=60)
+            self.assertEqual((told.returncode, told.stdout), (1, ""), told.stderr)
+            yield told.stderr
+
     def test_no_superuser(self):
         POST.query("CREATE ROLE small LOGIN")
-        POST.query("CREATE DATABASE other")
-        database = Database(POST.reach.replace("user=postgres", "user=small").replace("dbname=postgres", "dbname=other"))
-        with self.assertRaisesRegex(Failure, "no superuser.*Nothing was changed"):
-            adopt.adopt(database, ["public"])
+        POST.query("CREATE DATABASE other OWNER small")
+        reach = POST.reach.replace("user=postgres", "user=small").replace("dbname=postgres", "dbname=other")
+        for told in self.refusals(reach):
+            self.assertRegex(told, "no superuser.*Nothing was changed")
+        database = Database(reach)
         self.assertTrue(value(database.row("SELECT to_regnamespace('sm') IS NULL")))
         database.close()
 
-    def test_another_version_or_level(self):
-        class Told:
-            """A connection that answers."""
+    def test_another_version(self):
+        with socketserver.ThreadingTCPServer(("127.0.0.1", 0), OldServer) as old:
+            old.daemon_threads = True
+            threading.Thread(target=old.serve_forever, daemon=True).start()
+            for told in self.refusals(f"host=127.0.0.1 port={old.server_address[1]} dbname=it user=it"):
+                self.assertRegex(told, "this is PostgreSQL 14.*Nothing was changed")
+            old.shutdown()
+        self.assertEqual({it.split()[0] for it in OldServer.statements}, {"BEGIN", "SHOW", "ROLLBACK"})
 
-            def __init__(self, **told):
-                self.told = told
-
-            def execute(self, statement, _=()):
-                answer = next((it for key, it in self.told.items() if key in statement), True)
-                return type("Rows", (), {"fetchone": lambda self: {"it": answer}})()
-
-        with self.assertRaisesRegex(Failure, "this is PostgreSQL 14.*Nothing was changed"):
-            adopt.refuse_server(Told(server_version_num="140005"))
-        with self.assertRaisesRegex(Failure, "wal_level is not logical.*Nothing was changed"):
-            adopt.refuse_server(Told(server_version_num="150005", wal_level="replica"))
-        adopt.refuse_server(Told(server_version_num="160001", wal_level="logical"))
+    def test_another_level(self):
+        post = servers.Postgres(FOLDER, "plain", servers.free_ports(1)[0], 20, 3)
+        self.assertEqual(post.make().wait(), 0)
+        post.words += ["-c", "wal_level=replica"]
+        post.start()
+        post.wait()
+        try:
+            for told in self.refusals(post.reach):
+                self.assertRegex(told, "wal_level is not logical.*Nothing was changed")
+            self.assertEqual(post.query("SELECT to_regnamespace('sm')"), [(None,)])
+        finally:
+            post.kill()
 
 
 if __name__ == "__main__":

@@ -121,10 +121,10 @@ def slot_first():
 
 # The runs, by what comes in them. Harm that waits for a moment brings the situation in each run, not by chance.
 RUNS = {
-    "moves": ["--seconds", "3", "--drains", "2", "--roles", "0", "--harm", "ddl", "late stream", "late copy", "late commit", "--plain", "0.05"],
+    "moves": ["--seconds", "3", "--drains", "2", "--roles", "0", "--harm", "ddl", "late stream", "late copy", "late commit", "--plain", "0.05", "--late", "5"],
     "loss": ["--servers", "4", "--wide", "--harm", "--lose", "1", "--lose-at", "0", "--seconds", "1"],
     "cuts": ["--seconds", "3", "--drains", "2", "--roles", "0", "--harm", "cut"],
-    "back": ["--seconds", "3", "--drains", "3", "--harm", "--back", "1"],
+    "back": ["--seconds", "3", "--drains", "2", "--harm", "--back", "1", "--dead", "30", "--option=--stalled=300"],
 }
 BUGS = {
     "no_lock": (no_lock, "moves"), "identities": (identities, "moves"), "sequences": (sequences, "moves"), "ddl": (ddl, "moves"), "guard": (guard, "moves"),
