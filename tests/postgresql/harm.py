@@ -233,15 +233,14 @@ class Harm:
             self.say(f"reopened after {time.monotonic() - begun:.1f} s")
 
     def freeze(self, name):
-        """Lets streams of a server stand still, so that their followers lack what is written then: of a shard with several followers not all. Returns the
-        streams' processes."""
+        """Lets streams of a server stand still, so that their followers lack what is written then: of every other shard with several followers one goes on.
+        Returns the streams' processes."""
         frozen, streams = [], {}
         with contextlib.suppress(psycopg.Error):
             for slot, pid in self.fleet.posts[name].query("SELECT slot_name, active_pid FROM pg_replication_slots WHERE active AND slot_name LIKE 'sm\\_%' ORDER BY 1"):
                 streams.setdefault(slot.rsplit("_", 1)[0], []).append(pid)
-        for pids in streams.values():
-            most = len(pids) - 1 if len(pids) > 1 else self.dice.randrange(2)
-            for pid in self.dice.sample(pids, most):
+        for n, pids in enumerate(streams.values()):
+            for pid in self.dice.sample(pids, max(1, len(pids) - n % 2)):
                 with contextlib.suppress(OSError):
                     os.kill(pid, signal.SIGSTOP)
                     frozen.append(pid)

@@ -80,7 +80,7 @@ class Run:
         names, cells, loads = self.fleet.names, {}, {}
         for n in range(self.told.shards):
             order = names[n % len(names):] + names[:n % len(names)]
-            if n % len(names) == 0 or n % 3 == 0:
+            if n % len(names) == 0 or n % 3 == 0 or self.told.at_one:
                 order = [names[0], *self.dice.sample(names[1:], len(names) - 1)]
             cells[f"s{n}"] = order[:3 if len(names) > 3 and (self.told.wide or n % 3 == 2) else 2]
 
@@ -124,14 +124,16 @@ class Run:
         begun, loses, done = time.time(), self.told.lose, 0
         while time.time() < until or (done < self.told.drains and time.time() < begun + self.told.patience):
             if loses and time.time() > begun + (until - begun) * self.told.lose_at:
-                name = self.to_lose()
+                name = self.serving()
                 self.harm.lose(name)
                 self.command("repair", "--yes")
-                self.harm.replace(name)
-                self.command("repair", "--yes")
+                if not self.told.no_disk:
+                    self.harm.replace(name)
+                    self.command("repair", "--yes")
                 loses = 0
+                continue
             if self.dice.random() < self.told.back:
-                name = self.dice.choice(self.harm.present())
+                name = self.serving() if self.told.at_one else self.dice.choice(self.harm.present())
                 status = self.lead_away(name)
                 done += status == 0
                 self.say(f"others lead for {name} while it is killed and starts again, and give back: {status}")
@@ -163,8 +165,8 @@ class Run:
             process.kill()
         return process.wait()
 
-    def to_lose(self):
-        """A server that is lost for good: one that serves most, so that there is something to lose."""
+    def serving(self):
+        """A server that serves most shards, so that there is something to lose."""
         state = self.fleet.ask({"do": "state"})["state"]
         served = [cell["server"] for it in state["shards"] for cell in it["cells"] if cell["state"] == "primary"]
         return max(self.harm.present(), key=served.count)
@@ -176,7 +178,7 @@ class Run:
             full = {cell["server"] for it in state["shards"] for cell in it["cells"]} & set(self.harm.present())
         except Exception:  # pylint: disable=broad-exception-caught  (the controller is away)
             full = set(self.harm.present())
-        self.drained = self.dice.choice(sorted(full - {self.drained}) or sorted(full))
+        self.drained = self.serving() if self.told.at_one else self.dice.choice(sorted(full - {self.drained}) or sorted(full))
         return self.drained
 
     def command(self, *words, seconds=60.0):
@@ -279,9 +281,11 @@ def arguments():
     parser.add_argument("--controllers", type=int, default=1, help="several are over etcd")
     parser.add_argument("--plain", type=float, default=0.0, help="a client that knows nothing of shards for each, and for how long it leaves a transaction open")
     parser.add_argument("--wide", action="store_true", help="all shards want three replicas")
+    parser.add_argument("--at-one", action="store_true", help="one server serves all shards at first, and is drained")
     parser.add_argument("--back", type=float, default=0.0, help="the share of moves in which others lead for a server, and give back at once")
     parser.add_argument("--late", type=float, default=1.5, help="for how long a copy or a stream stands still, in seconds")
     parser.add_argument("--lose", type=int, default=0)
+    parser.add_argument("--no-disk", action="store_true", help="a server that is lost does not come back with an empty disk")
     parser.add_argument("--lose-at", type=float, default=0.5, help="the share of the time behind which a server is lost")
     parser.add_argument("--drains", type=int, default=0, help="so many drains have to end, however long it takes")
     parser.add_argument("--roles", type=float, default=0.4, help="the share of drains that change roles first")

@@ -119,17 +119,19 @@ def slot_first():
     Orders.store, Orders.once = store_later, once_and_then
 
 
-# The runs, by what comes in them. Harm that waits for a moment brings the situation in each run, not by chance.
+# The runs, by what comes in them, and the harm of a sound one. Harm that waits for a moment brings the situation in each run, not by chance.
 RUNS = {
-    "moves": ["--seconds", "3", "--drains", "2", "--roles", "0", "--harm", "ddl", "late stream", "late copy", "late commit", "--plain", "0.05", "--late", "5"],
-    "loss": ["--servers", "4", "--wide", "--harm", "--lose", "1", "--lose-at", "0", "--seconds", "1"],
-    "cuts": ["--seconds", "3", "--drains", "2", "--roles", "0", "--harm", "cut"],
-    "back": ["--seconds", "3", "--drains", "2", "--harm", "--back", "1", "--dead", "30", "--option=--stalled=300"],
+    "moves": (["--seconds", "3", "--drains", "1", "--at-one", "--roles", "0", "--plain", "0.05", "--late", "5"], ["ddl", "late stream", "late copy", "late commit"]),
+    "loss": (["--servers", "4", "--wide", "--at-one", "--lose", "1", "--lose-at", "0", "--no-disk", "--seconds", "1"], []),
+    "cuts": (["--seconds", "3", "--drains", "1", "--at-one", "--roles", "0"], ["cut"]),
+    "back": (["--seconds", "3", "--drains", "1", "--at-one", "--back", "1", "--dead", "30", "--option=--stalled=300"], []),
 }
+
+# Each bug with its run, and the harm that it is about.
 BUGS = {
-    "no_lock": (no_lock, "moves"), "identities": (identities, "moves"), "sequences": (sequences, "moves"), "ddl": (ddl, "moves"), "guard": (guard, "moves"),
-    "early": (early, "moves"), "seal_early": (seal_early, "moves"), "no_followers": (no_followers, "loss"), "mark": (mark, "loss"),
-    "slot_first": (slot_first, "cuts"), "no_place": (no_place, "back"),
+    "no_lock": (no_lock, "moves", "late commit"), "identities": (identities, "moves"), "sequences": (sequences, "moves"), "ddl": (ddl, "moves", "ddl"),
+    "guard": (guard, "moves"), "early": (early, "moves", "late copy"), "seal_early": (seal_early, "moves", "late stream"), "no_followers": (no_followers, "loss"),
+    "mark": (mark, "loss"), "slot_first": (slot_first, "cuts", "cut"), "no_place": (no_place, "back"),
 }
 
 
@@ -141,7 +143,7 @@ def plant(name):
 def run(kind, bug, seed, told):
     """Whether a run is clean; none if it has no verdict; and what it said."""
     words = ["/usr/bin/python3", str(HERE / "run.py"), "", "--quiet", "--seed", str(seed), "--patience", str(told.patience), "--servers", "3", "--shards", "3",
-             "--rows", str(told.rows), "--writers", "1", "--rest", "0.06", "--every", "0.8", "--bug", bug, *RUNS[kind]]
+             "--rows", str(told.rows), "--writers", "1", "--rest", "0.06", "--every", "0.5", "--bug", bug, *RUNS[kind][0], "--harm", *(BUGS[bug][2:] if bug else RUNS[kind][1])]
     with tempfile.TemporaryDirectory(prefix="pg-wrong-", dir="/dev/shm") as folder:
         os.chmod(folder, 0o711)
         try:
@@ -152,7 +154,8 @@ def run(kind, bug, seed, told):
     at = next((n for n, it in enumerate(lines) if it.startswith("verdict")), None)
     if at is None or "secondaries are copied" in done.stdout.split("verdict")[1]:
         return None, (done.stdout + done.stderr).strip()[-300:]
-    return done.returncode == 0, " ".join(it.strip() for it in lines[at + 1:at + 3])[:200]
+    harm = next(it for it in lines if it.startswith("harm:"))
+    return done.returncode == 0, (" ".join(it.strip() for it in lines[at + 1:at + 3]) or harm)[:200]
 
 
 class Trials:
