@@ -2,7 +2,7 @@
 SHELL := bash
 .SHELLFLAGS := -e -o pipefail -c
 .DEFAULT_GOAL := help
-.PHONY: help run try build agent vectors test edits page-test storm bench install uninstall dist deb cluster cluster-storm postgresql check-caught check-program check-tests
+.PHONY: help run try build agent vectors test edits page-test storm bench install uninstall dist deb cluster cluster-storm postgresql bench-postgresql check-caught check-program check-tests
 
 PREFIX ?= /usr/local
 
@@ -120,6 +120,9 @@ cluster: ## a minute of a real cluster of Redis servers, moved and harmed while 
 
 postgresql: ## a minute of four PostgreSQL servers whose schemas move while they are written (it needs Debian's postgresql-15 and python3-psycopg)
 	scripts/postgresql
+
+bench-postgresql: ## drains of PostgreSQL servers with 60 shards of 7 MB and 12 of 100 MB, and for how long writes pause (docs/BENCH.md); on a machine at rest
+	scripts/bench-postgresql
 
 RUNS ?= 200
 cluster-storm: ## RUNS (200) runs of the cluster of 20 seconds, each with other harm, and in how many each situation came up

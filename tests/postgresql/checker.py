@@ -125,7 +125,7 @@ def check(fleet, wanted, least=100, alive=None, losses=()):
         if set(listed) != {owner} or len(cells) != wanted[shard] or not set(cells) <= set(names):
             wrong.append(f"{shard}: {cells}, listed at {listed}, wanted {wanted[shard]}")
         try:
-            wrong += plain_faults(fleet, shard, owner, losses)
+            wrong += plain_faults(fleet, shard, owner, losses) if owner else []
             wrong += shard_faults(fleet, shard, cells, by_shard[shard])
             wrong += replica_faults(fleet, shard, cells)
             wrong += guard_faults(fleet, shard, owner, names)

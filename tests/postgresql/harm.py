@@ -216,7 +216,7 @@ class Harm:
             self.gone.add(name)
             frozen = self.freeze(name)
             self.say(f"kill -9 {name} for good, while {len(frozen)} of its streams stand still")
-            time.sleep(0.7)
+            time.sleep(self.fleet.frozen)
             self.fleet.agents[name].kill()
             self.fleet.posts[name].kill()
             for pid in frozen:

@@ -54,7 +54,7 @@ class Run:
         names = [chr(ord("a") + it) for it in range(told.servers)]
         self.fleet = Fleet(told.folder, names, told.shards, options=["--dead", str(told.dead), *told.option], harm=told.messages, seed=told.seed, bug=told.bug,
                            controllers=told.controllers)
-        self.fleet.dead, self.fleet.late = told.dead, told.late
+        self.fleet.dead, self.fleet.late, self.fleet.frozen = told.dead, told.late, told.frozen
         self.harm = Harm(self.fleet, random.Random(f"{told.seed} harm"), self.say)
         self.stopping = threading.Event()
         self.writers, self.spans, self.drained, self.share = [], {}, None, Share()
@@ -285,6 +285,7 @@ def arguments():
     parser.add_argument("--back", type=float, default=0.0, help="the share of moves in which others lead for a server, and give back at once")
     parser.add_argument("--late", type=float, default=1.5, help="for how long a copy or a stream stands still, in seconds")
     parser.add_argument("--lose", type=int, default=0)
+    parser.add_argument("--frozen", type=float, default=0.7, help="for how long streams of a server stand still before it is lost, in seconds")
     parser.add_argument("--no-disk", action="store_true", help="a server that is lost does not come back with an empty disk")
     parser.add_argument("--lose-at", type=float, default=0.5, help="the share of the time behind which a server is lost")
     parser.add_argument("--drains", type=int, default=0, help="so many drains have to end, however long it takes")

@@ -122,7 +122,7 @@ def slot_first():
 # The runs, by what comes in them, and the harm of a sound one. Harm that waits for a moment brings the situation in each run, not by chance.
 RUNS = {
     "moves": (["--seconds", "3", "--drains", "1", "--at-one", "--roles", "0", "--plain", "0.05", "--late", "5"], ["ddl", "late stream", "late copy", "late commit"]),
-    "loss": (["--servers", "4", "--wide", "--at-one", "--lose", "1", "--lose-at", "0", "--no-disk", "--seconds", "1"], []),
+    "loss": (["--servers", "4", "--wide", "--at-one", "--lose", "1", "--lose-at", "0", "--no-disk", "--frozen", "4", "--seconds", "1"], []),
     "cuts": (["--seconds", "3", "--drains", "1", "--at-one", "--roles", "0"], ["cut"]),
     "back": (["--seconds", "3", "--drains", "1", "--at-one", "--back", "1", "--dead", "30", "--option=--stalled=300"], []),
 }

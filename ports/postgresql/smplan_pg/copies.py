@@ -3,6 +3,7 @@ from __future__ import annotations
 
 import subprocess
 import time
+from concurrent.futures import wait
 from typing import TYPE_CHECKING, Callable
 
 import psycopg
@@ -71,15 +72,19 @@ class Copies:
             time.sleep(0.2)
 
     def begin_stream(self, there: Database, mine: str, still: Still, said_of: Callable[[str], None]) -> None:
-        """Makes a stream at its source, which waits for the transactions that run there. (No transaction is open here meanwhile, as by CREATE SUBSCRIPTION:
-        two servers that copy from each other would wait for ever.)"""
-        while True:
-            check(still)
+        """Makes a stream at its source, which waits for the transactions that run there, however long they take. (No transaction is open here meanwhile, as
+        by CREATE SUBSCRIPTION: two servers that copy from each other would wait for ever.)"""
+        with there.connect() as c:
+            c.execute("SET statement_timeout = 0")
+            made = self.server.beside.submit(c.execute, "SELECT pg_create_logical_replication_slot(%s, 'pgoutput')", (mine,))
             try:
-                there.row("SELECT pg_create_logical_replication_slot(%s, 'pgoutput')", mine)
-                return
-            except psycopg.errors.QueryCanceled:
-                said_of("waits for transactions that are open at the source")
+                while not wait([made], 0.2).done:
+                    said_of("waits for transactions that are open at the source")
+                    check(still)
+            except GivenUp:
+                c.cancel()
+                raise
+            made.result()
 
     def clear(self, shard: str, number: int) -> None:
         """Deletes what an attempt before has left, and the old copy of a follower; never a schema that it did not make."""

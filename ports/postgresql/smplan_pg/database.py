@@ -11,7 +11,7 @@ from contextlib import contextmanager
 from typing import Any, Dict, Iterator, List, Optional, Tuple
 
 import psycopg
-from psycopg.conninfo import make_conninfo
+from psycopg.conninfo import conninfo_to_dict, make_conninfo
 from psycopg.rows import dict_row
 
 Row = Dict[str, Any]
@@ -31,6 +31,9 @@ def unsigned(number: int) -> int:
 # How smplan-pg itself connects: guards let it pass, what it stores is durable, and what it waits for ends soon after it.
 OWN = "-c sm.own=on -c synchronous_commit=local -c client_connection_check_interval=1000"
 
+# How soon it is noticed that a server's machine is gone: within some ten seconds.
+ALIVE = {"keepalives_idle": 5, "keepalives_interval": 2, "keepalives_count": 3, "tcp_user_timeout": 10000}
+
 # A connection that has rested for so long, in seconds, is tried before it is used.
 RESTED = 1.0
 
@@ -40,7 +43,8 @@ class Database:
 
     def __init__(self, reach: str, patience: Optional[float] = None, options: str = OWN) -> None:
         options += f" -c statement_timeout={int(patience * 1000)}" if patience else ""
-        self.reach = make_conninfo(reach, **{"connect_timeout": 3, "application_name": "smplan-pg"}, **({"options": options} if options else {}))
+        more = {"connect_timeout": 3, "application_name": "smplan-pg", **({"options": options} if options else {})}
+        self.reach = make_conninfo(**{**ALIVE, **conninfo_to_dict(reach), **more})
         self.idle: List[Tuple[Connection, float]] = []
         self.lock = threading.Lock()
 
