@@ -106,6 +106,10 @@ class Run:
         self.writers = [subprocess.Popen(["/usr/bin/python3", "writers.py", str(self.fleet.folder), str(n), "1", str(self.told.rest), str(self.told.plain)], cwd=HERE,
                                          stdout=(self.fleet.folder / f"writers-{n}.log").open("w"), stderr=subprocess.STDOUT) for n in range(self.told.writers)]
 
+    def written(self):
+        """How many writes are acknowledged so far."""
+        return sum(path.read_text().count("\n") for path in self.fleet.folder.glob("acknowledged-*.jsonl"))
+
     # -- what goes on
 
     def harms(self):
@@ -227,6 +231,7 @@ class Run:
         self.fleet.wait_for("all secondaries are copied", lambda: self.is_quiet_at_first(document), self.told.patience)
         self.say(f"{len(self.fleet.names)} servers, {self.told.shards} shards of {document['shards'][0]['load']} MB; secondaries are copied")
         self.start_writers()
+        self.fleet.wait_for("clients write", lambda: self.written() > 3 * self.told.shards, self.told.patience)
         time.sleep(min(4.0, self.told.seconds / 8))
         self.spans["rest"] = [(self.begun, time.time())]
         harms = threading.Thread(target=self.harms) if self.told.harm else None

@@ -97,7 +97,7 @@ class Log:
     """Lines of JSON that threads write."""
 
     def __init__(self, path):
-        self.lock, self.file = threading.Lock(), path.open("w")
+        self.lock, self.file = threading.Lock(), path.open("w", buffering=1)
 
     def __call__(self, line):
         with self.lock:
