@@ -126,8 +126,8 @@ class Run:
     def moves(self, until):
         """Drains one server after the other, and repairs what shards lack."""
         begun, loses, done = time.time(), self.told.lose, 0
-        while time.time() < until or (done < self.told.drains and time.time() < begun + self.told.patience):
-            if loses and time.time() > begun + (until - begun) * self.told.lose_at:
+        while time.time() < until or loses or (done < self.told.drains and time.time() < begun + self.told.patience):
+            if loses and time.time() >= begun + (until - begun) * self.told.lose_at:
                 name = self.serving()
                 self.harm.lose(name)
                 self.command("repair", "--yes")
