@@ -1,0 +1,11 @@
+-- How copies compare: by view and position, and by nothing else.
+use Rattle.std.specs.Prelude.{◌≡◌, ◌<◌, ◌⊎◌}
+use Rattle.sm_copies.specs.declared.order.ToldCopy.{ToldCopy}
+
+-- A copy is less than another one: its view is earlier, or it is shorter in the same view.
+abbrev pub IsLesser : ToldCopy → ToldCopy → Type 0
+IsLesser small great = (small.view < great.view) ⊎ ((small.view ≡ great.view) × (small.position < great.position))
+
+-- A copy is at least as great as another one: the same, or greater.
+abbrev pub IsAtLeast : ToldCopy → ToldCopy → Type 0
+IsAtLeast great small = (small ≡ great) ⊎ IsLesser small great
