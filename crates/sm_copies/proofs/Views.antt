@@ -113,7 +113,7 @@ goes-on-by : (same : Bool) (view at end position : ℕ) (x : ListEntry) (front x
 goes-on-by true view at end position x front xs e rest =
     let q : x.view ≡ view = eqb-true x.view view e in
     subst (λ (v : ℕ). ((last_view v front ≡ view) × (position ≤ view_end (slice_get (views_behind view (suc at) xs) 0) end))
-        ⊎ Resumes (record { view = last_view v front; position = position }) (views_behind view (suc at) xs) end) (sym q) (rest view)
+    ⊎ Resumes (record { view = last_view v front; position = position }) (views_behind view (suc at) xs) end) (sym q) (rest view)
 goes-on-by false view at end position x front xs e rest = inr (goes-on-start at end position x front xs (rest x.view))
 
 goes-on : (end position : ℕ) (front xs : List ListEntry) (at : ℕ) → end ≡ at + length xs → position ≡ at + length front → begins front xs ≡ true →

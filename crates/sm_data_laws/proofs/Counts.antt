@@ -1,6 +1,6 @@
 -- Counts of servers.
-use Rattle.std.proofs.Common.{◌≡◌, ℕ, zero, suc, ◌+◌, ◌<◌, ◌≤◌, ◌⊎◌, inl, inr, Bool, true, false, not, ◌&&◌, refl, ap, arith}
-use Rattle.std.proofs.lemmas.Bool.{and_from, and_parts, cases_Bool}
+use Rattle.std.proofs.Common.{◌≡◌, ℕ, zero, suc, ◌+◌, ◌<◌, ◌≤◌, ◌⊎◌, inl, inr, Bool, true, false, not, ◌&&◌, refl, sym, ap, ◌∙◌, arith}
+use Rattle.std.proofs.lemmas.Bool.{and_from, and_parts, cases_Bool, cases_eq}
 use Rattle.sm_placement.specs.Sums.{bit, count_below}
 
 bit-more : (a b : Bool) → (a ≡ true → b ≡ true) → bit a ≤ bit b
@@ -46,6 +46,21 @@ count-apart (suc n) p q l = elim (cases_Bool (p n)) [
       let x : bit (p n) ≡ 0 = ap bit a in
       let f = count-apart n p q (omega arith) in
       (f.0, omega arith, f.2, f.3)
+]
+
+-- if each that passes one test passes another one, and somebody passes that alone
+pub count-one-more : (n : ℕ) (p q : ℕ → Bool) (m : ℕ) → m < n → ((k : ℕ) → p k ≡ true → q k ≡ true) → p m ≡ false → q m ≡ true → suc (count_below n p) ≤ count_below n q
+count-one-more zero p q m l h a b = absurd (omega arith)
+count-one-more (suc n) p q m l h a b = elim (cases_eq m n) [
+  | inl e ↦
+      let i : count_below n p ≤ count_below n q = count-more n p q h in
+      let x : bit (p n) ≡ 0 = ap (λ (k : ℕ). bit (p k)) (sym e) ∙ ap bit a in
+      let y : bit (q n) ≡ 1 = ap (λ (k : ℕ). bit (q k)) (sym e) ∙ ap bit b in
+      omega arith
+  | inr d ↦
+      let i : suc (count_below n p) ≤ count_below n q = count-one-more n p q m (omega arith) h a b in
+      let l : bit (p n) ≤ bit (q n) = bit-more (p n) (q n) (h n) in
+      omega arith
 ]
 
 -- if each replica that stays and passes does so afterwards, enough of them do

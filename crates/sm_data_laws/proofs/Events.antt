@@ -1,14 +1,20 @@
 -- Each event that is allowed keeps what holds.
-use Rattle.std.proofs.Common.{◌≡◌, ℕ, ◌+◌, ◌<◌, ◌≤◌, ◌==◌, inl, inr, Bool, true, false, not, ◌&&◌, leb-true, List, [], ◌∷◌, ◌++◌, Option, Some, None, is_some, length, refl, sym, ap, ◌∙◌, subst, arith, length-append, if◌then◌else◌}
+use Rattle.std.proofs.Common.{◌≡◌, ℕ, ◌+◌, ◌<◌, ◌≤◌, ◌==◌, inl, inr, Bool, true, false, not, ◌&&◌, List, [], ◌∷◌, ◌++◌, Option, Some, None, is_some, length, refl, sym, ap, ◌∙◌, subst, arith, length-append, if◌then◌else◌}
 use Rattle.std.proofs.lemmas.Bool.{and_from, and_parts, cases_Bool, cases_eq, false≢true, not-true, both_ways, eq-eqb}
 use Rattle.sm_placement.specs.Sums.{count_below, put}
 use Rattle.sm_placement.proofs.Sums.{put-apart, put-here}
-use Rattle.sm_data_laws.specs.Lists.{ListEntry, Resumes, begins, beginning, view_of}
-use Rattle.sm_data_laws.specs.Shard.{Choice, Event, Acknowledges, Changes, Chooses, Copies, Executes, Follows, Goes, Hands, MayHappen, Joins, Leave, Loses, Lowers, Raises, Removes, Restarts, Shard, Stays, Tells, Hears, ToldCopy, with_view, counted, left_by, has_heard, is_copy, lacks, list_of}
-use Rattle.sm_data_laws.proofs.Lists.{begins-last, begins-length, begins-self, begins-shorter, begins-through, begins-whole, copy-is, empty-or-not, has-all, lacks-nothing, put-cases}
+use Rattle.sm_copies.specs.declared.order.ToldCopy.{ToldCopy}
+use Rattle.sm_copies.specs.Views.{Resumes}
+use Rattle.sm_copies.specs.Lists.{ListEntry, begins, beginning, told_of, view_of, views_of}
+use Rattle.sm_copies.proofs.Counts.{enough-before}
+use Rattle.sm_copies.proofs.Lists.{begins-last, begins-length, begins-self, begins-shorter, begins-through, begins-whole, empty-or-not, view-behind}
+use Rattle.sm_copies.proofs.Views.{resumes-front}
+use Rattle.sm_data_laws.specs.Shard.{Choice, Event, Acknowledges, Changes, Chooses, Copies, Executes, Follows, Goes, Hands, MayHappen, Joins, Leave, Loses, Lowers, Raises, Removes, Restarts, Shard, Stays, Tells, Hears, NOTHING_HEARD, Word, asked_copies, with_view, counted, left_by, is_copy, lacks, list_of, told}
+use Rattle.sm_data_laws.proofs.Lists.{copy-is, has-all, lacks-nothing, put-cases}
 use Rattle.sm_data_laws.proofs.Counts.{count-either, count-more, enough-more}
 use Rattle.sm_data_laws.proofs.Growth.{grown-copies, grown-enough, grown-lists, grown-whole}
-use Rattle.sm_data_laws.proofs.Invariant.{IsKept, HasUpTo, IsTrueOf, IsWhole, begun-below, greatest-has-all, primary-has-all, word-is-true, words-end, words-stay}
+use Rattle.sm_data_laws.proofs.Invariant.{IsKept, HasUpTo, IsTrueOf, IsTrueWord, IsWhole, begun-below, greatest-has-all, primary-has-all, true-stays, word-is-true, words-end, words-stay}
+use Rattle.sm_data_laws.proofs.Told.{told-enough}
 
 -- a whole copy is there
 some-copy : (o : Option (List ListEntry)) → is_some o ≡ true → (copy : List ListEntry) × (o ≡ Some copy)
@@ -19,16 +25,12 @@ list-of : (o : Option (List ListEntry)) (copy : List ListEntry) → o ≡ Some c
 list-of o copy e = ap list_of e
 
 -- nobody was heard yet
-unheard : (list : List ListEntry) (copies : ℕ → Option (List ListEntry)) (s : ℕ) → HasUpTo list copies s 0
-unheard list copies s = record { bound = omega arith; part = λ xs ys e b l. none ys xs l }
+pub unheard : (view : ℕ) (list : List ListEntry) (copies : ℕ → Option (List ListEntry)) (s : ℕ) → IsTrueOf view list copies s NOTHING_HEARD
+unheard view list copies s = record { below = omega arith; has = λ v. record { bound = omega arith; part = λ xs ys e b l. none ys xs l } }
   where
     none : (ys xs : List ListEntry) → length ys ≤ 0 → begins ys xs ≡ true
     none [] xs l = refl
     none (y ∷ ys) xs l = absurd (omega arith)
-
--- of whom a beginning of the primary's list was heard, that has it
-heard-has : (w : Shard) → IsKept w → (list : List ListEntry) → begins list (w.lists w.view) ≡ true → (s : ℕ) → has_heard w list s ≡ true → not (lacks list (w.copies s)) ≡ true
-heard-has w k list b s h = lacks-nothing list (w.copies s) (λ copy e. (k.heard s).part copy list e b (leb-true (length list) (w.heard s) h))
 
 -- A list grows in its view: the primary executes a write.
 executes : (w : Shard) → IsKept w → (write : ℕ) → MayHappen w (Executes write) → IsKept (left_by w (Executes write))
@@ -67,11 +69,12 @@ executes w k write a =
         | inr p ↦ absurd (p.0 refl)
       ];
       unbegun = λ u l. put-apart w.lists w.view (g ++ e ∷ []) u (λ q. absurd (omega arith)) ∙ k.unbegun u l;
+      own = ap view_of now ∙ view-behind g e;
       present = (let n : length (put w.lists w.view (g ++ e ∷ []) w.view) ≡ length (g ++ e ∷ []) = ap length now in omega (arith, length-append g (e ∷ [])));
       below = k.below;
       whole = grown-whole w.lists k.lists w.view g e refl behind from old w.acknowledged all k.whole;
       enough = grown-enough w.lists k.lists w.view g e refl behind from old w.servers w.needed w.replicas w.leaving w.acknowledged w.copies w.primary all k.enough;
-      heard = λ t. longer t (w.heard t) (k.heard t);
+      heard = λ t. true-stays w.view (w.lists w.view) (put w.lists w.view (g ++ e ∷ []) w.view) w.copies (put w.copies w.primary (Some (g ++ e ∷ []))) longer t (w.heard t) (k.heard t);
       words = words-stay w.view (w.lists w.view) (put w.lists w.view (g ++ e ∷ []) w.view) w.copies (put w.copies w.primary (Some (g ++ e ∷ []))) longer w.words k.words;
     }
 
@@ -107,11 +110,12 @@ begins-view w k s v copy is later replicas leaving needed acknowledged all low w
         | inr p ↦ absurd (p.0 refl)
       ];
       unbegun = λ u l. put-apart w.lists v (g ++ e ∷ []) u (λ q. absurd (omega arith)) ∙ k.unbegun u (omega arith);
+      own = ap view_of now ∙ view-behind g e;
       present = (let n : length (put w.lists v (g ++ e ∷ []) v) ≡ length (g ++ e ∷ []) = ap length now in omega (arith, length-append g (e ∷ [])));
       below = omega arith;
       whole = grown-whole w.lists k.lists v g e refl behind from early acknowledged has whole;
       enough = grown-enough w.lists k.lists v g e refl behind from early w.servers needed replicas leaving acknowledged w.copies s has enough;
-      heard = unheard (put w.lists v (g ++ e ∷ []) v) (put w.copies s (Some (g ++ e ∷ [])));
+      heard = unheard v (put w.lists v (g ++ e ∷ []) v) (put w.copies s (Some (g ++ e ∷ [])));
       words = words-end w.view v (w.lists w.view) (put w.lists v (g ++ e ∷ []) v) w.copies (put w.copies s (Some (g ++ e ∷ []))) later w.words k.words;
     }
 
@@ -138,6 +142,7 @@ copies-anew w k s =
       ];
       unbegun = k.unbegun;
       present = k.present;
+      own = k.own;
       below = k.below;
       whole = k.whole;
       enough = enough-more w.servers w.needed w.replicas w.leaving (λ t. not (lacks w.acknowledged (w.copies t))) w.replicas w.leaving
@@ -149,19 +154,20 @@ copies-anew w k s =
               | inr p ↦ has-all w.acknowledged (w.copies t) copy z p.1
             ]),
           ));
-      heard = λ t. more t (w.heard t) (k.heard t);
+      heard = λ t. true-stays w.view (w.lists w.view) (w.lists w.view) w.copies (put w.copies s (w.copies w.primary)) more t (w.heard t) (k.heard t);
       words = words-stay w.view (w.lists w.view) (w.lists w.view) w.copies (put w.copies s (w.copies w.primary)) more w.words k.words;
     }
 
 -- a copy that may go on behind a source of the primary's list is a beginning of what it becomes
-goes-on : (w : Shard) → IsKept w → (s : ℕ) (copy source list : List ListEntry) → w.copies s ≡ Some copy → source ≡ w.lists w.view → Resumes copy source →
+goes-on : (w : Shard) → IsKept w → (s : ℕ) (copy source list : List ListEntry) → w.copies s ≡ Some copy → source ≡ w.lists w.view →
+    Resumes (told_of copy) (views_of source) (length source) →
     begins list source ≡ true → length copy ≤ length list → begins copy list ≡ true
-goes-on w k s copy source list e is resumes b l =
+goes-on w k s copy source list e is goes b l =
+    let resumes = resumes-front (told_of copy) source goes in
     let f = resumes.0 in
     let in-list : begins f (w.lists w.view) ≡ true = subst (λ (ys : List ListEntry). begins f ys ≡ true) is resumes.1 in
-    let own : begins f (w.lists (view_of copy)) ≡ true = subst (λ (n : ℕ). begins f (w.lists n) ≡ true) resumes.3 (k.lists.matched w.view f in-list) in
-    let n : length f ≡ length copy = resumes.2 in
-    let front : begins copy f ≡ true = begins-shorter copy f (w.lists (view_of copy)) (k.copies s copy e) own (omega arith) in
+    let own : begins f (w.lists (view_of copy)) ≡ true = subst (λ (n : ℕ). begins f (w.lists n) ≡ true) resumes.2 (k.lists.matched w.view f in-list) in
+    let front : begins copy f ≡ true = begins-shorter copy f (w.lists (view_of copy)) (k.copies s copy e) own resumes.3 in
     begins-shorter copy list source (begins-through copy f source front resumes.1) b l
 
 -- A copy goes on behind the primary.
@@ -203,6 +209,7 @@ follows w k s list a =
       ];
       unbegun = k.unbegun;
       present = k.present;
+      own = k.own;
       below = k.below;
       whole = k.whole;
       enough = enough-more w.servers w.needed w.replicas w.leaving (λ t. not (lacks w.acknowledged (w.copies t))) w.replicas w.leaving
@@ -217,7 +224,7 @@ follows w k s list a =
               | inr p ↦ has-all w.acknowledged (w.copies t) c z p.1
             ]),
           ));
-      heard = λ t. more t (w.heard t) (k.heard t);
+      heard = λ t. true-stays w.view (w.lists w.view) (w.lists w.view) w.copies (put w.copies s (Some list)) more t (w.heard t) (k.heard t);
       words = words-stay w.view (w.lists w.view) (w.lists w.view) w.copies (put w.copies s (Some list)) more w.words k.words;
     }
 
@@ -233,6 +240,7 @@ tells w k s a =
       front = k.front;
       unbegun = k.unbegun;
       present = k.present;
+      own = k.own;
       below = k.below;
       whole = k.whole;
       enough = k.enough;
@@ -250,63 +258,63 @@ tells w k s a =
       );
     }
 
+-- what was heard of a server
+heard-put : (w : Shard) → IsKept w → (s : ℕ) (said : ToldCopy) → IsTrueOf w.view (w.lists w.view) w.copies s said → (t : ℕ) →
+    IsTrueOf w.view (w.lists w.view) w.copies t (put w.heard s said t)
+heard-put w k s said h t = elim (cases_eq t s) [
+  | inl q ↦ subst (λ (c : ToldCopy). IsTrueOf w.view (w.lists w.view) w.copies t c) (sym (put-here w.heard s said t q))
+      (subst (λ (n : ℕ). IsTrueOf w.view (w.lists w.view) w.copies n said) (sym q) h)
+  | inr d ↦ subst (λ (c : ToldCopy). IsTrueOf w.view (w.lists w.view) w.copies t c) (sym (put-apart w.heard s said t d)) (k.heard t)
+]
+
 -- The primary hears a word.
-hears-word : (w : Shard) → IsKept w → (word : ToldCopy) → HasUpTo (w.lists w.view) w.copies word.server word.position → IsKept (record w { heard = put w.heard word.server word.position })
+hears-word : (w : Shard) → IsKept w → (word : Word) → IsTrueWord w.view (w.lists w.view) w.copies word → IsKept (record w { heard = put w.heard word.server word.copy })
 hears-word w k word h = record {
   lists = k.lists;
   copies = k.copies;
   front = k.front;
   unbegun = k.unbegun;
   present = k.present;
+  own = k.own;
   below = k.below;
   whole = k.whole;
   enough = k.enough;
   words = k.words;
-  heard = λ t. elim (cases_eq t word.server) [
-    | inl q ↦ subst (λ (n : ℕ). HasUpTo (w.lists w.view) w.copies t n) (sym (put-here w.heard word.server word.position t q))
-        (subst (λ (n : ℕ). HasUpTo (w.lists w.view) w.copies n word.position) (sym q) h)
-    | inr d ↦ subst (λ (n : ℕ). HasUpTo (w.lists w.view) w.copies t n) (sym (put-apart w.heard word.server word.position t d)) (k.heard t)
-  ];
+  heard = heard-put w k word.server word.copy h;
 }
 
 hears : (w : Shard) → IsKept w → (which : ℕ) → MayHappen w (Hears which) → IsKept (left_by w (Hears which))
 hears w k which a =
-    let true-word = word-is-true (IsTrueOf w.view (w.lists w.view) w.copies) w.words which a.0 k.words a.1 in
-    rw a.1 (hears-word w k a.0 (true-word.has a.2))
+    rw a.1 (hears-word w k a.0 (word-is-true (IsTrueWord w.view (w.lists w.view) w.copies) w.words which a.0 k.words a.1))
+
+-- enough have a beginning of the primary's list that is acknowledged
+acknowledged-enough : (w : Shard) → IsKept w → (list : List ListEntry) → MayHappen w (Acknowledges list) → w.needed ≤ counted w (λ t. not (lacks list (w.copies t)))
+acknowledged-enough w k list (source, position, is, b, view, longer, acked, within) = elim (empty-or-not list) [
+  | inl e ↦ enough-more w.servers w.needed w.replicas w.leaving (λ t. not (lacks w.acknowledged (w.copies t))) w.replicas w.leaving (λ t. not (lacks list (w.copies t)))
+      k.enough (λ t x y z. (x, y, lacks-nothing list (w.copies t) (λ copy q. rw e refl)))
+  | inr some ↦ told-enough w k w.leaving w.needed list (subst (λ (ys : List ListEntry). begins list ys ≡ true) (k.front source is) b)
+      (source, is, enough-before (asked_copies w w.needed) (told_of source) (told w) (length list) position within (acked.have (omega arith)))
+]
 
 -- A beginning of the primary's list is acknowledged.
 acknowledges : (w : Shard) → IsKept w → (list : List ListEntry) → MayHappen w (Acknowledges list) → IsKept (left_by w (Acknowledges list))
 acknowledges w k list a =
-    let source = a.0 in
-    let in-list : begins list (w.lists w.view) ≡ true = subst (λ (ys : List ListEntry). begins list ys ≡ true) (k.front source a.1) a.2 in
-    let v : view_of list ≡ w.view = a.3 in
+    let in-list : begins list (w.lists w.view) ≡ true = subst (λ (ys : List ListEntry). begins list ys ≡ true) (k.front a.0 a.2) a.3 in
+    let v : view_of list ≡ w.view = a.4 in
     record {
       lists = k.lists;
       copies = k.copies;
       front = k.front;
       unbegun = k.unbegun;
       present = k.present;
+      own = k.own;
       below = omega arith;
       whole = λ u some low. (let top : u ≤ w.view = begun-below w k u some in let is : w.view ≡ u = omega arith in
           subst (λ (n : ℕ). begins list (w.lists n) ≡ true) is in-list);
-      enough = enough-more w.servers w.needed w.replicas w.leaving (has_heard w list) w.replicas w.leaving (λ t. not (lacks list (w.copies t))) a.5
-          (λ t x y z. (x, y, heard-has w k list in-list t z));
+      enough = acknowledged-enough w k list a;
       heard = k.heard;
       words = k.words;
     }
-
--- what a function that is 0 at one place has is not above what it was
-less : (f : ℕ → ℕ) (s t : ℕ) → put f s 0 t ≤ f t
-less f s t = elim (cases_eq t s) [
-  | inl q ↦ (let m : put f s 0 t ≡ 0 = put-here f s 0 t q in omega arith)
-  | inr d ↦ (let m : put f s 0 t ≡ f t = put-apart f s 0 t d in omega arith)
-]
-
-heard-less : (w : Shard) → IsKept w → (s t : ℕ) → HasUpTo (w.lists w.view) w.copies t (put w.heard s 0 t)
-heard-less w k s t =
-    let m : put w.heard s 0 t ≤ w.heard t = less w.heard s t in
-    let h = k.heard t in
-    record { bound = (let n : w.heard t ≤ length (w.lists w.view) = h.bound in omega arith); part = λ xs ys e b l. h.part xs ys e b (omega arith) }
 
 -- what a test says after it was set to an answer at one place, if it said that before or the place is that one
 put-true : (f : ℕ → Bool) (s t : ℕ) → f t ≡ true → put f s true t ≡ true
@@ -323,11 +331,12 @@ joins w k s = record {
   front = k.front;
   unbegun = k.unbegun;
   present = k.present;
+  own = k.own;
   below = k.below;
   whole = k.whole;
   enough = enough-more w.servers w.needed w.replicas w.leaving (λ t. not (lacks w.acknowledged (w.copies t))) (put w.replicas s true) (put w.leaving s false)
       (λ t. not (lacks w.acknowledged (w.copies t))) k.enough (λ t x y z. (put-true w.replicas s t x, put-not w.leaving s t y, z));
-  heard = heard-less w k s;
+  heard = heard-put w k s NOTHING_HEARD (unheard w.view (w.lists w.view) w.copies s);
   words = k.words;
 }
 
@@ -339,11 +348,12 @@ stays w k s = record {
   front = k.front;
   unbegun = k.unbegun;
   present = k.present;
+  own = k.own;
   below = k.below;
   whole = k.whole;
   enough = enough-more w.servers w.needed w.replicas w.leaving (λ t. not (lacks w.acknowledged (w.copies t))) w.replicas (put w.leaving s false)
       (λ t. not (lacks w.acknowledged (w.copies t))) k.enough (λ t x y z. (x, put-not w.leaving s t y, z));
-  heard = heard-less w k s;
+  heard = heard-put w k s NOTHING_HEARD (unheard w.view (w.lists w.view) w.copies s);
   words = k.words;
 }
 
@@ -355,13 +365,10 @@ leave w k s a = record {
   front = k.front;
   unbegun = k.unbegun;
   present = k.present;
+  own = k.own;
   below = k.below;
   whole = k.whole;
-  enough = enough-more w.servers w.needed w.replicas w.leaving (λ t. not (t == s) && has_heard w w.acknowledged t) w.replicas (put w.leaving s true)
-      (λ t. not (lacks w.acknowledged (w.copies t))) a (λ t x y z.
-      let p = and_parts (not (t == s)) (has_heard w w.acknowledged t) z in
-      let apart : (t ≡ s) → ⊥ = λ (q : t ≡ s). both_ways (t == s) (not-true (t == s) p.0) (eq-eqb t s q) in
-      (x, ap not (put-apart w.leaving s true t apart) ∙ y, heard-has w k w.acknowledged (primary-has-all w k) t p.1));
+  enough = told-enough w k (put w.leaving s true) w.needed w.acknowledged (primary-has-all w k) a;
   heard = k.heard;
   words = k.words;
 }
@@ -384,11 +391,12 @@ loses w k s = record {
   front = λ xs h. k.front xs (taken w.copies s w.primary xs h);
   unbegun = k.unbegun;
   present = k.present;
+  own = k.own;
   below = k.below;
   whole = k.whole;
   enough = enough-more w.servers w.needed w.replicas w.leaving (λ t. not (lacks w.acknowledged (w.copies t))) w.replicas w.leaving
       (λ t. not (lacks w.acknowledged (put w.copies s None t))) k.enough (λ t x y z. (x, y, taken-lacks w.acknowledged w.copies s t z));
-  heard = λ t. taken-has (w.lists w.view) w.copies s t (w.heard t) (k.heard t);
+  heard = λ t. true-stays w.view (w.lists w.view) (w.lists w.view) w.copies (put w.copies s None) (taken-has (w.lists w.view) w.copies s) t (w.heard t) (k.heard t);
   words = words-stay w.view (w.lists w.view) (w.lists w.view) w.copies (put w.copies s None) (taken-has (w.lists w.view) w.copies s) w.words k.words;
 }
 
@@ -400,13 +408,14 @@ goes w k s a = record {
   front = λ xs h. k.front xs (taken w.copies s w.primary xs h);
   unbegun = k.unbegun;
   present = k.present;
+  own = k.own;
   below = k.below;
   whole = k.whole;
   enough = enough-more w.servers w.needed w.replicas w.leaving (λ t. not (lacks w.acknowledged (w.copies t))) (put w.replicas s false) w.leaving
       (λ t. not (lacks w.acknowledged (put w.copies s None t))) k.enough (λ t x y z.
       let apart : (t ≡ s) → ⊥ = λ (q : t ≡ s). both_ways (w.leaving t) (not-true (w.leaving t) y) (ap w.leaving q ∙ a) in
       (put-apart w.replicas s false t apart ∙ x, y, taken-lacks w.acknowledged w.copies s t z));
-  heard = λ t. taken-has (w.lists w.view) w.copies s t (w.heard t) (k.heard t);
+  heard = λ t. true-stays w.view (w.lists w.view) (w.lists w.view) w.copies (put w.copies s None) (taken-has (w.lists w.view) w.copies s) t (w.heard t) (k.heard t);
   words = words-stay w.view (w.lists w.view) (w.lists w.view) w.copies (put w.copies s None) (taken-has (w.lists w.view) w.copies s) w.words k.words;
 }
 
@@ -418,10 +427,11 @@ hands w k s a = record {
   front = λ xs h. (let both : Some xs ≡ Some a.0 = sym h ∙ a.2 in let same : xs ≡ a.0 = cc in same ∙ k.front a.0 a.1);
   unbegun = k.unbegun;
   present = k.present;
+  own = k.own;
   below = k.below;
   whole = k.whole;
   enough = k.enough;
-  heard = unheard (w.lists w.view) w.copies;
+  heard = unheard w.view (w.lists w.view) w.copies;
   words = k.words;
 }
 
@@ -440,10 +450,10 @@ raises w k needed a = record {
   front = k.front;
   unbegun = k.unbegun;
   present = k.present;
+  own = k.own;
   below = k.below;
   whole = k.whole;
-  enough = enough-more w.servers needed w.replicas w.leaving (has_heard w w.acknowledged) w.replicas w.leaving (λ t. not (lacks w.acknowledged (w.copies t))) a
-      (λ t x y z. (x, y, heard-has w k w.acknowledged (primary-has-all w k) t z));
+  enough = told-enough w k w.leaving needed w.acknowledged (primary-has-all w k) a;
   heard = k.heard;
   words = k.words;
 }
@@ -456,6 +466,7 @@ lowers w k needed a = record {
   front = k.front;
   unbegun = k.unbegun;
   present = k.present;
+  own = k.own;
   below = k.below;
   whole = k.whole;
   enough = (let l : needed ≤ w.needed = a in let m : w.needed ≤ counted w (λ t. not (lacks w.acknowledged (w.copies t))) = k.enough in omega arith);
@@ -471,6 +482,7 @@ removes w k gone needed a = record {
   front = k.front;
   unbegun = k.unbegun;
   present = k.present;
+  own = k.own;
   below = k.below;
   whole = k.whole;
   enough =

@@ -3,9 +3,10 @@ use Rattle.std.proofs.Common.{◌≡◌, ℕ, ◌≤◌, ◌⊎◌, inl, inr, Bo
 use Rattle.std.proofs.lemmas.Bool.{cases_eq}
 use Rattle.sm_placement.specs.Sums.{count_below, put}
 use Rattle.sm_placement.proofs.Sums.{put-apart, put-here}
-use Rattle.sm_data_laws.specs.Lists.{ListEntry, begins, view_of}
+use Rattle.sm_copies.specs.Lists.{ListEntry, begins, view_of}
 use Rattle.sm_data_laws.specs.Shard.{lacks}
-use Rattle.sm_data_laws.proofs.Lists.{begins-last, begins-more, begins-self, begins-through, has-all, lacks-nothing, put-cases, view-behind}
+use Rattle.sm_copies.proofs.Lists.{begins-last, begins-more, begins-self, begins-through, view-behind}
+use Rattle.sm_data_laws.proofs.Lists.{has-all, lacks-nothing, put-cases}
 use Rattle.sm_data_laws.proofs.Counts.{enough-more}
 use Rattle.sm_data_laws.proofs.Invariant.{AreCopies, AreLists, IsWhole}
 

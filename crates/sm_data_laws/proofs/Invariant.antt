@@ -1,11 +1,14 @@
 -- The invariant of a shard's data.
-use Rattle.std.proofs.Common.{subst, suc, zero, ◌∷◌, ◌≡◌, ℕ, ◌<◌, ◌≤◌, inl, inr, Bool, true, false, not, ◌&&◌, List, [], Option, Some, None, is_some, length, slice_get, refl, sym, ap, arith}
+use Rattle.std.proofs.Common.{subst, suc, zero, ◌∷◌, ◌≡◌, ℕ, ◌<◌, ◌≤◌, ◌⊎◌, inl, inr, Bool, true, false, not, ◌&&◌, List, [], Option, Some, None, is_some, length, slice_get, refl, sym, ap, arith}
 use Rattle.std.specs.List.{AllByRecursion}
 use Rattle.std.proofs.lemmas.Bool.{and_parts, cases_lt, false≢true}
 use Rattle.sm_placement.specs.Sums.{count_below}
-use Rattle.sm_data_laws.specs.Lists.{ListEntry, IsAtLeast, begins, view_of}
-use Rattle.sm_data_laws.specs.Shard.{ToldCopy, IsGreatest, Shard, counted, gone, lacks}
-use Rattle.sm_data_laws.proofs.Lists.{begins-length, begins-shorter, begins-through, empty-or-not, has-all}
+use Rattle.sm_copies.specs.declared.order.ToldCopy.{ToldCopy}
+use Rattle.sm_copies.specs.Order.{IsAtLeast}
+use Rattle.sm_copies.specs.Lists.{ListEntry, begins, told_of, view_of}
+use Rattle.sm_copies.proofs.Lists.{begins-length, begins-shorter, begins-through, empty-or-not}
+use Rattle.sm_data_laws.specs.Shard.{IsGreatest, Shard, Word, counted, gone, lacks}
+use Rattle.sm_data_laws.proofs.Lists.{has-all}
 use Rattle.sm_data_laws.proofs.Counts.{count-apart}
 
 -- The list of each view: a beginning of one is a beginning of the list of its own view, which is no later.
@@ -27,9 +30,13 @@ pub record HasUpTo (list : List ListEntry) (copies : ℕ → Option (List ListEn
   pub part : (xs ys : List ListEntry) → copies s ≡ Some xs → begins ys list ≡ true → length ys ≤ position → begins ys xs ≡ true
 
 -- A told copy of the primary's view is still there, up to its position; nobody has told a later view.
-pub record IsTrueOf (view : ℕ) (list : List ListEntry) (copies : ℕ → Option (List ListEntry)) (word : ToldCopy) : Type 0 where
-  pub below : word.view ≤ view
-  pub has : word.view ≡ view → HasUpTo list copies word.server word.position
+pub record IsTrueOf (view : ℕ) (list : List ListEntry) (copies : ℕ → Option (List ListEntry)) (s : ℕ) (told : ToldCopy) : Type 0 where
+  pub below : told.view ≤ view
+  pub has : told.view ≡ view → HasUpTo list copies s told.position
+
+-- A word is true of the server that has told it.
+abbrev pub IsTrueWord : ℕ → List ListEntry → (ℕ → Option (List ListEntry)) → Word → Type 0
+IsTrueWord view list copies word = IsTrueOf view list copies word.server word.copy
 
 pub record IsKept (w : Shard) : Type 0 where
   pub lists : AreLists w.lists
@@ -37,11 +44,12 @@ pub record IsKept (w : Shard) : Type 0 where
   pub front : (xs : List ListEntry) → w.copies w.primary ≡ Some xs → xs ≡ w.lists w.view
   pub unbegun : (u : ℕ) → w.view < u → w.lists u ≡ []
   pub present : 0 < length (w.lists w.view)
+  pub own : view_of (w.lists w.view) ≡ w.view
   pub below : view_of w.acknowledged ≤ w.view
   pub whole : IsWhole w.lists w.acknowledged
   pub enough : w.needed ≤ counted w (λ s. not (lacks w.acknowledged (w.copies s)))
-  pub heard : (s : ℕ) → HasUpTo (w.lists w.view) w.copies s (w.heard s)
-  pub words : AllByRecursion (IsTrueOf w.view (w.lists w.view) w.copies) w.words
+  pub heard : (s : ℕ) → IsTrueOf w.view (w.lists w.view) w.copies s (w.heard s)
+  pub words : AllByRecursion (IsTrueWord w.view (w.lists w.view) w.copies) w.words
 
 -- the primary has all that is acknowledged
 pub primary-has-all : (w : Shard) → IsKept w → begins w.acknowledged (w.lists w.view) ≡ true
@@ -54,8 +62,16 @@ begun-below w k u h = elim (cases_lt w.view u) [
   | inr l ↦ l
 ]
 
+-- what it is for a list to be at least as great as another one
+at-least-lists : (xs ys : List ListEntry) → IsAtLeast (told_of ys) (told_of xs) →
+    (view_of xs < view_of ys) ⊎ ((view_of xs ≡ view_of ys) × (length xs ≤ length ys))
+at-least-lists xs ys (inl same) =
+    inr (ap (λ (c : ToldCopy). c.view) same, (let n : length xs ≡ length ys = ap (λ (c : ToldCopy). c.position) same in omega arith))
+at-least-lists xs ys (inr (inl l)) = inl l
+at-least-lists xs ys (inr (inr q)) = inr (q.0, (let l : length xs < length ys = q.1 in omega arith))
+
 module _ (w : Shard) (k : IsKept w) (s h : ℕ) (xs ys : List ListEntry) (ex : w.copies s ≡ Some xs) (ey : w.copies h ≡ Some ys)
-    (b : begins w.acknowledged xs ≡ true) (g : IsAtLeast ys xs) where
+    (b : begins w.acknowledged xs ≡ true) (g : IsAtLeast (told_of ys) (told_of xs)) where
   x-in : begins xs (w.lists (view_of xs)) ≡ true
   x-in = k.copies s xs ex
 
@@ -67,7 +83,7 @@ module _ (w : Shard) (k : IsKept w) (s h : ℕ) (xs ys : List ListEntry) (ex : w
 
   -- a shorter copy would be of an earlier view
   short : length ys < length w.acknowledged → begins ys w.acknowledged ≡ true → ⊥
-  short l c = elim g [
+  short l c = elim (at-least-lists xs ys g) [
     | inl later ↦
         let v : view_of ys ≤ view_of xs = k.lists.views (view_of xs) ys (begins-through ys w.acknowledged (w.lists (view_of xs)) c here) in
         absurd (omega arith)
@@ -80,7 +96,7 @@ module _ (w : Shard) (k : IsKept w) (s h : ℕ) (xs ys : List ListEntry) (ex : w
   later : view_of w.acknowledged ≤ view_of ys
   later =
       let low : view_of w.acknowledged ≤ view_of xs = k.lists.views (view_of xs) w.acknowledged here in
-      elim g [
+      elim (at-least-lists xs ys g) [
         | inl l ↦ omega arith
         | inr q ↦ (let e : view_of xs ≡ view_of ys = q.0 in omega arith)
       ]
@@ -122,28 +138,34 @@ greatest-has-all w k answered heir copy e greatest few =
     told-one true false o e h = absurd (false≢true (sym h))
     told-one false a o e h = absurd (false≢true e)
 
+-- what is told stays true if whoever has the list up to a position does so afterwards
+pub true-stays : (view : ℕ) (list list' : List ListEntry) (copies copies' : ℕ → Option (List ListEntry)) →
+    ((s position : ℕ) → HasUpTo list copies s position → HasUpTo list' copies' s position) → (s : ℕ) (told : ToldCopy) →
+    IsTrueOf view list copies s told → IsTrueOf view list' copies' s told
+true-stays view list list' copies copies' h s told t = record { below = t.below; has = λ e. h s told.position (t.has e) }
+
 -- what follows of each of a list's words
-pub words-more : (P Q : ToldCopy → Type 0) → ((word : ToldCopy) → P word → Q word) → (words : List ToldCopy) → AllByRecursion P words → AllByRecursion Q words
+pub words-more : (P Q : Word → Type 0) → ((word : Word) → P word → Q word) → (words : List Word) → AllByRecursion P words → AllByRecursion Q words
 words-more P Q h [] a = tt
 words-more P Q h (word ∷ words) a = (h word a.0, words-more P Q h words a.1)
 
--- words stay true if whoever has the list up to a position does so afterwards
+-- so do all words
 pub words-stay : (view : ℕ) (list list' : List ListEntry) (copies copies' : ℕ → Option (List ListEntry)) →
-    ((s position : ℕ) → HasUpTo list copies s position → HasUpTo list' copies' s position) → (words : List ToldCopy) →
-    AllByRecursion (IsTrueOf view list copies) words → AllByRecursion (IsTrueOf view list' copies') words
+    ((s position : ℕ) → HasUpTo list copies s position → HasUpTo list' copies' s position) → (words : List Word) →
+    AllByRecursion (IsTrueWord view list copies) words → AllByRecursion (IsTrueWord view list' copies') words
 words-stay view list list' copies copies' h words a =
-    words-more (IsTrueOf view list copies) (IsTrueOf view list' copies')
-    (λ word t. record { below = t.below; has = λ e. h word.server word.position (t.has e) }) words a
+    words-more (IsTrueWord view list copies) (IsTrueWord view list' copies')
+    (λ word t. true-stays view list list' copies copies' h word.server word.copy t) words a
 
 -- in a later view no word counts
-pub words-end : (view later : ℕ) (list list' : List ListEntry) (copies copies' : ℕ → Option (List ListEntry)) → view < later → (words : List ToldCopy) →
-    AllByRecursion (IsTrueOf view list copies) words → AllByRecursion (IsTrueOf later list' copies') words
+pub words-end : (view later : ℕ) (list list' : List ListEntry) (copies copies' : ℕ → Option (List ListEntry)) → view < later → (words : List Word) →
+    AllByRecursion (IsTrueWord view list copies) words → AllByRecursion (IsTrueWord later list' copies') words
 words-end view later list list' copies copies' l words a =
-    words-more (IsTrueOf view list copies) (IsTrueOf later list' copies')
-    (λ word t. (let b : word.view ≤ view = t.below in record { below = omega arith; has = λ e. absurd (omega arith) })) words a
+    words-more (IsTrueWord view list copies) (IsTrueWord later list' copies')
+    (λ word t. (let b : word.copy.view ≤ view = t.below in record { below = omega arith; has = λ e. absurd (omega arith) })) words a
 
 -- a word that was told is true
-pub word-is-true : (P : ToldCopy → Type 0) (words : List ToldCopy) (which : ℕ) (word : ToldCopy) → AllByRecursion P words → slice_get words which ≡ Some word → P word
+pub word-is-true : (P : Word → Type 0) (words : List Word) (which : ℕ) (word : Word) → AllByRecursion P words → slice_get words which ≡ Some word → P word
 word-is-true P [] which word a e = absurd (let n : None ≡ Some word = e in cc)
 word-is-true P (first ∷ words) zero word a e = (let n : Some first ≡ Some word = e in let same : first ≡ word = cc in subst P same a.0)
 word-is-true P (first ∷ words) (suc which) word a e = word-is-true P words which word a.1 e

@@ -4,13 +4,14 @@ use Rattle.std.specs.List.{AllByRecursion}
 use Rattle.std.proofs.lemmas.Bool.{and_from, false≢true}
 use Rattle.sm_placement.specs.Sums.{count_below, put}
 use Rattle.sm_placement.proofs.Sums.{put-apart}
-use Rattle.sm_data_laws.specs.Lists.{ListEntry, begins, beginning, view_of}
-use Rattle.sm_data_laws.specs.Shard.{ToldCopy, with_heard, MayHappenInTurn, Event, Acknowledges, Changes, Chooses, Copies, Executes, Follows, Goes, Hands, MayHappen, IsShardReached, Joins, Leave, Loses, Lowers, Raises, Removes, Restarts, Shard, Stays, Tells, Hears, left_by, lacks, names, new_shard, all_left}
+use Rattle.sm_copies.specs.Lists.{ListEntry, begins, beginning, view_of}
+use Rattle.sm_copies.proofs.Lists.{begins-self, begins-shorter, begins-through}
+use Rattle.sm_data_laws.specs.Shard.{Word, with_heard, MayHappenInTurn, Event, Acknowledges, Changes, Chooses, Copies, Executes, Follows, Goes, Hands, MayHappen, IsShardReached, Joins, Leave, Loses, Lowers, Raises, Removes, Restarts, Shard, Stays, Tells, Hears, left_by, lacks, names, new_shard, all_left}
 use Rattle.sm_data_laws.specs.Laws.{AcknowledgedWritesStay, EnoughHaveThem, GreatestHasAll}
-use Rattle.sm_data_laws.proofs.Lists.{begins-self, begins-shorter, begins-through, lacks-nothing, put-cases}
+use Rattle.sm_data_laws.proofs.Lists.{lacks-nothing, put-cases}
 use Rattle.sm_data_laws.proofs.Counts.{count-more}
 use Rattle.sm_data_laws.proofs.Growth.{grown-copies, grown-lists}
-use Rattle.sm_data_laws.proofs.Events.{kept}
+use Rattle.sm_data_laws.proofs.Events.{kept, unheard}
 use Rattle.sm_data_laws.proofs.Invariant.{AreCopies, AreLists, IsKept, greatest-has-all, primary-has-all}
 
 -- a new shard
@@ -31,20 +32,17 @@ new-kept servers replicas primary needed enough =
       ];
       unbegun = λ u l. put-apart (λ _. []) 0 (beginning 0 ∷ []) u (λ q. absurd (omega arith));
       present = omega arith;
+      own = refl;
       below = omega arith;
       whole = λ u some low. refl;
       enough = omega arith;
-      heard = λ s. record { bound = omega arith; part = λ xs ys h b l. nothing-told ys xs l };
+      heard = unheard 0 (put (λ _. []) 0 (beginning 0 ∷ []) 0) (put (λ _. None) primary (Some (beginning 0 ∷ [])));
       words = tt;
     }
   where
     empty-view : (xs : List ListEntry) → {u : ℕ} → begins xs [] ≡ true → view_of xs ≤ u
     empty-view [] b = omega arith
     empty-view (x ∷ xs) b = absurd (false≢true b)
-
-    nothing-told : (ys xs : List ListEntry) → length ys ≤ 0 → begins ys xs ≡ true
-    nothing-told [] xs l = refl
-    nothing-told (y ∷ ys) xs l = absurd (omega arith)
 
 -- a whole schedule keeps what holds
 all-kept : (w : Shard) (es : List Event) → IsKept w → MayHappenInTurn w es → IsKept (all_left es w)
@@ -60,9 +58,9 @@ stays-acknowledged w k (Executes write) a n = begins-self w.acknowledged
 stays-acknowledged w k (Copies s) a n = begins-self w.acknowledged
 stays-acknowledged w k (Follows s list) a n = begins-self w.acknowledged
 stays-acknowledged w k (Tells s) a n = begins-self w.acknowledged
-stays-acknowledged w k (Hears which) a n = subst (λ (o : Option ToldCopy). begins w.acknowledged (with_heard w o).acknowledged ≡ true) (sym a.1) (begins-self w.acknowledged)
+stays-acknowledged w k (Hears which) a n = subst (λ (o : Option Word). begins w.acknowledged (with_heard w o).acknowledged ≡ true) (sym a.1) (begins-self w.acknowledged)
 stays-acknowledged w k (Acknowledges list) a n =
-    begins-shorter w.acknowledged list a.0 (subst (λ (ys : List ListEntry). begins w.acknowledged ys ≡ true) (sym (k.front a.0 a.1)) (primary-has-all w k)) a.2 a.4
+    begins-shorter w.acknowledged list a.0 (subst (λ (ys : List ListEntry). begins w.acknowledged ys ≡ true) (sym (k.front a.0 a.2)) (primary-has-all w k)) a.3 a.5
 stays-acknowledged w k (Joins s) a n = begins-self w.acknowledged
 stays-acknowledged w k (Leave s) a n = begins-self w.acknowledged
 stays-acknowledged w k (Goes s) a n = begins-self w.acknowledged

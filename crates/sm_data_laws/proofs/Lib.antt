@@ -2,6 +2,7 @@ mod Lists
 mod Counts
 mod Invariant
 mod Growth
+mod Told
 mod Events
 mod Laws
 mod Plays

@@ -1,7 +1,8 @@
 -- The laws of data.
 use Rattle.std.specs.Prelude.{◌≡◌, ◌<◌, ◌≤◌, ℕ, Bool, true, false, not, List, Some}
 use Rattle.std.specs.List.{AllByRecursion}
-use Rattle.sm_data_laws.specs.Shard.{MayHappenInTurn, ListEntry, Event, IsGreatest, IsShardReached, Shard, begins, counted, gone, lacks, names, all_left}
+use Rattle.sm_copies.specs.Lists.{ListEntry, begins}
+use Rattle.sm_data_laws.specs.Shard.{MayHappenInTurn, Event, IsGreatest, IsShardReached, Shard, counted, gone, lacks, names, all_left}
 
 -- Whatever happens from now on, if the shard is not named as lost its primary has all that is acknowledged now, as long as it has a whole copy.
 abbrev pub AcknowledgedWritesStay : Type 0

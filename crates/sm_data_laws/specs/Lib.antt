@@ -1,4 +1,3 @@
-pub mod Lists
 pub mod Shard
 pub mod Laws
 pub mod Plays

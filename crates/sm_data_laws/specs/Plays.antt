@@ -1,6 +1,6 @@
 -- A worked play: the premises of the laws can be met.
 use Rattle.std.specs.Prelude.{◌≡◌, true, false, List, [], ◌∷◌, Some}
-use Rattle.sm_data_laws.specs.Lists.{ListEntry, beginning}
+use Rattle.sm_copies.specs.Lists.{ListEntry, beginning}
 use Rattle.sm_data_laws.specs.Shard.{Event, Acknowledges, Chooses, Copies, Executes, Follows, Hears, Loses, MayHappenInTurn, Shard, Tells, all_left, new_shard}
 
 -- three replicas, of which 0 is primary; two have each write
@@ -15,7 +15,7 @@ SEVEN = record { view = 0; write = 7 }
 -- server 1, with nothing named.
 abbrev pub PRIMARY_IS_LOST : List Event
 PRIMARY_IS_LOST =
-    Copies 1 ∷ Copies 2 ∷ Executes 7 ∷ Follows 1 (beginning 0 ∷ SEVEN ∷ []) ∷ Tells 0 ∷ Tells 1 ∷ Hears 0 ∷ Hears 1 ∷ Acknowledges (beginning 0 ∷ SEVEN ∷ [])
+    Copies 1 ∷ Copies 2 ∷ Executes 7 ∷ Follows 1 (beginning 0 ∷ SEVEN ∷ []) ∷ Tells 1 ∷ Hears 0 ∷ Acknowledges (beginning 0 ∷ SEVEN ∷ [])
     ∷ Loses 0
     ∷ Chooses (record { heir = 1; view = 5; replicas = λ _. true; answered = λ _. true; needed = 1; named = false })
     ∷ []

@@ -1,13 +1,20 @@
 -- What happens to the data of one shard: writes, copies, losses, replicas that come and go, other primaries. What a server has is what is durable there.
-use Rattle.std.specs.Prelude.{◌≡◌, ◌<◌, ◌≤◌, ◌+◌, ◌==◌, ◌&&◌, nat_le, ℕ, Bool, true, false, not, List, [], ◌∷◌, ◌++◌, Option, Some, None, is_some, length, slice_get, if◌then◌else◌}
+use Rattle.std.specs.Prelude.{◌≡◌, ◌<◌, ◌≤◌, ◌+◌, ◌==◌, ◌&&◌, nat_lt, ℕ, zero, suc, Bool, true, false, not, List, [], ◌∷◌, ◌++◌, Option, Some, None, is_some, length, slice_get, if◌then◌else◌}
 use Rattle.sm_placement.specs.Sums.{put, count_below}
-pub use Rattle.sm_data_laws.specs.Lists.{ListEntry, IsAtLeast, Resumes, begins, beginning, view_of}
+use Rattle.sm_copies.specs.declared.order.ToldCopy.{ToldCopy}
+use Rattle.sm_copies.specs.Order.{IsAtLeast}
+use Rattle.sm_copies.specs.Views.{Resumes}
+use Rattle.sm_copies.specs.Counting.{HaveEnough, IsAcknowledged}
+use Rattle.sm_copies.specs.Lists.{ListEntry, begins, beginning, told_of, view_of, views_of}
 
--- What a server has told of its copy: its view and its position.
-pub record ToldCopy : Type 0 where
+-- What a server has told of its copy.
+pub record Word : Type 0 where
   pub server : ℕ
-  pub view : ℕ
-  pub position : ℕ
+  pub copy : ToldCopy
+
+-- what stands for a copy of which nothing was heard
+abbrev pub NOTHING_HEARD : ToldCopy
+NOTHING_HEARD = record { view = 0; position = 0 }
 
 -- A shard's data. A copy is there only if it is whole: a beginning of the shard's list.
 pub record Shard : Type 0 where
@@ -19,12 +26,12 @@ pub record Shard : Type 0 where
   pub replicas : ℕ → Bool
   pub leaving : ℕ → Bool
   pub primary : ℕ
-  -- the view of the primary, the position in it that it has heard of each server, and how many replicas it asks for
+  -- the view of the primary, what it has heard of the copy of each server, and how many copies it asks for
   pub view : ℕ
-  pub heard : ℕ → ℕ
+  pub heard : ℕ → ToldCopy
   pub needed : ℕ
   -- all that was ever told; it may be heard late, again, or never
-  pub words : List ToldCopy
+  pub words : List Word
   -- the beginning of the list that is acknowledged
   pub acknowledged : List ListEntry
   -- the list of each view as its primary had it; nothing that happens depends on these
@@ -79,9 +86,26 @@ pub data Event : Type 0 where
 abbrev pub counted : Shard → (ℕ → Bool) → ℕ
 counted w test = count_below w.servers (λ s. w.replicas s && (not (w.leaving s) && test s))
 
--- whether the primary has heard of a server that its position is at the end of a list or behind it
-abbrev pub has_heard : Shard → List ListEntry → ℕ → Bool
-has_heard w list s = nat_le (length list) (w.heard s)
+-- whether a server is a replica that does not leave
+abbrev pub is_counted : Shard → ℕ → Bool
+is_counted w s = w.replicas s && not (w.leaving s)
+
+-- what the primary has heard of the replicas below a number that do not leave, but for itself
+abbrev pub told_below : Shard → ℕ → List ToldCopy
+told_below w zero = []
+told_below w (suc n) = if is_counted w n && not (n == w.primary) then w.heard n ∷ told_below w n else told_below w n
+
+-- what it has heard of all of them
+abbrev pub told : Shard → List ToldCopy
+told w = told_below w w.servers
+
+-- How many copies a primary asks for, which counts its own in any case: one more, if it leaves or is no replica.
+abbrev pub asked_copies : Shard → ℕ → ℕ
+asked_copies w needed = if nat_lt w.primary w.servers && is_counted w w.primary then needed else suc needed
+
+-- So many copies have the writes up to a position, by what the primary has heard.
+abbrev pub HasHeardEnough : Shard → ℕ → ℕ → Type 0
+HasHeardEnough w needed position = (source : List ListEntry) × (w.copies w.primary ≡ Some source) × HaveEnough (asked_copies w needed) (told_of source) (told w) position
 
 -- whether a whole copy lacks something of a list
 abbrev pub lacks : List ListEntry → Option (List ListEntry) → Bool
@@ -99,7 +123,7 @@ is_copy list (Some copy) = (length list == length copy) && begins list copy
 
 -- no copy that is told is greater
 abbrev pub IsGreatest : Shard → (ℕ → Bool) → List ListEntry → Type 0
-IsGreatest w answered heir = (s : ℕ) (copy : List ListEntry) → s < w.servers → answered s ≡ true → w.copies s ≡ Some copy → IsAtLeast heir copy
+IsGreatest w answered heir = (s : ℕ) (copy : List ListEntry) → s < w.servers → answered s ≡ true → w.copies s ≡ Some copy → IsAtLeast (told_of heir) (told_of copy)
 
 -- The rules of a choice: the heir's copy is told, and is the greatest; its view is a new one; as many replicas as are asked for have its copy; and unless
 -- the shard is named fewer than were asked for are gone.
@@ -114,20 +138,22 @@ pub record IsChosen (w : Shard) (choice : Choice) (copy : List ListEntry) : Type
 abbrev pub MayHappen : Shard → Event → Type 0
 MayHappen w (Executes write) = is_some (w.copies w.primary) ≡ true
 MayHappen w (Copies s) = is_some (w.copies w.primary) ≡ true
-MayHappen w (Follows s list) = (copy source : List ListEntry) × (w.copies s ≡ Some copy) × (w.copies w.primary ≡ Some source) × Resumes copy source
+MayHappen w (Follows s list) = (copy source : List ListEntry) × (w.copies s ≡ Some copy) × (w.copies w.primary ≡ Some source)
+    × Resumes (told_of copy) (views_of source) (length source)
     × (begins list source ≡ true) × (length copy ≤ length list)
 MayHappen w (Tells s) = is_some (w.copies s) ≡ true
-MayHappen w (Hears which) = (word : ToldCopy) × (slice_get w.words which ≡ Some word) × (word.view ≡ w.view)
-MayHappen w (Acknowledges list) = (source : List ListEntry) × (w.copies w.primary ≡ Some source) × (begins list source ≡ true) × (view_of list ≡ w.view)
-    × (length w.acknowledged ≤ length list) × (w.needed ≤ counted w (has_heard w list))
+MayHappen w (Hears which) = (word : Word) × (slice_get w.words which ≡ Some word)
+MayHappen w (Acknowledges list) = (source : List ListEntry) × (position : ℕ) × (w.copies w.primary ≡ Some source) × (begins list source ≡ true)
+    × (view_of list ≡ w.view) × (length w.acknowledged ≤ length list)
+    × IsAcknowledged (asked_copies w w.needed) (told_of source) (told w) position × (length list ≤ position)
 MayHappen w (Joins s) = Unit
-MayHappen w (Leave s) = w.needed ≤ counted w (λ other. not (other == s) && has_heard w w.acknowledged other)
+MayHappen w (Leave s) = HasHeardEnough (record w { leaving = put w.leaving s true }) w.needed (length w.acknowledged)
 MayHappen w (Goes s) = w.leaving s ≡ true
 MayHappen w (Stays s) = Unit
 MayHappen w (Loses s) = Unit
 MayHappen w (Hands s) = (copy : List ListEntry) × (w.copies w.primary ≡ Some copy) × (w.copies s ≡ Some copy)
 MayHappen w (Restarts view) = (is_some (w.copies w.primary) ≡ true) × (w.view < view)
-MayHappen w (Raises needed) = needed ≤ counted w (has_heard w w.acknowledged)
+MayHappen w (Raises needed) = HasHeardEnough w needed (length w.acknowledged)
 MayHappen w (Lowers needed) = needed ≤ w.needed
 MayHappen w (Removes gone needed) = needed + count_below w.servers (λ s. w.replicas s && gone s) ≤ w.needed
 MayHappen w (Changes s view answered) = (copy : List ListEntry) × (w.copies s ≡ Some copy) × IsGreatest w answered copy × (w.view < view) × (gone w answered < w.needed)
@@ -144,31 +170,27 @@ with_list w s view list = record w { copies = put w.copies s (Some list); lists 
 
 -- a server begins a view as its primary: nobody has told it anything yet
 abbrev pub with_view : Shard → ℕ → ℕ → Shard
-with_view w s view = record (with_list w s view (list_of (w.copies s) ++ beginning view ∷ [])) { primary = s; view = view; heard = λ _. 0 }
+with_view w s view = record (with_list w s view (list_of (w.copies s) ++ beginning view ∷ [])) { primary = s; view = view; heard = λ _. NOTHING_HEARD }
 
--- what a server tells of its copy
-abbrev pub told_of : ℕ → List ListEntry → ToldCopy
-told_of s copy = record { server = s; view = view_of copy; position = length copy }
-
--- the primary with_heard a word
-abbrev pub with_heard : Shard → Option ToldCopy → Shard
+-- the primary has heard a word
+abbrev pub with_heard : Shard → Option Word → Shard
 with_heard w None = w
-with_heard w (Some word) = record w { heard = put w.heard word.server word.position }
+with_heard w (Some word) = record w { heard = put w.heard word.server word.copy }
 
 -- The shard after something has happened.
 abbrev pub left_by : Shard → Event → Shard
 left_by w (Executes write) = with_list w w.primary w.view (list_of (w.copies w.primary) ++ record { view = w.view; write = write } ∷ [])
 left_by w (Copies s) = record w { copies = put w.copies s (w.copies w.primary) }
 left_by w (Follows s list) = record w { copies = put w.copies s (Some list) }
-left_by w (Tells s) = record w { words = told_of s (list_of (w.copies s)) ∷ w.words }
+left_by w (Tells s) = record w { words = record { server = s; copy = told_of (list_of (w.copies s)) } ∷ w.words }
 left_by w (Hears which) = with_heard w (slice_get w.words which)
 left_by w (Acknowledges list) = record w { acknowledged = list }
-left_by w (Joins s) = record w { replicas = put w.replicas s true; leaving = put w.leaving s false; heard = put w.heard s 0 }
+left_by w (Joins s) = record w { replicas = put w.replicas s true; leaving = put w.leaving s false; heard = put w.heard s NOTHING_HEARD }
 left_by w (Leave s) = record w { leaving = put w.leaving s true }
 left_by w (Goes s) = record w { replicas = put w.replicas s false; copies = put w.copies s None }
-left_by w (Stays s) = record w { leaving = put w.leaving s false; heard = put w.heard s 0 }
+left_by w (Stays s) = record w { leaving = put w.leaving s false; heard = put w.heard s NOTHING_HEARD }
 left_by w (Loses s) = record w { copies = put w.copies s None }
-left_by w (Hands s) = record w { primary = s; heard = λ _. 0 }
+left_by w (Hands s) = record w { primary = s; heard = λ _. NOTHING_HEARD }
 left_by w (Restarts view) = with_view w w.primary view
 left_by w (Raises needed) = record w { needed = needed }
 left_by w (Lowers needed) = record w { needed = needed }
@@ -206,7 +228,7 @@ new_shard servers replicas primary needed =
       leaving = λ _. false;
       primary = primary;
       view = 0;
-      heard = λ _. 0;
+      heard = λ _. NOTHING_HEARD;
       needed = needed;
       words = [];
       acknowledged = [];

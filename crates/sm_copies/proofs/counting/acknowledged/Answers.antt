@@ -15,9 +15,9 @@ loop-copy-preserved g = record {
     | inr new ↦ subst (λ (n : ℕ). HaveEnough g.args.copies g.args.own.now g.args.told.now n) (sym new.0) new.1
   ];
   own = λ h.
-    let a : g.args.own.now.position ≤ g.loop-copy.greatest = g.loop-copy.invariant.own h in
-    let b : g.loop-copy.greatest ≤ g.raised-greatest-in-loop-copy.result = g.raised-greatest-in-loop-copy.ensures.stays in
-    omega arith;
+      let a : g.args.own.now.position ≤ g.loop-copy.greatest = g.loop-copy.invariant.own h in
+      let b : g.loop-copy.greatest ≤ g.raised-greatest-in-loop-copy.result = g.raised-greatest-in-loop-copy.ensures.stays in
+      omega arith;
   seen = λ k d l h. elim (cases_lt k g.loop-copy.copy-index) [
     | inl before ↦
         let a : (get_or g.args.told.now k d).position ≤ g.loop-copy.greatest = g.loop-copy.invariant.seen k d before h in
