@@ -7,7 +7,7 @@ import sys
 from dataclasses import replace
 
 sys.path.insert(0, os.path.join(os.path.dirname(os.path.abspath(__file__)), "../python"))
-from kv_store import Store  # noqa: E402  (the path comes first)
+from kv_store import Store, has_more  # noqa: E402  (the path comes first)
 from smplan import agent  # noqa: E402
 from smplan.agent import Answer, Call, Cell, Request, Restoration, Role, Settlement, Slot  # noqa: E402
 
@@ -46,10 +46,10 @@ class Server(Store):
     def offer(self, shard, mark):
         """What a peer with this mark lacks, and behind which place. Who does not serve offers it only to one that has a copy, and less."""
         mine = self.mark(shard)
-        has_more = self.slot(shard).cell in (Cell.SECONDARY, Cell.FORWARDING) and None not in (mark, mine) and mark < mine
-        if not self.serves(shard) and not has_more:
+        is_ahead = self.slot(shard).cell in (Cell.SECONDARY, Cell.FORWARDING) and None not in (mark, mine) and has_more(mine, mark)
+        if not self.serves(shard) and not is_ahead:
             return None
-        after = mark[1] if mark and self.begins_with(shard, *mark) else 0
+        after = mark.position if mark and self.begins_with(shard, mark) else 0
         return self.copy_of(shard, after), after
 
     def pull(self, shard, source, reopened=0):
@@ -77,7 +77,8 @@ class Server(Store):
         mine, old = self.mark(shard), self.slot(shard).party or self.old_owner(shard)
         told = {it: self.ask(it, "pull", shard, self.number, self.reopened()) for it in self.peers if it not in (self.number, but)}
         marks = [it for it in told.values() if it not in (None, LOST)]
-        return all(it == mine for it in marks) and len(marks) + 1 >= self.copies and (old in (0, but) or told.get(old) == mine)
+        is_copied = all(it == mine for it in marks) and agent.copied(self.copies, mine, marks, mine.position)
+        return is_copied and (old in (0, but) or told.get(old) == mine)
 
     # -- orders
 
@@ -137,9 +138,10 @@ class Server(Store):
         """Whether each other replica has answered, and none has more. First it follows those that have."""
         marks = {it: self.ask(it, "mark", shard) for it in self.replicas(shard)[1]}
         for it, mark in marks.items() if self.mark(shard) else ():
-            if mark not in (None, LOST) and mark > self.mark(shard):
+            if mark not in (None, LOST) and has_more(mark, self.mark(shard)):
                 self.pull(shard, it)
-        return self.mark(shard) is not None and all(it is None or (it != LOST and it <= self.mark(shard)) for it in marks.values())
+        mine = self.mark(shard)
+        return mine is not None and all(it is None or (it != LOST and not has_more(it, mine)) for it in marks.values())
 
     def copy_for(self, shard, order):
         """What a server copies that is to have the shard: all that the owner of the handover has, or the primary; if there is none, a replica."""
@@ -178,7 +180,7 @@ class Server(Store):
             return
         self.questions.pop(shard, None)  # (of two that ask each other the one with the higher number answers, and asks anew)
         is_it, mine = self.serves(shard), self.mark(shard)
-        has_all = self.slot(shard).cell == Cell.SECONDARY and None not in (mine, mark) and mine >= mark
+        has_all = self.slot(shard).cell == Cell.SECONDARY and None not in (mine, mark) and not has_more(mark, mine)
         if self.replicate(shard, but=number) if is_it else has_all:
             with self.db:
                 if self.old_owner(shard) == number:

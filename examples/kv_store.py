@@ -7,7 +7,7 @@ import sqlite3
 from dataclasses import astuple
 
 from smplan import agent
-from smplan.agent import Base, Slot
+from smplan.agent import Answer, Base, Slot, ToldCopy, ViewStart
 
 TABLES = """
 CREATE TABLE IF NOT EXISTS base (one INTEGER PRIMARY KEY, journal, number, nonce, known, fenced);
@@ -17,6 +17,11 @@ CREATE TABLE IF NOT EXISTS writes (shard, place, request, key, text, reply, PRIM
 CREATE TABLE IF NOT EXISTS views (shard, view, began, PRIMARY KEY (shard, view));
 CREATE TABLE IF NOT EXISTS old_owners (shard TEXT PRIMARY KEY, number);
 """
+
+
+def has_more(one, other):
+    """Whether one copy has more than another one."""
+    return agent.compare(one, other) == Answer.GREATER
 
 
 class Store:
@@ -62,14 +67,14 @@ class Store:
         return self.db.execute("SELECT COUNT(*) FROM writes WHERE shard = ?", (shard,)).fetchone()[0]
 
     def mark(self, shard):
-        """The view and position of the copy; None without one. Of two copies the one with the greater mark has more."""
+        """The view and position of the copy; None without one."""
         view = self.db.execute("SELECT MAX(view) FROM views WHERE shard = ?", (shard,)).fetchone()[0]
-        return None if view is None else (view, self.applied(shard))
+        return None if view is None else ToldCopy(view, self.applied(shard))
 
-    def begins_with(self, shard, view, position):
-        """Whether a copy with this mark is a beginning of the one here: it has this view, and ends where that ended, or before."""
-        began = dict(self.db.execute("SELECT view, began FROM views WHERE shard = ?", (shard,)).fetchall())
-        return view in began and position <= min([began[it] for it in began if it > view], default=self.applied(shard))
+    def begins_with(self, shard, mark):
+        """Whether a copy with this mark is a beginning of the one here."""
+        views = [ViewStart(*it) for it in self.db.execute("SELECT view, began FROM views WHERE shard = ? ORDER BY view", (shard,))]
+        return agent.resumes(mark, views, self.applied(shard))
 
     def copy_of(self, shard, after=0):
         """A shard's views, and its writes behind a place, with the identities and replies of the requests that made them."""

@@ -387,3 +387,58 @@ func Publish(base Base, shown uint64, it Stamp) Verdict {
 	}
 	return Again
 }
+
+// ToldCopy is what is told of a whole copy: the view of its list, and how many writes it has.
+type ToldCopy struct{ View, Position uint64 }
+
+// ViewStart is a view of a list, and the position at which it began.
+type ViewStart struct{ View, Position uint64 }
+
+// Compare returns -1, 0 or 1 for a copy that is less than another one, the same or greater: the one of the later view is greater, then the
+// longer one.
+func Compare(one, other ToldCopy) int {
+	switch {
+	case one == other:
+		return 0
+	case one.View < other.View || one.View == other.View && one.Position < other.Position:
+		return -1
+	}
+	return 1
+}
+
+// Resumes tells whether a copy is a beginning of a list that ends at a position and has these views, in rising order.
+func Resumes(copy ToldCopy, views []ViewStart, end uint64) bool {
+	for i, it := range views {
+		until := end
+		if i+1 < len(views) {
+			until = views[i+1].Position
+		}
+		if it.View == copy.View && copy.Position <= until {
+			return true
+		}
+	}
+	return false
+}
+
+// IsCopied tells whether so many copies have the writes up to a position: the primary's own, and those that others have told, of whom none
+// leaves.
+func IsCopied(copies uint64, own ToldCopy, told []ToldCopy, position uint64) bool {
+	count := uint64(1)
+	for _, it := range told {
+		if it.View == own.View && position <= it.Position {
+			count++
+		}
+	}
+	return position <= own.Position && copies <= count
+}
+
+// Acknowledged returns the position up to which a primary acknowledges: the greatest that so many copies have, 0 if there is none.
+func Acknowledged(copies uint64, own ToldCopy, told []ToldCopy) uint64 {
+	greatest := uint64(0)
+	for _, it := range append([]ToldCopy{own}, told...) {
+		if greatest < it.Position && IsCopied(copies, own, told, it.Position) {
+			greatest = it.Position
+		}
+	}
+	return greatest
+}

@@ -1,6 +1,7 @@
 //! A server's side of moving shards, in plain Rust: a port of the library of include/sm_agent.h, which says what each function answers.
 //! The proved functions write vectors (`make vectors`, tests/agent/README.md), which this port passes.
 
+use std::cmp::Ordering;
 use std::collections::BTreeMap;
 
 #[derive(Clone, Copy, Debug, Default, PartialEq, Eq)]
@@ -302,4 +303,40 @@ pub fn heed(base: &Base, journal: u64, number: u64, nonce: u64) -> Base {
 
 pub fn publish(base: &Base, shown: u64, publication: &Stamp) -> Verdict {
     turned_away(base, publication).unwrap_or(if shown < publication.number { Verdict::Begin } else { Verdict::Again })
+}
+
+/// What is told of a whole copy: the view of its list, and how many writes it has.
+#[derive(Clone, Copy, Debug, PartialEq, Eq, PartialOrd, Ord)]
+pub struct ToldCopy {
+    pub view: u64,
+    pub position: u64,
+}
+
+/// A view of a list, and the position at which it began.
+#[derive(Clone, Copy, Debug, PartialEq, Eq)]
+pub struct ViewStart {
+    pub view: u64,
+    pub position: u64,
+}
+
+/// Compares two copies: the one of the later view is greater, then the longer one.
+pub fn compare(one: &ToldCopy, other: &ToldCopy) -> Ordering {
+    one.cmp(other)
+}
+
+/// Whether a copy is a beginning of a list that ends at a position and has these views, in rising order.
+pub fn resumes(copy: &ToldCopy, views: &[ViewStart], end: u64) -> bool {
+    let ends = views.iter().skip(1).map(|it| it.position).chain([end]);
+    views.iter().zip(ends).any(|(it, until)| it.view == copy.view && copy.position <= until)
+}
+
+/// Whether so many copies have the writes up to a position: the primary's own, and those that others have told, of whom none leaves.
+pub fn is_copied(copies: u64, own: &ToldCopy, told: &[ToldCopy], position: u64) -> bool {
+    let others = told.iter().filter(|it| it.view == own.view && position <= it.position).count() as u64;
+    position <= own.position && copies <= others + 1
+}
+
+/// The position up to which a primary acknowledges: the greatest that so many copies have, 0 if there is none.
+pub fn acknowledged(copies: u64, own: &ToldCopy, told: &[ToldCopy]) -> u64 {
+    told.iter().chain([own]).map(|it| it.position).filter(|it| is_copied(copies, own, told, *it)).max().unwrap_or(0)
 }

@@ -5,13 +5,14 @@ the new base or slot beside its answer. A slot of zeros, `Slot()`, is that of an
 """
 from dataclasses import dataclass, replace
 from enum import IntEnum
-from typing import Any, Dict, Mapping, Optional, Tuple, Union
+from typing import Any, Dict, Mapping, NamedTuple, Optional, Sequence, Tuple, Union
 
 
 class Answer(IntEnum):
     """What a function answers: SM_BEGIN and so on."""
     BEGIN, WORKING, AGAIN, OLD, FOREIGN, NOT_READY, DOWN, ALREADY_HELD, NOT_HELD, WRONG_ROLE, NO_ROOM = range(1, 12)
     EXECUTE, PASS_ON, NOT_HERE, NOT_YET, TAKEN, IGNORED, DONE, NOT_DONE, INCOMPLETE = range(12, 21)
+    LESS, EQUAL, GREATER = range(21, 24)
 
 
 class Cell(IntEnum):
@@ -92,6 +93,18 @@ class Restoration:
     fence: int
     number: int
     nonce: int
+
+
+class ToldCopy(NamedTuple):
+    """What is told of a whole copy: the view of its list, and how many writes it has."""
+    view: int
+    position: int
+
+
+class ViewStart(NamedTuple):
+    """A view of a list, and the position at which it began."""
+    view: int
+    position: int
 
 
 # The cell that a call leads to: call, role, new role and cell before. What is not here is refused.
@@ -261,3 +274,25 @@ def publish(base, shown, journal, fence_, version):
     """What the owner of the published map makes of a publication."""
     away = turned_away(base, journal, fence_, version)
     return away if away is not None else Answer.BEGIN if shown < version else Answer.AGAIN
+
+
+def compare(one: ToldCopy, other: ToldCopy) -> Answer:
+    """How a copy compares with another one: the one of the later view is greater, then the longer one."""
+    return Answer.LESS if one < other else Answer.GREATER if other < one else Answer.EQUAL
+
+
+def resumes(copy: ToldCopy, views: Sequence[ViewStart], end: int) -> bool:
+    """Whether a copy is a beginning of a list that ends at a position and has these views, in rising order."""
+    ends = [*(it.position for it in views[1:]), end]
+    return any(it.view == copy.view and copy.position <= until for it, until in zip(views, ends))
+
+
+def copied(copies: int, own: ToldCopy, told: Sequence[ToldCopy], position: int) -> bool:
+    """Whether so many copies have the writes up to a position: the primary's own, and those that others have told, of whom none leaves."""
+    others = sum(it.view == own.view and position <= it.position for it in told)
+    return position <= own.position and copies <= others + 1
+
+
+def acknowledged(copies: int, own: ToldCopy, told: Sequence[ToldCopy]) -> int:
+    """The position up to which a primary acknowledges: the greatest that so many copies have, 0 if there is none."""
+    return max((it.position for it in (own, *told) if copied(copies, own, told, it.position)), default=0)

@@ -389,7 +389,7 @@ class ComparesPositions(Server):
     """Compares copies by their positions, and not by their views."""
     def mark(self, shard):
         mark = super().mark(shard)
-        return mark and (0, mark[1])
+        return mark and mark._replace(view=0)
 
 
 def change_of_a_returned_one(kind):
@@ -402,8 +402,8 @@ def change_of_a_returned_one(kind):
 
 class GoesOnAnywhere(Server):
     """Goes on from its position, whatever its list."""
-    def begins_with(self, shard, view, position):
-        return position <= self.applied(shard)
+    def begins_with(self, shard, mark):
+        return mark.position <= self.applied(shard)
 
 
 def follower_of_another_list(kind):

@@ -160,7 +160,7 @@ func read(text string) (found numbers) {
 // want fails if a fact is not so.
 func want(what string, is bool) {
 	if !is {
-		fmt.Fprintln(os.Stderr, "at zeros:", what)
+		fmt.Fprintln(os.Stderr, "worked by hand:", what)
 		os.Exit(1)
 	}
 }
@@ -191,8 +191,28 @@ func wantZeros() {
 	want("Publish", Publish(base, 0, Stamp{}) == NotReady)
 }
 
+// wantCopies shows how copies compare and go on, and what enough of them have, worked by hand: of these there are no vectors yet.
+func wantCopies() {
+	early, later := ToldCopy{2, 9}, ToldCopy{5, 3}
+	want("Compare", Compare(early, later) == -1 && Compare(later, early) == 1 && Compare(early, early) == 0 && Compare(early, ToldCopy{2, 8}) == 1)
+	views := []ViewStart{{2, 0}, {5, 4}, {6, 4}}
+	for _, it := range []ToldCopy{{2, 0}, {2, 4}, {5, 4}, {6, 4}, {6, 7}} {
+		want("Resumes", Resumes(it, views, 7))
+	}
+	for _, it := range []ToldCopy{{2, 5}, {5, 5}, {6, 8}, {3, 1}} {
+		want("Resumes", !Resumes(it, views, 7))
+	}
+	want("Resumes of nothing", !Resumes(ToldCopy{}, nil, 0))
+	own, told := ToldCopy{5, 8}, []ToldCopy{{5, 6}, {5, 9}, {2, 7}, {6, 7}}
+	for copies, position := range []uint64{8, 8, 8, 6, 0} {
+		want("Acknowledged", Acknowledged(uint64(copies), own, told) == position)
+	}
+	want("IsCopied", IsCopied(3, own, told, 6) && !IsCopied(3, own, told, 7) && !IsCopied(1, own, told, 9))
+}
+
 func main() {
 	wantZeros()
+	wantCopies()
 	count, lines := 0, bufio.NewScanner(os.Stdin)
 	for ; lines.Scan(); count++ {
 		given, wanted, _ := strings.Cut(lines.Text(), " =")

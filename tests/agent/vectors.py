@@ -82,7 +82,7 @@ def numbers_of(name, made):
 def want(made, wanted):
     """Fails if an answer is another one."""
     if made != wanted:
-        sys.exit(f"at zeros: {made}, and not {wanted}")
+        sys.exit(f"worked by hand: {made}, and not {wanted}")
 
 
 def want_zeros():
@@ -108,6 +108,21 @@ def want_zeros():
     want(agent.publish(base, 0, 0, 0, 0), agent.Answer.NOT_READY)
 
 
+def want_copies():
+    """How copies compare and go on, and what enough of them have, worked by hand: of these there are no vectors yet."""
+    early, later = agent.ToldCopy(2, 9), agent.ToldCopy(5, 3)
+    want([agent.compare(early, later), agent.compare(later, early)], [agent.Answer.LESS, agent.Answer.GREATER])
+    want([agent.compare(early, early), agent.compare(early, agent.ToldCopy(2, 8))], [agent.Answer.EQUAL, agent.Answer.GREATER])
+    views = [agent.ViewStart(2, 0), agent.ViewStart(5, 4), agent.ViewStart(6, 4)]
+    goes_on = [(2, 0), (2, 4), (5, 4), (6, 4), (6, 7)]
+    want([agent.resumes(agent.ToldCopy(*it), views, 7) for it in goes_on], [True] * 5)
+    want([agent.resumes(agent.ToldCopy(*it), views, 7) for it in ((2, 5), (5, 5), (6, 8), (3, 1))], [False] * 4)
+    want(agent.resumes(agent.ToldCopy(0, 0), [], 0), False)
+    own, told = agent.ToldCopy(5, 8), [agent.ToldCopy(5, 6), agent.ToldCopy(5, 9), agent.ToldCopy(2, 7), agent.ToldCopy(6, 7)]
+    want([agent.acknowledged(copies, own, told) for copies in range(5)], [8, 8, 8, 6, 0])
+    want([agent.copied(3, own, told, 6), agent.copied(3, own, told, 7), agent.copied(1, own, told, 9)], [True, False, False])
+
+
 def main():
     count = 0
     for line in sys.stdin:
@@ -118,6 +133,7 @@ def main():
             sys.exit(f"another answer: {line.strip()}: {made}")
         count += 1
     want_zeros()
+    want_copies()
     print(count, "vectors")
     return 0 if count else 1
 

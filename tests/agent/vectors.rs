@@ -4,6 +4,7 @@
 mod agent;
 
 use agent::*;
+use std::cmp::Ordering;
 use std::collections::BTreeMap;
 use std::io::{self, BufRead};
 
@@ -187,12 +188,28 @@ fn want_zeros() {
     assert_eq!(publish(&base, 0, &stamp), Verdict::NotReady);
 }
 
+/// How copies compare and go on, and what enough of them have, worked by hand: of these there are no vectors yet.
+fn want_copies() {
+    let told = |view, position| ToldCopy { view, position };
+    let (early, later) = (told(2, 9), told(5, 3));
+    assert_eq!([compare(&early, &later), compare(&later, &early)], [Ordering::Less, Ordering::Greater]);
+    assert_eq!([compare(&early, &early), compare(&early, &told(2, 8))], [Ordering::Equal, Ordering::Greater]);
+    let views = [(2, 0), (5, 4), (6, 4)].map(|(view, position)| ViewStart { view, position });
+    let goes_on = |(view, position)| resumes(&told(view, position), &views, 7);
+    assert!([(2, 0), (2, 4), (5, 4), (6, 4), (6, 7)].into_iter().all(goes_on));
+    assert!(![(2, 5), (5, 5), (6, 8), (3, 1)].into_iter().any(goes_on) && !resumes(&told(0, 0), &[], 0));
+    let (own, others) = (told(5, 8), [told(5, 6), told(5, 9), told(2, 7), told(6, 7)]);
+    assert_eq!([0, 1, 2, 3, 4].map(|copies| acknowledged(copies, &own, &others)), [8, 8, 8, 6, 0]);
+    assert_eq!([(3, 6), (3, 7), (1, 9)].map(|(copies, at)| is_copied(copies, &own, &others, at)), [true, false, false]);
+}
+
 fn numbers(text: &str) -> Vec<u64> {
     text.split_whitespace().map(|word| word.parse().expect("a number")).collect()
 }
 
 fn main() {
     want_zeros();
+    want_copies();
     let mut count = 0;
     for line in io::stdin().lock().lines() {
         let line = line.expect("a line");
