@@ -1,10 +1,10 @@
 -- The laws.
-use Rattle.std.proofs.Common.{◌≡◌, ℕ, zero, suc, ◌<◌, ◌≤◌, ◌⊎◌, inl, inr, true, List, length, refl, ap, ◌∙◌, arith}
+use Rattle.std.proofs.Common.{◌≡◌, ℕ, zero, suc, ◌<◌, ◌≤◌, ◌⊎◌, inl, inr, List, length, ap, ◌∙◌, arith}
 use Rattle.std.proofs.lemmas.Bool.{cases_lt}
 use Rattle.sm_copies.specs.declared.order.ToldCopy.{ToldCopy}
 use Rattle.sm_copies.specs.Order.{IsLesser}
-use Rattle.sm_copies.specs.Counting.{HaveEnough, IsAcknowledged}
-use Rattle.sm_copies.specs.Lists.{ListEntry, begins, view_of}
+use Rattle.sm_copies.specs.Counting.{IsAcknowledged}
+use Rattle.sm_copies.specs.Lists.{view_of}
 use Rattle.sm_copies.specs.Laws.{AcknowledgesOnePosition, ComparesInOneOrder, ResumesAtABeginning}
 use Rattle.sm_copies.proofs.Lists.{begins-through}
 use Rattle.sm_copies.proofs.Views.{front-resumes, resumes-front}

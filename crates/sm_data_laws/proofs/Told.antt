@@ -1,13 +1,13 @@
 -- Whom a primary counts, by what it has heard.
-use Rattle.std.proofs.Common.{◌≡◌, ℕ, zero, suc, ◌+◌, ◌<◌, ◌≤◌, ◌==◌, inl, inr, Bool, true, false, not, ◌&&◌, leb-true, List, [], ◌∷◌, Some, cond, count_by, length, refl, sym, ap, ◌∙◌, subst, arith, if◌then◌else◌}
+use Rattle.std.proofs.Common.{◌≡◌, ℕ, zero, suc, ◌+◌, ◌<◌, ◌≤◌, ◌==◌, Bool, true, false, not, ◌&&◌, leb-true, List, ◌∷◌, cond, count_by, length, refl, sym, ap, ◌∙◌, subst, arith, if◌then◌else◌}
 use Rattle.std.specs.Prelude.{nat_le, nat_lt}
-use Rattle.std.proofs.lemmas.Bool.{and_from, and_parts, cases_Bool, eq-eqb, eqb-true, ltb-true}
+use Rattle.std.proofs.lemmas.Bool.{and_from, and_parts, eq-eqb, eqb-true, ltb-true}
 use Rattle.sm_placement.specs.Sums.{bit, count_below}
 use Rattle.sm_copies.specs.declared.order.ToldCopy.{ToldCopy}
-use Rattle.sm_copies.specs.Counting.{HaveEnough, counts}
-use Rattle.sm_copies.specs.Lists.{ListEntry, begins, told_of, view_of}
+use Rattle.sm_copies.specs.Counting.{counts}
+use Rattle.sm_copies.specs.Lists.{ListEntry, begins, view_of}
 use Rattle.sm_copies.proofs.Counts.{count-step}
-use Rattle.sm_data_laws.specs.Shard.{HasHeardEnough, Shard, asked_copies, counted, is_counted, lacks, told, told_below}
+use Rattle.sm_data_laws.specs.Shard.{HasHeardEnough, Shard, is_counted, lacks, told, told_below}
 use Rattle.sm_data_laws.proofs.Lists.{lacks-nothing}
 use Rattle.sm_data_laws.proofs.Counts.{count-more, count-one-more}
 use Rattle.sm_data_laws.proofs.Invariant.{IsKept}
