@@ -4,7 +4,7 @@
  * restores. They take no memory, keep nothing, and read and write only the structs that they are given. They are proved to do what the
  * definitions of crates/sm_agent and crates/sm_agent_c say. docs/YOUR-SERVERS.md tells what a server has to do with the answers.
  *
- * Each pointer points to one whole struct of its type (that of sm_take to `n` shards, and never to NULL), aligned for it, and no two pointers of
+ * Each pointer points to one whole struct of its type (an array to `n` of them, and never to NULL), aligned for it, and no two pointers of
  * one call to the same struct. Any values may stand there: if a kind or a flag is out of range, the answer is SM_BAD, and nothing is changed. All functions may be called by
  * any thread; a struct is given to one call at a time. `reserved` members are written as 0 and not read.
  */
@@ -40,7 +40,10 @@ enum sm_answer {
   SM_IGNORED = 17,      /* message: it changes nothing, and is not answered */
   SM_DONE = 18,         /* the slot is changed; or what was asked is so */
   SM_NOT_DONE = 19,     /* the slot is as it was; or what was asked is not so */
-  SM_INCOMPLETE = 20    /* message: the shards given are not those of all slots that it brings; nothing is changed */
+  SM_INCOMPLETE = 20,   /* message: the shards given are not those of all slots that it brings; nothing is changed */
+  SM_LESS = 21,         /* copies: the first one is less, .. */
+  SM_EQUAL = 22,        /* .. the same, .. */
+  SM_GREATER = 23       /* .. or greater */
 };
 
 /* Kinds of cells: what a server has of a shard. */
@@ -145,6 +148,18 @@ typedef struct {
   sm_slot brought;      /* the slot that is brought: `cell`, `party`, `handover` and `load` are read; zeros if none is brought */
 } sm_shard;
 
+/* What is told of a whole copy, always of what is durable. */
+typedef struct {
+  uint64_t view;        /* the view of its list: the number of what made the list's primary */
+  uint64_t position;    /* how many writes it has */
+} sm_copy;
+
+/* A view of a list of writes. */
+typedef struct {
+  uint64_t view;
+  uint64_t position;    /* where it began in the list */
+} sm_view;
+
 /* ---- Orders ---- */
 
 /* Decides what a server makes of an order. `used` is the sum of the loads of its slots that are not absent.
@@ -208,6 +223,23 @@ uint32_t sm_take(sm_base *base, const sm_assignment *assignment, sm_shard *shard
  * under `nonce`, fresh and not 0; delete the slots, and keep the data. Otherwise SM_IGNORED. Call it before sm_judge with each order's journal and
  * fence. */
 uint32_t sm_heed(sm_base *base, const sm_reopening *last, uint64_t nonce);
+
+/* ---- Copies ---- */
+
+/* Compares two copies: SM_LESS, SM_EQUAL or SM_GREATER. The one of the later view is greater, then the longer one. */
+uint32_t sm_compare(const sm_copy *one, const sm_copy *other);
+
+/* Tells whether a copy may go on behind a source, since it is a beginning of the source's list: SM_DONE or SM_NOT_DONE. The list has the `n` views, in
+ * rising order, and ends at the position `end`. */
+uint32_t sm_resumes(const sm_copy *copy, const sm_view *views, size_t n, uint64_t end);
+
+/* Tells whether `copies` copies have the writes up to a position, a primary's own among them: SM_DONE or SM_NOT_DONE. `told` are the `n` copies that
+ * other replicas have told it on their present connections, of whom none leaves. A replica gets leave to drop its copy if this is so of the others. */
+uint32_t sm_copied(uint64_t copies, const sm_copy *own, const sm_copy *told, size_t n, uint64_t position);
+
+/* Returns the position up to which a primary acknowledges: the greatest that `copies` copies have, its own among them; 0 if there is none. `told` are as
+ * for sm_copied. */
+uint64_t sm_acknowledged(uint64_t copies, const sm_copy *own, const sm_copy *told, size_t n);
 
 /* ---- The owner of the published map ---- */
 

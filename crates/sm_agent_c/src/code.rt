@@ -48,6 +48,12 @@ pub(crate) const NOT_DONE: u32 = 19;
 
 pub(crate) const INCOMPLETE: u32 = 20;
 
+pub(crate) const LESS: u32 = 21;
+
+pub(crate) const EQUAL: u32 = 22;
+
+pub(crate) const GREATER: u32 = 23;
+
 /// The kinds of cells. Zeros are of an Unknown server.
 pub(crate) const UNKNOWN: u32 = 0;
 
