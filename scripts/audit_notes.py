@@ -19,7 +19,7 @@ WRONG = {
     "executes_at_owner": "sm_agent/receive_before_the_cut",
     "take": "sm_agent/take_what_is_ignored",
     "leaves_the_rest": "sm_agent/assigned_keeps_what_is_not_brought",
-    "FileStore::open": "journal_store/a_byte_is_not_written_anew",
+    "FileStore::new": "journal_store/a_store_counts_as_renewed",
     "journal_session::serve": "journal_session/end_turn_writes_before_it_keeps",
     "resume": "journal_session/resume_serves_before_it_recovers",
     "recover": "journal_session/recover_goes_on_without_a_sync",

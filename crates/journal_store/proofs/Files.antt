@@ -1,10 +1,11 @@
 -- A store in a file, over the calls of a disk.
-use Rattle.std.proofs.Common.{◌≡◌, ◌⊎◌, inl, inr, ⊎_elim, ℕ, ◌≤◌, List, [], ◌++◌, length, take, drop, refl, sym, ◌∙◌, ap, subst, arith, take-append-drop}
+use Rattle.std.proofs.Common.{◌≡◌, ◌⊎◌, inl, inr, ⊎_elim, ℕ, ◌≤◌, ◌-◌, true, false, List, [], ◌++◌, length, take, drop, refl, sym, ◌∙◌, ap, subst, arith, length-append, take-append-drop}
 use Rattle.std.proofs.lemmas.Bool.{cases_lt}
 use Rattle.std.proofs.lemmas.List.{take-take, length-take, take-append-le}
 use Rattle.journal_store.specs.declared.file.FileStore.{FileStore}
 use Rattle.journal_store.specs.Store.{written_now, MayLeave, IsSynced, Passes, IsTorn, IsCut, StepsTo}
 use Rattle.journal_store.specs.Disk.{DiskPasses, IsBrought, IsFirm, file_left}
+use Rattle.journal_store.specs.FileStore.{KeepsFile}
 
 -- what is the same up to a place is the same up to an earlier one
 take_less : (less more : ℕ) (a b : List ℕ) → less ≤ more → take more a ≡ take more b → take less a ≡ take less b
@@ -13,6 +14,32 @@ take_less less more a b within same = sym (take-take less more a within) ∙ ap 
 -- a text that agrees with another one up to a place is that long
 is_long : (place : ℕ) (content text : List ℕ) → take place content ≡ take place text → place ≤ length text → place ≤ length content
 is_long place content text same within = omega (arith, ap length same, length-take place content, length-take place text, within)
+
+-- Two calls that leave what was written: the second one is a sync.
+module _ {D : Type 0} (moment : D → ℕ) (written_at : D → ℕ → List ℕ) (left_at : D → ℕ → List ℕ → Type 0) where
+  pub sync_behind : (old mid new : D) → Passes moment written_at left_at old mid (written_now moment written_at old) (MayLeave moment left_at old) → written_now moment written_at mid ≡ written_now moment written_at old
+      → Passes moment written_at left_at mid new (written_now moment written_at mid) (λ content. MayLeave moment left_at mid content ⊎ (content ≡ written_now moment written_at mid))
+      → Passes moment written_at left_at old new (written_now moment written_at old) (λ content. MayLeave moment left_at old content ⊎ (content ≡ written_now moment written_at old))
+  sync_behind old mid new first same second = record {
+    later = omega (arith, first.later, second.later);
+    texts = λ n past. second.texts n (omega (arith, past, first.later)) ∙ first.texts n past;
+    before = λ n content past left. first.before n content past (second.before n content (omega (arith, past, first.later)) left);
+    kept = λ n content past left. second.kept n content (omega (arith, past, first.later)) (first.kept n content past left);
+    written = λ n after until. ⊎_elim
+        (λ later. second.written n later until ∙ same)
+        (λ past. second.texts n past ∙ first.written n after past)
+        (cases_lt (moment mid) n);
+    each = λ n content after until left. ⊎_elim
+        (λ later. ⊎_elim (λ before. inl (was_left content before)) (λ is. inr (is ∙ same)) (second.each n content later until left))
+        (λ past. inl (first.each n content after past (second.before n content past left)))
+        (cases_lt (moment mid) n);
+  }
+    where
+      was_left : (content : List ℕ) → MayLeave moment left_at mid content → MayLeave moment left_at old content
+      was_left content left = ⊎_elim
+          (λ later. first.each (moment mid) content later (omega arith) left)
+          (λ past. subst (λ m. left_at old m content) (omega (arith, past, first.later)) (first.before (moment mid) content past left))
+          (cases_lt (moment old) (moment mid))
 
 module _ {D : Type 0} (moment : D → ℕ) (written_at : D → ℕ → List ℕ) (left_at : D → ℕ → List ℕ → Type 0) (nameless_at : D → ℕ → Type 0) where
   -- a crash at a moment may leave this of a store
@@ -88,7 +115,7 @@ module _ {D : Type 0} (moment : D → ℕ) (written_at : D → ℕ → List ℕ)
       → written_now moment written_at new ≡ written_now moment written_at old ++ bytes → IsFirm moment written_at left_at new from
   firm_behind_append old new bytes from passes firm within is =
       firm_behind old new (written_now moment written_at old ++ bytes) (StepsTo (MayLeave moment left_at old) (IsTorn bytes)) from from passes firm (omega arith) is
-      (λ content (before, left, (torn, short, whole)).
+      (λ content (before, left, (torn, each, whole)).
       ap (take from) whole ∙ take-append-le from before torn (is_long from before (written_now moment written_at old) (firm before left) within) ∙ firm before left
       ∙ sym (take-append-le from (written_now moment written_at old) bytes within))
 
@@ -178,3 +205,98 @@ module _ {D : Type 0} (moment : D → ℕ) (written_at : D → ℕ → List ℕ)
   pub left_by_folder : (mid new : D) → DiskPasses moment written_at left_at nameless_at mid new (written_now moment written_at mid) (MayLeave moment left_at mid) → (content : List ℕ)
       → MayLeave moment left_at new content → MayLeave moment left_at mid content
   left_by_folder mid new passes content left = ⊎_elim (λ told. told) (λ (before, is). before) (left_behind mid new (written_now moment written_at mid) (MayLeave moment left_at mid) passes content left)
+
+  -- a store whose last bytes were written anew, and which may have failed at that
+  pub renew_passes : (old new : FileStore D) → DiskPasses moment written_at left_at nameless_at old.disk new.disk (written_now moment written_at old.disk) (MayLeave moment left_at old.disk)
+      → Passes (λ (store : FileStore D). moment store.disk) (λ (store : FileStore D). written_at store.disk) left_of old new (written_now moment written_at old.disk)
+      (λ content. left_of old (moment old.disk) content ⊎ (content ≡ written_now moment written_at old.disk))
+  renew_passes old new passes =
+      store_passes old new (written_now moment written_at old.disk) (MayLeave moment left_at old.disk) (λ content. left_of old (moment old.disk) content ⊎ (content ≡ written_now moment written_at old.disk))
+      passes (λ content left. inl (inl left)) (λ nameless. inl (inr (nameless, refl)))
+
+  -- and then a sync
+  pub renewed_sync : (old mid new : FileStore D) → DiskPasses moment written_at left_at nameless_at old.disk mid.disk (written_now moment written_at old.disk) (MayLeave moment left_at old.disk)
+      → written_now moment written_at mid.disk ≡ written_now moment written_at old.disk
+      → Passes (λ (store : FileStore D). moment store.disk) (λ (store : FileStore D). written_at store.disk) left_of mid new (written_now moment written_at mid.disk)
+      (λ content. left_of mid (moment mid.disk) content ⊎ (content ≡ written_now moment written_at mid.disk))
+      → Passes (λ (store : FileStore D). moment store.disk) (λ (store : FileStore D). written_at store.disk) left_of old new (written_now moment written_at old.disk)
+      (λ content. left_of old (moment old.disk) content ⊎ (content ≡ written_now moment written_at old.disk))
+  renewed_sync old mid new first same second =
+      sync_behind (λ (store : FileStore D). moment store.disk) (λ (store : FileStore D). written_at store.disk) left_of old mid new
+      (store_passes old mid (written_now moment written_at old.disk) (MayLeave moment left_at old.disk) (left_of old (moment old.disk)) first (λ content left. inl left) (λ nameless. inr (nameless, refl)))
+      same second
+
+-- A store, call by call.
+module _ {D : Type 0} (keeps_word : D → Type 0) (moment : D → ℕ) (written_at : D → ℕ → List ℕ) (left_at : D → ℕ → List ℕ → Type 0) (nameless_at : D → ℕ → Type 0) (own_from : D → ℕ) where
+  abbrev Keeps : FileStore D → Type 0
+  Keeps = KeepsFile keeps_word moment written_at left_at nameless_at own_from
+
+  -- what was written is of the same length
+  same_length : (old new : D) → written_now moment written_at new ≡ written_now moment written_at old → length (written_now moment written_at new) ≡ length (written_now moment written_at old)
+  same_length old new same = ap length same
+
+  -- a read
+  pub keeps_read : (old new : FileStore D) → Keeps old → keeps_word new.disk → DiskPasses moment written_at left_at nameless_at old.disk new.disk (written_now moment written_at old.disk) (MayLeave moment left_at old.disk)
+      → written_now moment written_at new.disk ≡ written_now moment written_at old.disk → own_from new.disk ≡ own_from old.disk → new.is_renewed ≡ old.is_renewed → new.is_named ≡ old.is_named → Keeps new
+  keeps_read old new kept word passes same own renewed named = record {
+    word = word;
+    first = λ not. firm_behind_same moment written_at left_at nameless_at old.disk new.disk (length (written_now moment written_at old.disk) - 8388608) (length (written_now moment written_at new.disk) - 8388608)
+        passes (kept.first (sym renewed ∙ not)) (omega (arith, same_length old.disk new.disk same)) same;
+    firm = λ is. firm_behind_same moment written_at left_at nameless_at old.disk new.disk (own_from old.disk) (own_from new.disk) passes (kept.firm (sym renewed ∙ is)) (omega (arith, own)) same;
+    within = λ is. omega (arith, own, same_length old.disk new.disk same, kept.within (sym renewed ∙ is));
+    named = λ is. named_behind moment written_at left_at nameless_at old.disk new.disk (written_now moment written_at old.disk) (MayLeave moment left_at old.disk) passes (kept.named (sym named ∙ is));
+  }
+
+  -- an append
+  pub keeps_append : (old new : FileStore D) (bytes : List ℕ) → Keeps old → keeps_word new.disk
+      → DiskPasses moment written_at left_at nameless_at old.disk new.disk (written_now moment written_at old.disk ++ bytes) (StepsTo (MayLeave moment left_at old.disk) (IsTorn bytes))
+      → written_now moment written_at new.disk ≡ written_now moment written_at old.disk ++ bytes → own_from new.disk ≡ own_from old.disk → old.is_renewed ≡ true → new.is_renewed ≡ true → new.is_named ≡ old.is_named → Keeps new
+  keeps_append old new bytes kept word passes is own renewed still named = record {
+    word = word;
+    first = λ not. absurd (cc);
+    firm = λ now. subst (IsFirm moment written_at left_at new.disk) (sym own)
+        (firm_behind_append moment written_at left_at nameless_at old.disk new.disk bytes (own_from old.disk) passes (kept.firm renewed) (kept.within renewed) is);
+    within = λ now. omega (arith, own, kept.within renewed, ap length is, length-append (written_now moment written_at old.disk) bytes);
+    named = λ is. named_behind moment written_at left_at nameless_at old.disk new.disk (written_now moment written_at old.disk ++ bytes) (StepsTo (MayLeave moment left_at old.disk) (IsTorn bytes)) passes
+        (kept.named (sym named ∙ is));
+  }
+
+  -- a cut
+  pub keeps_cut : (old new : FileStore D) (least : ℕ) → Keeps old → keeps_word new.disk
+      → DiskPasses moment written_at left_at nameless_at old.disk new.disk (take least (written_now moment written_at old.disk)) (StepsTo (MayLeave moment left_at old.disk) (IsCut least))
+      → written_now moment written_at new.disk ≡ take least (written_now moment written_at old.disk) → own_from new.disk ≤ own_from old.disk → own_from new.disk ≤ least
+      → old.is_renewed ≡ true → new.is_renewed ≡ true → new.is_named ≡ old.is_named → Keeps new
+  keeps_cut old new least kept word passes is own short renewed still named = record {
+    word = word;
+    first = λ not. absurd (cc);
+    firm = λ now. firm_behind_cut moment written_at left_at nameless_at old.disk new.disk least (own_from old.disk) (own_from new.disk) passes (kept.firm renewed) own short is;
+    within = λ now. omega (arith, own, short, kept.within renewed, ap length is, length-take least (written_now moment written_at old.disk));
+    named = λ is. named_behind moment written_at left_at nameless_at old.disk new.disk (take least (written_now moment written_at old.disk)) (StepsTo (MayLeave moment left_at old.disk) (IsCut least)) passes
+        (kept.named (sym named ∙ is));
+  }
+
+  -- the last bytes, written anew
+  pub keeps_renew : (old new : FileStore D) → Keeps old → keeps_word new.disk → DiskPasses moment written_at left_at nameless_at old.disk new.disk (written_now moment written_at old.disk) (MayLeave moment left_at old.disk)
+      → written_now moment written_at new.disk ≡ written_now moment written_at old.disk → own_from new.disk ≤ length (written_now moment written_at old.disk) - 8388608
+      → old.is_renewed ≡ false → new.is_renewed ≡ true → new.is_named ≡ old.is_named → Keeps new
+  keeps_renew old new kept word passes same own not is named = record {
+    word = word;
+    first = λ still. absurd (cc);
+    firm = λ now. firm_behind_same moment written_at left_at nameless_at old.disk new.disk (length (written_now moment written_at old.disk) - 8388608) (own_from new.disk) passes (kept.first not) own same;
+    within = λ now. omega (arith, own, same_length old.disk new.disk same);
+    named = λ is. named_behind moment written_at left_at nameless_at old.disk new.disk (written_now moment written_at old.disk) (MayLeave moment left_at old.disk) passes (kept.named (sym named ∙ is));
+  }
+
+  -- a sync of the file
+  pub keeps_file_sync : (old new : FileStore D) → Keeps old → keeps_word new.disk
+      → DiskPasses moment written_at left_at nameless_at old.disk new.disk (written_now moment written_at old.disk)
+      (λ content. MayLeave moment left_at old.disk content ⊎ StepsTo (MayLeave moment left_at old.disk) (IsBrought (own_from old.disk) (written_now moment written_at old.disk)) content)
+      → written_now moment written_at new.disk ≡ written_now moment written_at old.disk → own_from new.disk ≡ own_from old.disk → old.is_renewed ≡ true → new.is_renewed ≡ true → new.is_named ≡ old.is_named → Keeps new
+  keeps_file_sync old new kept word passes same own renewed still named = record {
+    word = word;
+    first = λ not. absurd (cc);
+    firm = λ now. subst (IsFirm moment written_at left_at new.disk) (sym own)
+        (firm_behind_sync moment written_at left_at nameless_at old.disk new.disk (own_from old.disk) passes (kept.firm renewed) same);
+    within = λ now. omega (arith, own, same_length old.disk new.disk same, kept.within renewed);
+    named = λ is. named_behind moment written_at left_at nameless_at old.disk new.disk (written_now moment written_at old.disk) _ passes (kept.named (sym named ∙ is));
+  }

@@ -2,4 +2,4 @@ pub mod Store
 pub mod Disk
 pub mod FileStore
 pub mod Shot
-pub mod MemoryStore
+pub mod MemoryDisk

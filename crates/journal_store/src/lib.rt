@@ -11,5 +11,5 @@ mod store;
 pub use disk::Disk;
 pub use file::{FileStore, RENEWED};
 pub use host::{HostDisk, OpenFailure};
-pub use memory::MemoryStore;
+pub use memory::MemoryDisk;
 pub use store::{Store, StoreFailure, StoreFault};

@@ -1,19 +1,20 @@
-//! A store in memory, which fails if it is told to, and says what a crash may leave.
-ghost use Rattle.std.specs.Prelude.{◌≡◌, ◌<◌, ℕ, List, [], ◌∷◌, ◌++◌, false, length, IfOk, IfSome, OnOk, Some, slice_get, ◌⊎◌};
+//! A disk in memory, which keeps its word, fails if it is told to, and says what a crash may leave.
+ghost use Rattle.std.specs.Prelude.{◌≡◌, ◌≤◌, ◌<◌, ◌-◌, ℕ, List, [], ◌∷◌, ◌++◌, false, length, IfOk, IfSome, OnOk, Some, slice_get, ◌⊎◌};
 
+use crate::disk::Disk;
 use crate::shot::Shot;
-use crate::store::{Store, StoreFailure, StoreFault};
+use crate::store::StoreFailure;
 use std::alloc::{AllocError, Global};
 use std::io;
 
-/// Returns the cause of each failure of a store that was told to fail.
+/// Returns the cause of each failure of a disk that was told to fail.
 fn told() -> io::Error {
-    io::Error::other("the store was told to fail")
+    io::Error::other("the disk was told to fail")
 }
 
-/// A store in memory. It has each moment of its past.
+/// A file on a disk in memory. It has each moment of its past.
 #[derive(Drop)]
-pub struct MemoryStore {
+pub struct MemoryDisk {
     alloc: Global,
     shots: Vec<Shot>,
     /// The number of further calls that do not fail.
@@ -22,22 +23,27 @@ pub struct MemoryStore {
     ghost some: { 0 < length shots.items },
 }
 
-impl MemoryStore {
+impl MemoryDisk {
     ghost use Rattle.journal_store.specs.Shot.{IsLeft};
-    ghost use Rattle.journal_store.specs.Store.{IsSynced};
-    ghost use Rattle.journal_store.specs.MemoryStore.{memory_moment, memory_written, memory_left};
+    ghost use Rattle.journal_store.specs.Disk.{IsFirmBut, DiskPasses};
+    ghost use Rattle.journal_store.specs.MemoryDisk.{memory_moment, memory_written, memory_left, memory_nameless, memory_own};
 
-    /// Makes a store that has these bytes, all of them on the disk. It fails at the call that writes after `left`
-    /// others.
-    pub fn new(alloc: Global, bytes: &[u8], left: u64) -> Result<MemoryStore, AllocError>
-        ensures word { IfOk result (λ store. store.failed ≡ false) }
-        ensures written { IfOk result (λ store. memory_written store (memory_moment store) ≡ bytes.now) }
-        ensures synced { IfOk result (IsSynced memory_moment memory_written memory_left) }
+    /// Makes a disk with a file of these bytes, of which an earlier process failed to sync the last, so many. It fails
+    /// at the call that changes something after `left` others.
+    pub fn new(
+        alloc: Global,
+        bytes: &[u8],
+        lost: usize,
+        left: u64,
+    ) -> Result<MemoryDisk, AllocError>
+        ensures word { IfOk result (λ disk. disk.failed ≡ false) }
+        ensures written { IfOk result (λ disk. memory_written disk (memory_moment disk) ≡ bytes.now) }
+        ensures firm { IfOk result (λ disk. IsFirmBut memory_moment memory_written memory_left disk lost) }
     {
         let mut shots = Vec::new(alloc);
-        let shot = Shot::settled(alloc, bytes)?;
+        let shot = Shot::found(alloc, bytes, lost)?;
         shots.push(shot)?;
-        Ok(MemoryStore {
+        Ok(MemoryDisk {
             alloc,
             shots,
             left,
@@ -63,6 +69,11 @@ impl MemoryStore {
         self.present().loose
     }
 
+    /// Tells whether the file's name is on the disk.
+    pub fn is_named(&self) -> bool {
+        self.present().is_named
+    }
+
     /// Makes what a crash leaves now that keeps `front` bytes of what is on the disk, and these bytes in the range that
     /// was appended. None if no crash leaves that.
     pub fn crash(
@@ -76,8 +87,8 @@ impl MemoryStore {
         self.present().crash(alloc, front, torn)
     }
 
-    /// Goes on to the next moment. Fails in this way if the store is told to.
-    fn go_on(&mut self, next: Shot, failure: StoreFailure) -> Result<(), StoreFault>
+    /// Goes on to the next moment. Fails if the disk is told to.
+    fn go_on(&mut self, next: Shot) -> io::Result<()>
         ensures ok { OnOk result (self.new.shots.items ≡ self.old.shots.items ++ next ∷ []) }
         ensures word { OnOk result (self.new.failed ≡ self.old.failed) }
         ensures shots { (self.new.shots.items ≡ self.old.shots.items ++ next ∷ []) ⊎ (self.new.shots.items ≡ self.old.shots.items) }
@@ -85,18 +96,29 @@ impl MemoryStore {
         self.shots.push(next)?;
         if self.left == 0 {
             self.failed = true;
-            return Err(StoreFault::Failed(failure));
+            return Err(told());
         }
         self.left -= 1;
         Ok(())
     }
+
+    /// Writes the last bytes anew as they stand, as many as `most`, or all.
+    fn renew_last(&mut self, most: usize) -> io::Result<()>
+        ensures same { memory_written self.new (memory_moment self.new) ≡ memory_written self.old (memory_moment self.old) }
+        ensures time { DiskPasses memory_moment memory_written memory_left memory_nameless self.old self.new
+            (memory_written self.old (memory_moment self.old)) (memory_left self.old (memory_moment self.old)) }
+        ensures own { OnOk result (memory_own self.new ≤ length (memory_written self.old (memory_moment self.old)) - most) }
+        ensures word { OnOk result (self.new.failed ≡ self.old.failed) }
+    {
+        let next = self.present().renewed(self.alloc, most)?;
+        self.go_on(next)
+    }
 }
 
-impl Store for MemoryStore {
-    ghost use Rattle.std.proofs.Common.{refl};
-    ghost use Rattle.journal_store.specs.MemoryStore.{memory_moment, memory_written, memory_left};
+impl Disk for MemoryDisk {
+    ghost use Rattle.journal_store.specs.MemoryDisk.{memory_moment, memory_written, memory_left, memory_nameless, memory_own};
 
-    ghost keeps_word = { λ store. store.failed ≡ false };
+    ghost keeps_word = { λ disk. disk.failed ≡ false };
 
     ghost moment = { memory_moment };
 
@@ -104,7 +126,11 @@ impl Store for MemoryStore {
 
     ghost left_at = { memory_left };
 
-    fn read(&mut self, at: u64, piece: &mut [u8]) -> Result<usize, StoreFault> {
+    ghost nameless_at = { memory_nameless };
+
+    ghost own_from = { memory_own };
+
+    fn read(&mut self, at: u64, piece: &mut [u8]) -> io::Result<usize> {
         let written = self.present().written.as_slice();
         let at = usize::try_from(at).unwrap_or(usize::MAX).min(written.len());
         let count = piece.len().min(written.len() - at);
@@ -112,23 +138,35 @@ impl Store for MemoryStore {
         Ok(count)
     }
 
-    fn append(&mut self, bytes: &[u8]) -> Result<(), StoreFault> {
+    fn append(&mut self, bytes: &[u8]) -> io::Result<()> {
         let next = self.present().appended(self.alloc, bytes)?;
-        self.go_on(next, StoreFailure::Append { cause: told() })
+        self.go_on(next)
     }
 
-    fn cut(&mut self, least: u64) -> Result<(), StoreFault> {
+    fn cut(&mut self, least: u64) -> io::Result<()> {
         let next = self.present().cut(self.alloc, least as usize)?;
-        self.go_on(next, StoreFailure::Cut { cause: told() })
+        self.go_on(next)
     }
 
-    fn sync(&mut self) -> Result<(), StoreFault> {
-        let failure = StoreFailure::Sync { cause: told() };
+    fn renew(&mut self, most: u64) -> Result<(), StoreFailure> {
+        match self.renew_last(most as usize) {
+            Ok(()) => Ok(()),
+            Err(cause) => Err(StoreFailure::Append { cause }),
+        }
+    }
+
+    /// A sync that is told to fail brings nothing to the disk.
+    fn sync(&mut self) -> io::Result<()> {
         if self.left == 0 {
             self.failed = true;
-            return Err(StoreFault::Failed(failure));
+            return Err(told());
         }
-        let next = Shot::settled(self.alloc, self.written())?;
-        self.go_on(next, failure)
+        let next = self.present().brought(self.alloc)?;
+        self.go_on(next)
+    }
+
+    fn sync_folder(&mut self) -> io::Result<()> {
+        let next = self.present().named(self.alloc)?;
+        self.go_on(next)
     }
 }

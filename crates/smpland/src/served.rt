@@ -99,8 +99,5 @@ pub fn serve_journal(rt: &HostRuntime, path: &str) -> Status {
         Ok(disk) => disk,
         Err(failure) => return unopened(rt, path, failure),
     };
-    match FileStore::open(disk) {
-        Ok(store) => serve_store(rt, path, store),
-        Err(fault) => unrecovered(rt, path, RecoverFault::from(fault)),
-    }
+    serve_store(rt, path, FileStore::new(disk))
 }

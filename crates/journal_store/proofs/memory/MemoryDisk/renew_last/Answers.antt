@@ -1,0 +1,17 @@
+use Rattle.std.proofs.Common.{length, refl, sym, ◌∙◌, ap, subst, arith}
+use Rattle.std.proofs.lemmas.Result.{on_ok_weaker}
+use Rattle.journal_store.proofs.Shots.{passes_on, passes_same, own_push}
+use Rattle.journal_store.specs.Shot.{written_in, left_in}
+use Rattle.journal_store.proofs.memory.MemoryDisk.renew_last.Goals as goal
+
+pub returns-in_err-next-clause-time : goal.returns-in_err-next-clause-time
+returns-in_err-next-clause-time c = passes_same c.args.self.now c.args.self.now _ _ refl
+
+pub returns-clause-time : goal.returns-clause-time
+returns-clause-time c = passes_on c.args.self.now _ c.present.result.now c.in_ok-next.next _ _ c.args.self.now.some c.present.ensures c.go_on.ensures.shots
+    (c.in_ok-next.ensures.written ∙ ap written_in (sym c.present.ensures))
+    (λ content left. subst (λ o. left_in o content) (sym c.present.ensures) (c.in_ok-next.ensures.left content left))
+    (λ not. sym c.in_ok-next.ensures.named ∙ not)
+
+pub returns-clause-own : goal.returns-clause-own
+returns-clause-own c = on_ok_weaker c.go_on.result (λ pushed. omega (arith, own_push c.go_on.new.self c.args.self.now.shots.items c.in_ok-next.next pushed, c.in_ok-next.ensures.own, ap (λ o. length (written_in o)) c.present.ensures)) c.go_on.ensures.ok
