@@ -72,14 +72,14 @@ class Disk:
     def left(self, dice: random.Random) -> bytes | None:
         """Returns what a crash leaves of the file now: any part of what was not synced. None if it leaves no file.
 
-        Bytes that are written again as they stand are there afterwards, or as they were on the disk."""
+        Bytes that are written again as they stand are there afterwards, or as they were on the disk. What is lost of the head are zeros."""
         if not self.is_named and dice.random() < 0.5:
             return None
         text = whole = self.synced
         for note in self.since:
             renews = note[0] == "W" and done(whole, note) == whole
             if note[0] == "W" and not renews:
-                text = text[:note[1]] + torn(note[2], dice)
+                text = text[:note[1]] + torn(note[2], dice, note[1] == 0)
             elif dice.random() < 0.5:
                 text = done(text, note)
             whole = done(whole, note)
@@ -92,7 +92,7 @@ def done(text: bytes, note: tuple[str, int, bytes]) -> bytes:
     return text[:at] + written + text[at + len(written):] if kind == "W" else text[:at]
 
 
-def torn(written: bytes, dice: random.Random) -> bytes:
+def torn(written: bytes, dice: random.Random, is_head: bool) -> bytes:
     """Returns what a crash leaves of bytes that were not synced: all, nothing, a beginning, or pieces of it."""
     draw = dice.random()
     if draw < 0.4:
@@ -102,5 +102,5 @@ def torn(written: bytes, dice: random.Random) -> bytes:
         return written
     size = dice.choice([1, 7, 64, 512])
     pieces = [written[it:it + size] for it in range(0, len(written), size)]
-    other = [bytes(len(it)) if dice.random() < 0.5 else dice.randbytes(len(it)) for it in pieces]
+    other = [bytes(len(it)) if is_head or dice.random() < 0.5 else dice.randbytes(len(it)) for it in pieces]
     return b"".join(piece if dice.random() < 0.6 else lost for piece, lost in zip(pieces, other))

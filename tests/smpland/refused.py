@@ -112,6 +112,12 @@ class Setting(NamedTuple):
     before: bytes | None = None
     first: int = 0
 
+    def said(self, journal: Path) -> str:
+        """Returns what standard error says of a run in which nothing fails: a torn end that is cut off."""
+        whole = (self.before or b"").rfind(b"\n") + 1
+        gone = len(self.before or b"") - whole
+        return f"{journal}: the last {gone} bytes were torn, and are cut off: {whole} are left\n" if gone else ""
+
 
 class Fault(NamedTuple):
     """What is refused: calls of a kind, how, and the status that is due."""
@@ -167,7 +173,7 @@ class Trial:
         status = fault.status if is_refused and not does_without else 0
         wrong = [] if done.returncode == status else [f"status {done.returncode}"]
         said = done.stderr.decode(errors="replace")
-        is_said = all(it in said for it in fault.said(self.journal)) if status else not said
+        is_said = all(it in said for it in fault.said(self.journal)) if status else said == setting.said(self.journal)
         wrong += [] if is_said else [f"stderr {said!r}"]
         return is_refused, wrong + list(self.wrong_in(setting, done.stdout, status == 0))
 

@@ -3,10 +3,10 @@ ghost use Rattle.std.specs.Prelude.{◌≤◌, length, IfOk};
 
 use crate::disk::Disk;
 use crate::store::StoreFailure;
-use std::fs::{File, OpenOptions, TryLockError};
+use std::fs::{self, File, OpenOptions, TryLockError};
 use std::io::{self, ErrorKind, Read, Seek, SeekFrom, Write};
+use std::os::unix::fs::MetadataExt;
 use std::path::Path;
-use std::rt::Files;
 use thiserror::Error;
 
 /// Why a file was not opened.
@@ -14,6 +14,10 @@ use thiserror::Error;
 pub enum OpenFailure {
     #[error("another process has the journal")]
     InUse,
+    #[error("this is no journal")]
+    Foreign,
+    #[error("the journal was not read: {cause}")]
+    Read { cause: io::Error },
     #[error("the journal was not opened: {cause}")]
     File { cause: io::Error },
     #[error("the journal was not locked: {cause}")]
@@ -25,16 +29,38 @@ pub enum OpenFailure {
 /// The number of bytes that are written anew at once.
 const PIECE: usize = 1 << 16;
 
-/// A file that this process alone has locked, and the folder that names it.
-#[derive(Drop)]
-pub struct HostDisk {
-    file: File,
-    folder: File,
+/// The number of bytes that are looked at when a file is opened: more than a head has.
+const FRONT: usize = 64;
+
+/// Tells whether a file may go on from this front: it begins with the head, or is no longer and has no byte but the
+/// head's and zeros, as a crash may leave of it.
+fn may_begin(front: &[u8], head: &[u8]) -> bool {
+    let torn = front
+        .iter()
+        .zip(head)
+        .all(|(byte, due)| byte == due || *byte == 0);
+    front.starts_with(head) || (front.len() <= head.len() && torn)
 }
 
-impl HostDisk {
-    /// Opens a file, which is made if there is none, and locks it.
-    pub fn open<R: Files<File = File>>(rt: &R, path: &str) -> Result<HostDisk, OpenFailure> {
+/// A file that this process alone has locked, and the folder that names it.
+#[derive(Drop)]
+pub struct HostDisk<'a> {
+    rt: &'a HostRuntime,
+    path: &'a str,
+    file: File,
+    folder: File,
+    /// The length of the file if nobody else changes it.
+    length: u64,
+}
+
+impl<'a> HostDisk<'a> {
+    /// Opens a file, which is made if there is none, and locks it. One that does not begin with this head, as a crash
+    /// may leave it, is refused, and stays as it is.
+    pub fn open(
+        rt: &'a HostRuntime,
+        path: &'a str,
+        head: &[u8],
+    ) -> Result<HostDisk<'a>, OpenFailure> {
         let file = OpenOptions::new()
             .read(true)
             .write(true)
@@ -46,12 +72,47 @@ impl HostDisk {
             Err(TryLockError::WouldBlock) => return Err(OpenFailure::InUse),
             Err(TryLockError::Error(cause)) => return Err(OpenFailure::Lock { cause }),
         }
-        let folder = match Path::new(path).parent().and_then(|folder| folder.to_str()) {
+        let name = match Path::new(path).parent().and_then(|folder| folder.to_str()) {
             Some("") | None => ".",
             Some(folder) => folder,
         };
-        let folder = File::open(rt, folder).map_err(|cause| OpenFailure::Folder { cause })?;
-        Ok(HostDisk { file, folder })
+        let folder = File::open(rt, name).map_err(|cause| OpenFailure::Folder { cause })?;
+        let length = 0;
+        let mut disk = HostDisk {
+            rt,
+            path,
+            file,
+            folder,
+            length,
+        };
+        match disk.begins_with(head) {
+            Ok(true) => Ok(disk),
+            Ok(false) => Err(OpenFailure::Foreign),
+            Err(cause) => Err(OpenFailure::Read { cause }),
+        }
+    }
+
+    /// Notes the length of the file, and tells whether it begins with this head, as a crash may leave it.
+    fn begins_with(&mut self, head: &[u8]) -> io::Result<bool> {
+        self.length = self.file.metadata()?.len();
+        let count = usize::try_from(self.length).unwrap_or(FRONT).min(FRONT);
+        let mut front = [0u8; FRONT];
+        self.file.seek(SeekFrom::Start(0))?;
+        self.file.read_exact(&mut front[..count])?;
+        Ok(may_begin(&front[..count], head))
+    }
+
+    /// Refuses if the path names another file by now, or another process has written to the file, or cut it.
+    fn check_place(&self) -> io::Result<()> {
+        let named = fs::metadata(self.rt, self.path)?;
+        let held = self.file.metadata()?;
+        if named.dev() != held.dev() || named.ino() != held.ino() {
+            return Err(io::Error::other("the path names another file by now"));
+        }
+        if held.len() != self.length {
+            return Err(io::Error::other("another process has changed the file's length"));
+        }
+        Ok(())
     }
 
     /// Reads bytes from a place on. Their number.
@@ -69,7 +130,7 @@ impl HostDisk {
     }
 }
 
-impl Disk for HostDisk {
+impl Disk for HostDisk<'_> {
     ghost use Rattle.std.specs.Prelude.{[]};
 
     ghost keeps_word = { λ _. ⊥ };
@@ -89,12 +150,25 @@ impl Disk for HostDisk {
     }
 
     fn append(&mut self, bytes: &[u8]) -> io::Result<()> {
+        self.check_place()?;
         self.file.seek(SeekFrom::End(0))?;
-        self.file.write_all(bytes)
+        self.file.write_all(bytes)?;
+        self.length = self.length.saturating_add(bytes.len() as u64);
+        Ok(())
     }
 
+    /// Cuts to a length, and says on standard error how much goes.
     fn cut(&mut self, least: u64) -> io::Result<()> {
-        self.file.set_len(least)
+        self.file.set_len(least)?;
+        let gone = self.length.saturating_sub(least);
+        if gone > 0 {
+            let _ = eprintln!(self.rt;
+                "{}: the last {gone} bytes were torn, and are cut off: {least} are left",
+                self.path
+            );
+        }
+        self.length = least;
+        Ok(())
     }
 
     fn renew(&mut self, most: u64) -> Result<(), StoreFailure> {

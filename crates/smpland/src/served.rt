@@ -3,6 +3,7 @@
 use crate::keeper::Keeper;
 use crate::status::Status;
 use journal::Journal;
+use journal_lines::journal_head;
 use journal_session::{RecoverFault, ResumeFault, ServeFault, resume, serve_unkept};
 use journal_store::{FileStore, HostDisk, OpenFailure};
 use std::fs::File;
@@ -41,9 +42,11 @@ fn unopened(rt: &HostRuntime, path: &str, failure: OpenFailure) -> Status {
     let _ = eprintln!(rt; "error: {path}: {failure}");
     match failure {
         OpenFailure::InUse => Status::InUse,
-        OpenFailure::File { .. } | OpenFailure::Lock { .. } | OpenFailure::Folder { .. } => {
-            Status::Failed
-        }
+        OpenFailure::Foreign => Status::Damaged,
+        OpenFailure::File { .. }
+        | OpenFailure::Read { .. }
+        | OpenFailure::Lock { .. }
+        | OpenFailure::Folder { .. } => Status::Failed,
     }
 }
 
@@ -61,7 +64,7 @@ pub fn serve_input(rt: &HostRuntime) -> Status {
 }
 
 /// Recovers what the journal in a store leads to, and serves each line of standard input. The journal has this path.
-fn serve_store(rt: &HostRuntime, path: &str, store: FileStore<HostDisk>) -> Status {
+fn serve_store(rt: &HostRuntime, path: &str, store: FileStore<HostDisk<'_>>) -> Status {
     let mut session = Keeper::new();
     let mut journal = Journal::new(store);
     let resumed = resume(
@@ -86,18 +89,17 @@ fn open_any(rt: &HostRuntime) -> Result<File, OpenFailure> {
 
 /// Opens a journal's file. It does not get the number of a standard stream that is closed: other files have those numbers
 /// until it is open. Otherwise replies would be written into the journal.
-fn open_disk(rt: &HostRuntime, path: &str) -> Result<HostDisk, OpenFailure> {
+fn open_disk<'a>(rt: &'a HostRuntime, path: &'a str) -> Result<HostDisk<'a>, OpenFailure> {
     let _input = open_any(rt)?;
     let _output = open_any(rt)?;
     let _errors = open_any(rt)?;
-    HostDisk::open(rt, path)
+    HostDisk::open(rt, path, journal_head())
 }
 
 /// Serves each line of standard input, and keeps those that change something in a file.
 pub fn serve_journal(rt: &HostRuntime, path: &str) -> Status {
-    let disk = match open_disk(rt, path) {
-        Ok(disk) => disk,
-        Err(failure) => return unopened(rt, path, failure),
-    };
-    serve_store(rt, path, FileStore::new(disk))
+    match open_disk(rt, path) {
+        Ok(disk) => serve_store(rt, path, FileStore::new(disk)),
+        Err(failure) => unopened(rt, path, failure),
+    }
 }
