@@ -148,7 +148,7 @@ did command r old new (outcome.RestoredBefore server nonce) h is = absurd (let z
 did command r old new (outcome.Declined why) h is = absurd (let z = is in cc)
 did (driver.Begin plan name) r old new (outcome.Begun begun) h is = let it = h.2 in (
   h.0,
-  (it.0, begun.number, it.1, it.3),
+  (it.0, begun.number, it.1, it.2, it.3),
   Begins (it.0, begun.number, it.2, it.3),
   λ before after told. (it.0, it.1, (begun.number, it.3, told ∙ ap (λ k. before ++ begun_members new.driver k) it.4)),
 )
@@ -162,7 +162,7 @@ did (driver.Answered plan stream number) r old new (outcome.Moved id gone) h is 
     )
 did (driver.Approve name by) r old new (outcome.Approved server permit) h is = (
   h.0,
-  (server, permit, h.2, h.4),
+  (server, permit, h.2, h.3, h.4),
   Approves (server, permit, h.3, h.4),
   λ before after told. (server, h.2, (permit, h.4, told)),
 )

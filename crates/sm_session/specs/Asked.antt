@@ -1,5 +1,5 @@
 -- The effect of a line on a session, as its command asks for it.
-use Rattle.std.specs.Prelude.{◌≡◌, ◌⊎◌, ℕ, Bool, true, false, List, [], ◌∷◌, Option, Some, None, Ok, length, option_map, replicate}
+use Rattle.std.specs.Prelude.{◌≡◌, ◌<◌, ◌⊎◌, ℕ, Bool, true, false, List, [], ◌∷◌, Option, Some, None, Ok, length, option_map, replicate}
 use Rattle.std.specs.List.{flat_map}
 use Rattle.std.specs.Option.{option_map_or}
 use Rattle.std.specs.Borrow.{Bor}
@@ -11,6 +11,7 @@ use Rattle.sm_placement.specs.Opening.{opened_place}
 use Rattle.sm_placement.specs.Setup.{Setup, names_of_servers, names_of_shards, server_named, sizes_of}
 use Rattle.sm_reservation.specs.declared.stream_id.StreamId.{StreamId}
 use Rattle.sm_plan_code.specs.Plan.{PlanModel}
+use Rattle.sm_verifier.specs.Plan.{IsCheckedPlan}
 use Rattle.sm_plan_text.specs.Documents.{DocumentModel}
 use Rattle.sm_plan_text.specs.Opened.{opening_of}
 use Rattle.sm_plan_text.specs.Reading.{data_of, read_data, read_plan_data, rows_of}
@@ -35,10 +36,11 @@ use Rattle.sm_session.specs.declared.session.Session.{Session}
 abbrev pub SaysPlan : Setup → Data → PlanModel → Type 0
 SaysPlan setup value plan = read_plan_data (names_of_shards setup) (names_of_servers setup) (Some value) ≡ Ok plan
 
--- the plan of a value has begun
+-- the plan of a value, which was checked, has begun
 abbrev pub BeginsPlanOf : Data → DriverModel → DriverModel → Type 0
 BeginsPlanOf value old new =
-    (plan : PlanModel) × (number : ℕ) × SaysPlan old.machine.placement.setup value plan × HasBegunPlan plan number old new
+    (plan : PlanModel) × (number : ℕ) × SaysPlan old.machine.placement.setup value plan × IsCheckedPlan (record_of old).sizes plan
+    × HasBegunPlan plan number old new
 
 -- this stream has made the step whose answer came under this number
 abbrev pub TakesAnswerOf : StreamId → ℕ → DriverModel → DriverModel → Type 0
@@ -47,7 +49,8 @@ TakesAnswerOf id number old new = (is_due old id number ≡ true) × HasTakenSte
 -- the restart of the server with this name was approved
 abbrev pub ApprovesRestartOf : List ℕ → DriverModel → DriverModel → Type 0
 ApprovesRestartOf name old new =
-    (server : ℕ) × (permit : ℕ) × (server_named old.machine.placement.setup name ≡ Some server) × HasApproved server permit old new
+    (server : ℕ) × (permit : ℕ) × (server_named old.machine.placement.setup name ≡ Some server) × (server < (record_of old).sizes.servers)
+    × HasApproved server permit old new
 
 -- the server with this name was restored under this nonce
 abbrev pub RestoresServerOf : List ℕ → ℕ → DriverModel → DriverModel → Type 0

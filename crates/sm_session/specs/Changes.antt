@@ -7,6 +7,7 @@ use Rattle.sm_placement.specs.Place.{Place}
 use Rattle.sm_placement.specs.Lead.{IsSettled}
 use Rattle.sm_plan_code.specs.Plan.{PlanModel}
 use Rattle.sm_verifier.specs.Plan.{IsCheckedPlan}
+use Rattle.sm_protocol.specs.Laws.{IsReached}
 use Rattle.sm_protocol.specs.State.{opened}
 use Rattle.sm_driver.specs.Driver.{DriverModel, HasApproved, HasBegunPlan, HasEndedRestart, HasRestored, HasTakenStep, is_due, record_of}
 use Rattle.sm_driver.specs.Epochs.{HasOpenedEpoch, epoch_fault}
@@ -25,9 +26,11 @@ use Rattle.sm_session.specs.declared.session.Session.{Session}
 abbrev pub driver_of : Option Opened → Option DriverModel
 driver_of = option_map (λ (o : Opened). o.driver)
 
--- the driver was opened over a settled placement
+-- the driver was opened over a settled placement, and its machine is one of which all laws of the protocol hold
 abbrev pub HasOpened : DriverModel → Type 0
-HasOpened new = (c : Sizes) × (p : Place) × (log : ℕ) × IsSettled c p × (record_of new ≡ opened c p log)
+HasOpened new =
+    (c : Sizes) × (p : Place) × (log : ℕ) × IsSettled c p × (record_of new ≡ opened c p log)
+    × IsReached new.machine.placement.setup (record_of new)
 
 -- a checked plan has begun
 abbrev pub BeginsPlan : DriverModel → DriverModel → Type 0

@@ -85,7 +85,10 @@ fn first_driver(alloc: Global, line: OpenLine<'_, '_>) -> Result<FirstDriver, No
     };
     let log_room = document.log;
     match Driver::open(alloc, placement, log_room, line.journal, line.epoch) {
-        Ok(driver) => Ok(FirstDriver { driver, log_room }),
+        Ok(driver) => {
+            driver.machine().is_reached();
+            Ok(FirstDriver { driver, log_room })
+        }
         Err((_, sm_machine::OpenFault::NoMemory)) => Err(NotOpened::NoMemory),
         Err((_, sm_machine::OpenFault::LogFull)) => Err(NotOpened::LogFull),
     }
