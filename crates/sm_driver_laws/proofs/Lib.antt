@@ -1,11 +1,11 @@
-mod Searches
+pub mod Searches
 mod FreeEntries
 mod Controls
-mod Commands
-mod Events
-mod Turns
+pub mod Commands
+pub mod Events
+pub mod Turns
 mod Sends
 mod Opening
-mod FirstPlace
+pub mod FirstPlace
 mod Written
 mod StayAlike

@@ -96,7 +96,7 @@ goes_before f (Seal k) h = by_message_before f _ (slice_get f.passes k) (λ p. r
 goes_before f (Forget v) h = refl
 goes_before f (Recover k v) h = by_message_before f _ (slice_get (controller f).restores k) (λ r. reception_before f v r _)
 
-goes_fit : (setup : Setup) (f : Fleet) (e : FleetEvent) → WritesNothing e → FleetFits setup f e
+pub goes_fit : (setup : Setup) (f : Fleet) (e : FleetEvent) → WritesNothing e → FleetFits setup f e
 goes_fit setup f (Make e) h = absurd h
 goes_fit setup f (End v permit) h = absurd h
 goes_fit setup f (Open room) h = absurd h
@@ -117,7 +117,7 @@ answer_fits setup f d (Restored v nonce) id number h = absurd h
 answer_fits setup f d (Opened room) id number h = absurd h
 
 -- what a command writes is what events lead to
-written_is : EachFleet FleetIsReached → (x : Driven) (command : Command) (driver : DriverModel) (es : List JournalEntry) → IsFleetDriven x → TurnFits x (Takes command driver es) → AreEvents (driver_setup x) x.fleet es
+pub written_is : EachFleet FleetIsReached → (x : Driven) (command : Command) (driver : DriverModel) (es : List JournalEntry) → IsFleetDriven x → TurnFits x (Takes command driver es) → AreEvents (driver_setup x) x.fleet es
 written_is laws x command driver es driven fits = go command fits.0 fits.1
   where
     setup : Setup
@@ -165,7 +165,7 @@ setup_stays (RestoreServer v nonce) old new es h = ap (λ (d : DriverModel). d.m
 setup_stays OpenEpoch old new es h = h.0.setup
 
 -- a turn leads on
-turn_is : EachFleet FleetIsReached → (x : Driven) (t : Turn) → IsFleetDriven x → TurnFits x t → IsFleetDriven (after_turn x t)
+pub turn_is : EachFleet FleetIsReached → (x : Driven) (t : Turn) → IsFleetDriven x → TurnFits x t → IsFleetDriven (after_turn x t)
 turn_is laws x (Goes e) driven fits = (
   reached_then (driver_setup x) x.fleet (e ∷ []) driven.0 (goes_fit (driver_setup x) x.fleet e fits, tt),
   subst (IsControllerOf x.driver) (sym (goes_before x.fleet e fits)) driven.1,
@@ -182,7 +182,7 @@ turns_are laws [] x driven fit = driven
 turns_are laws (t ∷ ts) x driven fit = turns_are laws ts (after_turn x t) (turn_is laws x t driven fit.0) fit.1
 
 -- an opening is so
-opening_is : (x : Driven) → IsDrivenOpening x → IsFleetDriven x
+pub opening_is : (x : Driven) → IsDrivenOpening x → IsFleetDriven x
 opening_is x o = (
   record { first = x.fleet; opening = o.fleet; events = []; fit = tt; state = refl },
   subst (IsControllerOf x.driver) (sym (ap (replayed x.fleet.start) o.fleet.journal)) o.control,

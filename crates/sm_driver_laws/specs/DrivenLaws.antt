@@ -43,6 +43,10 @@ pub record IsDrivenSafely (x : Driven) : Type 0 where
   pub goes_on : SomeFleetCanGoOn (driver_setup x) x.fleet
   pub finishes : FleetCanFinish (driver_setup x) x.fleet
 
+-- Whatever led to it: if the driver is the controller of a fleet that events lead to.
+abbrev pub FleetDrivenIsSafe : Type 0
+FleetDrivenIsSafe = (x : Driven) → IsFleetDriven x → IsDrivenSafely x
+
 -- ---- what the driver sends
 
 -- an order as the driver sends it, with the load and the room of its configuration

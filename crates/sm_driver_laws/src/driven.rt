@@ -1,7 +1,7 @@
 //! A driver and its fleet.
 ghost use Rattle.sm_network.specs.ReopeningLaws.{EachSettling};
 ghost use Rattle.sm_driver_laws.specs.Driven.{EachDriven};
-ghost use Rattle.sm_driver_laws.specs.DrivenLaws.{CommandsAreEvents, DriversOpen, IsDrivenSafely, IsFleetDriven, ReopenedDriversOpen, SendsAsDriven};
+ghost use Rattle.sm_driver_laws.specs.DrivenLaws.{CommandsAreEvents, DriversOpen, FleetDrivenIsSafe, IsDrivenSafely, IsFleetDriven, ReopenedDriversOpen, SendsAsDriven};
 
 use sm_network::{
     beginnings_are_harmless, commits_once_per_number, commits_where_up, executes_at_one_server,
@@ -26,11 +26,10 @@ pub fn commands_are_events()
     fleet_is_reached();
 }
 
-/// States that all laws of the fleet hold of the fleet of a driver.
-pub fn driven_is_safe()
-    ensures { EachDriven IsDrivenSafely }
+/// States that all laws of the fleet hold of a fleet that events lead to, and that a driver is the controller of.
+pub fn fleet_driven_is_safe()
+    ensures { FleetDrivenIsSafe }
 {
-    driven_is_controlled();
     fleet_is_reached();
     fleet_is_safe();
     executes_at_one_server();
@@ -47,6 +46,14 @@ pub fn driven_is_safe()
     beginnings_are_harmless();
     some_fleet_can_go_on();
     fleet_can_finish();
+}
+
+/// States that all laws of the fleet hold of the fleet of a driver.
+pub fn driven_is_safe()
+    ensures { EachDriven IsDrivenSafely }
+{
+    driven_is_controlled();
+    fleet_driven_is_safe();
 }
 
 /// States that the fleet's controller sends exactly the driver's messages.

@@ -1,23 +1,5 @@
--- The laws of the fleet hold, since the fleet is one of them.
-use Rattle.sm_driver_laws.specs.Driven.{driver_setup}
+-- The driver is the controller of its fleet.
 use Rattle.sm_driver_laws.proofs.driven.driven_is_safe.Goals as goal
 
 pub returns : goal.returns
-returns c x reached = let is = (c.driven_is_controlled.ensures x reached).0 in record {
-  reached = c.fleet_is_reached.ensures (driver_setup x) x.fleet is;
-  safe = c.fleet_is_safe.ensures (driver_setup x) x.fleet is;
-  executes = c.executes_at_one_server.ensures (driver_setup x) x.fleet is;
-  refuses = c.no_letter_is_refused.ensures (driver_setup x) x.fleet is;
-  hears = c.present_is_heard.ensures (driver_setup x) x.fleet is;
-  commits = c.only_present_commits.ensures (driver_setup x) x.fleet is;
-  once = c.commits_once_per_number.ensures (driver_setup x) x.fleet is;
-  up = c.commits_where_up.ensures (driver_setup x) x.fleet is;
-  permits = c.permits_end_once.ensures (driver_setup x) x.fleet is;
-  near = c.servers_are_near.ensures (driver_setup x) x.fleet is;
-  recorded = c.servers_are_recorded.ensures (driver_setup x) x.fleet is;
-  ends = c.servers_are_at_ends.ensures (driver_setup x) x.fleet is;
-  shown = c.map_is_right.ensures (driver_setup x) x.fleet is;
-  beginnings = c.beginnings_are_harmless.ensures (driver_setup x) x.fleet is;
-  goes_on = c.some_fleet_can_go_on.ensures (driver_setup x) x.fleet is;
-  finishes = c.fleet_can_finish.ensures (driver_setup x) x.fleet is;
-}
+returns c x reached = c.fleet_driven_is_safe.ensures x (c.driven_is_controlled.ensures x reached)
