@@ -1,1 +1,5 @@
+mod Commands
+mod Entries
+mod Equivalence
+mod Reopenings
 mod Turns

@@ -1,6 +1,11 @@
-//! Laws that join the lines of a session to the laws of the network: what a line changes is what a command of the driver does.
+//! Laws that join the lines of a session to the laws of the network: what a line changes is what a command of the driver
+//! does. Laws of replays: the same lines make sessions that are alike.
 #![tactic(auto)]
 
 mod law;
+mod replays;
 
 pub use law::{changes_are_commands, changes_are_turns};
+pub use replays::{
+    alike_is_equivalence, entries_go_alike, reopenings_go_alike, replays_agree, replays_stay_alike,
+};

@@ -1,0 +1,37 @@
+//! Sessions that take the same entries.
+ghost use Rattle.sm_session_laws.specs.Alike.{AreSessionsAlike, EachSessionAlike, IsEquivalence};
+ghost use Rattle.sm_session_laws.specs.Replays.{EachReopeningAlike, EntriesGoAlike, ReopeningsGoAlike, ReplaysAgree, ReplaysStayAlike};
+
+use sm_driver::drivers_go_alike;
+
+/// States that being alike is an equivalence of sessions.
+pub fn alike_is_equivalence()
+    ensures { IsEquivalence AreSessionsAlike }
+{}
+
+/// States that if two sessions are alike, and take the same entry that opens a journal or is for the driver of one, they
+/// are alike again.
+pub fn entries_go_alike()
+    ensures { EachSessionAlike EntriesGoAlike }
+{
+    drivers_go_alike();
+}
+
+/// States the same of lists of such entries.
+pub fn replays_stay_alike()
+    ensures { EachSessionAlike ReplaysStayAlike }
+{
+    entries_go_alike();
+}
+
+/// States that sessions that begin with nothing, and take the same such entries, are alike.
+pub fn replays_agree()
+    ensures { ReplaysAgree }
+{
+    replays_stay_alike();
+}
+
+/// States that if two reopenings are alike, and take the same answer to a fence or to a settle, they are alike again.
+pub fn reopenings_go_alike()
+    ensures { EachReopeningAlike ReopeningsGoAlike }
+{}
