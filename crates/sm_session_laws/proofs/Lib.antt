@@ -1,5 +1,6 @@
 mod Commands
 mod Entries
 mod Equivalence
+mod Plays
 mod Reopenings
 mod Turns

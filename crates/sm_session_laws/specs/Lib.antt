@@ -1,3 +1,4 @@
 pub mod Alike
+pub mod Plays
 pub mod Replays
 pub mod Turns

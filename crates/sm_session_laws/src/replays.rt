@@ -1,5 +1,6 @@
 //! Sessions that take the same entries.
 ghost use Rattle.sm_session_laws.specs.Alike.{AreSessionsAlike, EachSessionAlike, IsEquivalence};
+ghost use Rattle.sm_session_laws.specs.Plays.{NextEpochIsAnEntry};
 ghost use Rattle.sm_session_laws.specs.Replays.{EachReopeningAlike, EntriesGoAlike, ReopeningsGoAlike, ReplaysAgree, ReplaysStayAlike};
 
 use sm_driver::drivers_go_alike;
@@ -34,4 +35,10 @@ pub fn replays_agree()
 /// States that if two reopenings are alike, and take the same answer to a fence or to a settle, they are alike again.
 pub fn reopenings_go_alike()
     ensures { EachReopeningAlike ReopeningsGoAlike }
+{}
+
+/// States that the premises of these laws can be met: whenever a driver can open the next epoch, the line that asks for it
+/// can be an entry.
+pub fn next_epoch_is_an_entry()
+    ensures { NextEpochIsAnEntry }
 {}
