@@ -31,6 +31,7 @@ pub steps_fit : (setup : Setup) (ids : List StreamId) (f : Fleet) → AllFleetFi
 steps_fit setup [] f = tt
 steps_fit setup (id ∷ ids) f = (tt, steps_fit setup ids (written f (Made (Step id))))
 
+-- they lead to their entries
 pub steps_run : (ids : List StreamId) (f : Fleet) → fleet_run (steps ids) f ≡ with_entries f (free_steps ids)
 steps_run [] f = refl
 steps_run (id ∷ ids) f =

@@ -96,6 +96,7 @@ goes_before f (Seal k) h = by_message_before f _ (slice_get f.passes k) (λ p. r
 goes_before f (Forget v) h = refl
 goes_before f (Recover k v) h = by_message_before f _ (slice_get (controller f).restores k) (λ r. reception_before f v r _)
 
+-- an event by which the controller writes nothing fits
 pub goes_fit : (setup : Setup) (f : Fleet) (e : FleetEvent) → WritesNothing e → FleetFits setup f e
 goes_fit setup f (Make e) h = absurd h
 goes_fit setup f (End v permit) h = absurd h

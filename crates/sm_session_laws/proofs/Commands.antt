@@ -40,7 +40,7 @@ one_plan s t v w plan other rows values x y =
 begin_alike : EachAlike GoAlike → (v w : Data) (d e new next : DriverModel) → w ≡ v → AreAlike d e → BeginsPlanOf v d new → BeginsPlanOf w e next → AreAlike new next
 begin_alike go v w d e new next values is x y =
     let plans = one_plan d.machine.placement.setup e.machine.placement.setup v w x.0 y.0 is.setup values x.2 y.2 in
-    ((go d e is).begun x.0 x.1 y.1 new next x.3 (subst (λ (plan : PlanModel). HasBegunPlan plan y.1 e next) plans y.3)).1
+    ((go d e is).begun x.0 x.1 y.1 new next x.4 (subst (λ (plan : PlanModel). HasBegunPlan plan y.1 e next) plans y.4)).1
 
 one_server : (s t : Setup) (name other : List ℕ) (u v : ℕ) → t ≡ s → other ≡ name → server_named s name ≡ Some u → server_named t other ≡ Some v → v ≡ u
 one_server s t name other u v rows names x y =
@@ -50,7 +50,7 @@ approve_alike : EachAlike GoAlike → (name other : List ℕ) (d e new next : Dr
     ApprovesRestartOf other e next → AreAlike new next
 approve_alike go name other d e new next names is x y =
     let server = one_server d.machine.placement.setup e.machine.placement.setup name other x.0 y.0 is.setup names x.2 y.2 in
-    ((go d e is).approved x.0 x.1 y.1 new next x.3 (subst (λ v. HasApproved v y.1 e next) server y.3)).1
+    ((go d e is).approved x.0 x.1 y.1 new next x.4 (subst (λ v. HasApproved v y.1 e next) server y.4)).1
 
 restore_alike : EachAlike GoAlike → (name other : List ℕ) (nonce : ℕ) (d e new next : DriverModel) → other ≡ name → AreAlike d e → RestoresServerOf name nonce d new →
     RestoresServerOf other nonce e next → AreAlike new next

@@ -1,0 +1,4 @@
+mod Lines
+mod Runs
+mod Floors
+mod Fresh
