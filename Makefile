@@ -72,9 +72,10 @@ test: ## the gate, in more than an hour: all proofs from nothing, all tests, wro
 	$(MAKE) --jobs=2 --output-sync=line check-caught check-program check-tests
 	@if [ -s build/left-out ]; then echo "This machine lacks something, so that tests were left out:"; sort -u build/left-out; else echo "No test was left out."; fi
 
-# (wrong versions that only tests catch, which take longest; the scripts over the program that stands in build; and those over tests)
+# (wrong versions that only tests catch, of which none is begun after a quarter of an hour: `make edits` tries all; the scripts over the program that
+# stands in build; and those over tests)
 check-caught:
-	scripts/check-caught-by-tests
+	scripts/check-caught-by-tests --until "$$(($$(date +%s) + 900))"
 
 check-program:
 	scripts/check-examples
@@ -114,6 +115,7 @@ edits: ## tries all wrong versions, over what make test has proved: hours of a p
 	rt ci >build/rt-edits.log 2>&1 || { tail -n 20 build/rt-edits.log; exit 1; }
 	scripts/check-try-edits
 	scripts/try-edits --always tests/must-fail
+	scripts/check-caught-by-tests
 
 cluster: ## a minute of a real cluster of Redis servers, moved and harmed while clients write (it needs Debian's etcd-server and redis-server)
 	scripts/cluster run
