@@ -31,7 +31,7 @@ pub extern "C" fn sm_compare(one: &ToldCopy, other: &ToldCopy) -> u32
     code_of(compare(one, other))
 }
 
-/// Tells whether a copy may go on behind a source.
+/// Whether a copy may go on behind a source.
 #[unsafe(no_mangle)]
 pub extern "C" fn sm_resumes(copy: &ToldCopy, views: &[ViewStart], end: u64) -> u32
     ensures { (is_so : Bool) × (result ≡ done_if is_so) × (IsTrue is_so ↔ Resumes copy.now views.now end) }
@@ -39,7 +39,7 @@ pub extern "C" fn sm_resumes(copy: &ToldCopy, views: &[ViewStart], end: u64) -> 
     code::done_if(resumes(copy, views, end))
 }
 
-/// Tells whether so many copies have the writes up to a position.
+/// Whether so many copies have the writes up to a position.
 #[unsafe(no_mangle)]
 pub extern "C" fn sm_copied(copies: u64, own: &ToldCopy, told: &[ToldCopy], position: u64) -> u32
     ensures { (is_so : Bool) × (result ≡ done_if is_so) × (IsTrue is_so ↔ HaveEnough copies own.now told.now position) }

@@ -1,25 +1,23 @@
 -- If servers lose their slots only while they are down, and lines are true, only servers that are down have lost theirs.
-use Rattle.std.proofs.Common.{◌≡◌, ◌∙◌, ◌∷◌, ◌++◌, [], ℕ, true, false, Option, Some, None, List, map, refl, sym, ap, subst}
+use Rattle.std.proofs.Common.{◌≡◌, ◌∙◌, ◌∷◌, ◌++◌, [], ℕ, true, false, Some, None, List, map, sym, ap, subst}
 use Rattle.std.specs.Prelude.{reverse}
 use Rattle.std.specs.List.{AllByRecursion}
 use Rattle.sm_reservation.specs.declared.stream_id.StreamId.{StreamId}
 use Rattle.sm_protocol.specs.Happens.{Step}
 use Rattle.sm_network.specs.Words.{Begin}
-use Rattle.sm_network.specs.Controller.{Answered, Approve, Ended, JournalEntry, Made, Opened, Restored, Stored, is_permitted}
-use Rattle.sm_network.specs.Fleet.{Abandon, Commit, End, Fleet, FleetEvent, Forget, HearAsk, HearOwner, HearServer, Judge, Make, Open, Publish, Receive, Recover, Seal, SendOrder, SendPublication, Serve, controller, fleet_comes, fleet_run, has_lost, written}
+use Rattle.sm_network.specs.Controller.{Answered, Ended, JournalEntry, Made, Opened, Restored, Stored, is_permitted}
+use Rattle.sm_network.specs.Fleet.{End, Fleet, FleetEvent, Forget, controller, fleet_comes, fleet_run, has_lost, written}
 use Rattle.sm_network.specs.FleetLaws.{EachFleet, FleetIsReached}
 use Rattle.sm_reopening_laws.specs.Restarts.{AllFollowRules, AreLostDown, FollowsRules, HasFloors, RulesKeepFloors}
 use Rattle.sm_driver.specs.Driver.{DriverModel}
-use Rattle.sm_driver.specs.Permits.{server_permitted}
-use Rattle.sm_driver_laws.specs.Control.{ApproveRestart, BeginPlan, Command, EndRestart, IsAnswerEntry, IsCallable, IsControllerOf, OpenEpoch, RestoreServer, TakeAnswer, Writes, free_steps}
+use Rattle.sm_driver_laws.specs.Control.{ApproveRestart, BeginPlan, Command, EndRestart, IsAnswerEntry, OpenEpoch, RestoreServer, TakeAnswer, Writes, free_steps}
 use Rattle.sm_driver_laws.specs.Driven.{Driven, Takes, TellsTruth, TurnFits, WritesNothing, driver_setup, with_entries}
 use Rattle.sm_driver_laws.specs.DrivenLaws.{IsFleetDriven}
-use Rattle.sm_driver_laws.proofs.Commands.{permit_is}
-use Rattle.sm_driver_laws.proofs.Events.{AreEvents, EntryFits, event_of, last_true, steps, steps_fit, steps_run}
+use Rattle.sm_driver_laws.proofs.Events.{EntryFits, event_of, last_true, steps, steps_fit}
 use Rattle.sm_driver_laws.proofs.Turns.{goes_fit, written_is}
 use Rattle.sm_session_laws.specs.Replays.{ReplaysAgree}
 use Rattle.sm_run_laws.specs.RunLaws.{AllLoseDown, FloorsHold, LosesDown}
-use Rattle.sm_run_laws.specs.Runs.{AllMomentsFit, EachRun, Happens, Hears, IsRunReached, Moment, MomentFits, Recovers, Run, after_moment, after_moments}
+use Rattle.sm_run_laws.specs.Runs.{AllMomentsFit, EachRun, Happens, Hears, Moment, MomentFits, Recovers, Run, after_moment, after_moments}
 use Rattle.sm_run_laws.specs.Truth.{CommandIsTrue}
 use Rattle.sm_run_laws.proofs.Runs.{IsUnder, moment_under, under}
 

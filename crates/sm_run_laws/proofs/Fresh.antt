@@ -11,7 +11,7 @@ use Rattle.sm_plan_text.specs.Opened.{opening_of}
 use Rattle.sm_protocol.specs.Laws.{IsOpening}
 use Rattle.sm_agent.specs.Base.{forgotten}
 use Rattle.sm_agent.specs.Order.{vacant}
-use Rattle.sm_network.specs.Fleet.{Fleet, Forget, Server}
+use Rattle.sm_network.specs.Fleet.{Forget, Server}
 use Rattle.sm_network.proofs.Slots.{put_elim}
 use Rattle.sm_driver.specs.Driver.{DriverModel, record_of}
 use Rattle.sm_driver_laws.specs.Driven.{driver_setup}

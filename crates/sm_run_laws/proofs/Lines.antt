@@ -1,6 +1,6 @@
 -- A line that changes something is a command of the driver, whose entries tell the truth if the line does.
-use Rattle.std.proofs.Common.{◌≡◌, ◌∙◌, ◌∷◌, ◌++◌, [], ℕ, Option, Some, None, List, refl, sym, ap, subst, inl, inr}
-use Rattle.std.specs.Prelude.{IsSome, map, option_map, reverse}
+use Rattle.std.proofs.Common.{◌≡◌, ◌∷◌, ◌++◌, [], ℕ, Option, Some, None, List, refl, sym, subst, inl, inr}
+use Rattle.std.specs.Prelude.{IsSome, map, reverse}
 use Rattle.std.specs.List.{AllByRecursion}
 use Rattle.sm_reservation.specs.declared.stream_id.StreamId.{StreamId}
 use Rattle.serde_json.specs.Data.{Data}
@@ -12,7 +12,7 @@ use Rattle.sm_network.specs.Words.{Begin}
 use Rattle.sm_network.specs.Controller.{Answered, Approve, Ended, JournalEntry, Made, Opened as EpochOpened, Restored, Stored}
 use Rattle.sm_network.specs.Fleet.{Fleet}
 use Rattle.sm_driver.specs.Driver.{DriverModel, record_of}
-use Rattle.sm_driver_laws.specs.Control.{ApproveRestart, BeginPlan, Command, EndRestart, IsCallable, IsWritten, OpenEpoch, RestoreServer, TakeAnswer, Writes, free_steps}
+use Rattle.sm_driver_laws.specs.Control.{ApproveRestart, BeginPlan, Command, EndRestart, IsCallable, IsWritten, OpenEpoch, RestoreServer, TakeAnswer, free_steps}
 use Rattle.sm_driver_laws.specs.ControlLaws.{AnswersHaveEntries}
 use Rattle.sm_driver_laws.specs.Driven.{Driven, Takes, TellsTruth, TurnFits}
 use Rattle.sm_commands.specs.Lines.{Says}
@@ -23,11 +23,10 @@ use Rattle.sm_commands.specs.declared.command.LineCommand.TheVariants as line
 use Rattle.sm_commands.specs.declared.command.ReopeningCommand.TheVariants as reopening
 use Rattle.sm_open_journal.specs.declared.opened.Opened.{Opened}
 use Rattle.sm_session.specs.Asked.{Does, DoesAsSaid, DoesToDriver, StaysOpen}
-use Rattle.sm_session.specs.Changes.{SessionChanges, driver_of}
+use Rattle.sm_session.specs.Changes.{driver_of}
 use Rattle.sm_session.specs.declared.session.Session.{Session}
-use Rattle.sm_session.specs.declared.under_way.UnderWay.{UnderWay}
 use Rattle.sm_run_laws.specs.RunLaws.{LinesGoOn}
-use Rattle.sm_run_laws.specs.Runs.{LineFits, Run}
+use Rattle.sm_run_laws.specs.Runs.{Run}
 use Rattle.sm_run_laws.specs.Truth.{AnswerIsGiven, CommandIsTrue, SaysCommand}
 
 -- A line is a command of a driver, by which the journal that is open has this driver.

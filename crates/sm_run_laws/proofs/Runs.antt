@@ -1,20 +1,20 @@
 -- Wherever moments lead, the driver is the controller of a fleet that events lead to.
-use Rattle.std.proofs.Common.{◌≡◌, ◌∙◌, ◌∷◌, [], ℕ, Option, Some, None, List, refl, sym, ap, subst}
+use Rattle.std.proofs.Common.{◌≡◌, ◌∙◌, ◌∷◌, [], Option, Some, List, sym, ap, subst}
 use Rattle.std.specs.Prelude.{length, map}
 use Rattle.std.specs.List.{range_with_len}
 use Rattle.sm_placement.specs.Setup.{Setup}
 use Rattle.sm_protocol.specs.State.{State}
-use Rattle.sm_network.specs.Controller.{Controller, Restore}
+use Rattle.sm_network.specs.Controller.{Controller}
 use Rattle.sm_network.specs.Fleet.{controller}
 use Rattle.sm_network.specs.FleetLaws.{EachFleet, FleetIsReached, IsFleetReached}
 use Rattle.sm_driver.specs.Alike.{AreAlike}
-use Rattle.sm_driver.specs.Driver.{DriverModel, base, record_of}
+use Rattle.sm_driver.specs.Driver.{DriverModel}
 use Rattle.sm_driver.specs.Orders.{epoch_base}
 use Rattle.sm_driver.specs.Permits.{permit_of}
 use Rattle.sm_driver.specs.Restores.{RestoreModel, restore_at}
 use Rattle.sm_driver_laws.specs.Control.{IsControllerOf, IsTold}
 use Rattle.sm_driver_laws.specs.ControlLaws.{AnswersHaveEntries}
-use Rattle.sm_driver_laws.specs.Driven.{Driven, Goes, Takes, driver_setup}
+use Rattle.sm_driver_laws.specs.Driven.{Driven, Goes, Takes}
 use Rattle.sm_driver_laws.specs.DrivenLaws.{FleetDrivenIsSafe, IsFleetDriven}
 use Rattle.sm_driver_laws.proofs.Turns.{opening_is, turn_is}
 use Rattle.sm_session.specs.Changes.{driver_of}
