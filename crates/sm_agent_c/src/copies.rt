@@ -1,4 +1,4 @@
-//! What a server decides on copies, which C has in the form of `sm_copies`.
+//! A server's decisions on copies, as `sm_copies` makes them, for C.
 ghost use Rattle.std.specs.Prelude.{◌≡◌, ◌↔◌, Bool, IsTrue};
 ghost use Rattle.std.specs.Ordering.{MatchOrdering};
 ghost use Rattle.std.specs.declared.cmp.Ordering.{Ordering};
@@ -39,7 +39,7 @@ pub extern "C" fn sm_resumes(copy: &ToldCopy, views: &[ViewStart], end: u64) -> 
     code::done_if(resumes(copy, views, end))
 }
 
-/// Whether so many copies have the writes up to a position.
+/// Whether `copies` copies have the writes up to a position.
 #[unsafe(no_mangle)]
 pub extern "C" fn sm_copied(copies: u64, own: &ToldCopy, told: &[ToldCopy], position: u64) -> u32
     ensures { (is_so : Bool) × (result ≡ done_if is_so) × (IsTrue is_so ↔ HaveEnough copies own.now told.now position) }

@@ -1,4 +1,4 @@
--- What enough copies have, by what a primary was told.
+-- How far copies have a shard's writes, as replicas have told the primary.
 use Rattle.std.specs.Prelude.{◌<◌, ◌≤◌, ◌==◌, ◌&&◌, nat_le, ℕ, suc, Bool, List, count_by}
 use Rattle.sm_copies.specs.declared.order.ToldCopy.{ToldCopy}
 
@@ -10,7 +10,7 @@ counts view position copy = copy.view == view && nat_le position copy.position
 abbrev pub HaveEnough : ℕ → ToldCopy → List ToldCopy → ℕ → Type 0
 HaveEnough copies own told position = (position ≤ own.position) × (copies ≤ suc (count_by (counts own.view position) told))
 
--- The position up to which a primary acknowledges: so many copies have the writes up to it, and up to no greater one. It is 0 if there is none.
+-- The position up to which a primary acknowledges: enough copies have the writes up to it, and up to no greater one. It is 0 if there is none.
 pub record IsAcknowledged (copies : ℕ) (own : ToldCopy) (told : List ToldCopy) (position : ℕ) : Type 0 where
   pub have : 0 < position → HaveEnough copies own told position
   pub greatest : (other : ℕ) → HaveEnough copies own told other → other ≤ position

@@ -1,4 +1,4 @@
--- What the decisions on copies come to.
+-- Laws of the decisions on copies.
 use Rattle.std.specs.Prelude.{◌≡◌, ◌↔◌, ◌<◌, ◌≤◌, ◌⊎◌, ℕ, true, List, length}
 use Rattle.sm_copies.specs.declared.order.ToldCopy.{ToldCopy}
 use Rattle.sm_copies.specs.Order.{IsLesser}

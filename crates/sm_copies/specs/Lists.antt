@@ -1,4 +1,4 @@
--- A shard's list of writes with their views, and what is told of a copy of it.
+-- A shard's list of writes with their views, and the view and position of a copy of it.
 use Rattle.std.specs.Prelude.{ℕ, suc, ◌==◌, ◌&&◌, Bool, true, false, List, [], ◌∷◌, length, if◌then◌else◌}
 use Rattle.sm_copies.specs.declared.order.ToldCopy.{ToldCopy}
 use Rattle.sm_copies.specs.declared.resuming.ViewStart.{ViewStart}
@@ -35,7 +35,7 @@ last_view view (x ∷ xs) = last_view x.view xs
 abbrev pub view_of : List ListEntry → ℕ
 view_of xs = last_view 0 xs
 
--- what is told of a copy
+-- the view and the position of a copy
 abbrev pub told_of : List ListEntry → ToldCopy
 told_of copy = record { view = view_of copy; position = length copy }
 

@@ -1,4 +1,4 @@
-//! What enough copies have, by what a primary was told.
+//! How far copies have a shard's writes, as replicas have told the primary.
 ghost use Rattle.std.specs.Prelude.{◌≡◌, ◌↔◌, ◌≤◌, ◌⊎◌, IsTrue};
 ghost use Rattle.sm_copies.specs.Counting.{HaveEnough, IsAcknowledged, counts};
 
@@ -11,7 +11,7 @@ fn is_counted(copy: &ToldCopy, view: u64, position: u64) -> bool
     copy.view == view && position <= copy.position
 }
 
-/// Whether so many copies have the writes up to a position: the primary's own, and those that other replicas have told it on their present
+/// Whether `copies` copies have the writes up to a position: the primary's own, and those that other replicas have told it on their present
 /// connections, of whom none leaves. A replica gets leave to go if this is so without it.
 pub fn is_copied(copies: u64, own: &ToldCopy, told: &[ToldCopy], position: u64) -> bool
     ensures { IsTrue result ↔ HaveEnough copies own.now told.now position }
@@ -36,7 +36,7 @@ fn raised(copies: u64, own: &ToldCopy, told: &[ToldCopy], greatest: u64, other: 
     }
 }
 
-/// The position up to which a primary acknowledges: the greatest that so many copies have, its own among them; 0 if there is none. `told` is
+/// The position up to which a primary acknowledges: the greatest that `copies` copies have, its own among them; 0 if there is none. `told` is
 /// as for `is_copied`.
 pub fn acknowledged(copies: u64, own: &ToldCopy, told: &[ToldCopy]) -> u64
     ensures { IsAcknowledged copies own.now told.now result }
