@@ -13,30 +13,31 @@ help:
 ## To use it
 
 run: ## shows how a server is emptied: the plan, and what the check says (the first time it builds for two minutes, without proof)
-	@scripts/show-example
+	@[ -x build/smplan ] || scripts/build/unproved smplan >&2
+	@scripts/smplan-tools show examples/drain-berlin-1.json
 
 try: ## builds build/smplan-unproved and build/smpland-unproved without any proof, in three minutes: slow programs, for small documents
-	@scripts/build-unproved smplan
-	@scripts/build-unproved smpland
+	@scripts/build/unproved smplan
+	@scripts/build/unproved smpland
 
 build: ## proves and builds build/smplan and build/smpland, in up to an hour
 	@mkdir -p build
-	p=$$(scripts/build-smplan) && cp "$$p" build/smplan
+	p=$$(scripts/build/smplan) && cp "$$p" build/smplan
 	cd crates/smpland && rt run -- --help 2>&1 >/dev/null </dev/null | tee ../../build/smpland.log
 	cp crates/smpland/out/smpland build/smpland
-	@scripts/keep-verdict build/rt.log build/smpland.log
+	@scripts/build/keep-verdict build/rt.log build/smpland.log
 
 install: ## installs build/smplan, build/smpland, the tools, manual pages and docs below PREFIX (/usr/local), in the folder DESTDIR if it is given
-	scripts/install-tree "$(DESTDIR)" "$(PREFIX)"
+	scripts/build/install-tree "$(DESTDIR)" "$(PREFIX)"
 
 uninstall: ## removes what install has put there
-	scripts/install-tree --remove "$(DESTDIR)" "$(PREFIX)"
+	scripts/build/install-tree --remove "$(DESTDIR)" "$(PREFIX)"
 
 dist: ## packs both programs with their checksums and verdicts, the tools and the docs into an archive in build/
-	scripts/make-dist
+	scripts/build/make-dist
 
 deb: ## packs them for Debian, with manual pages, completions and units: build/smplan_VERSION_amd64.deb; after make agent also libsm-agent-dev
-	scripts/make-deb
+	scripts/build/make-deb
 
 ## To connect your servers (docs/YOUR-SERVERS.md)
 
@@ -53,69 +54,67 @@ vectors: ## writes build/agent-vectors.txt, by which a port to another language 
 ## To change it (docs/CONTRIBUTING.md)
 
 # (first what takes seconds; the gate leaves the program that it has proved and run beside its crate; of the wrong versions those of
-# tests/must-fail are tried, which undo a promise, and those that only tests catch. A check takes no libraries of two builds, and `rt ci` gives back
-# those that stood beside the crates before. So these go first, and edits are tried before `make agent` builds the agent's libraries again)
+# tests/must-fail, which undo a promise, are tried as far as they are begun within four minutes, crate by crate in turn, and those that only tests
+# catch: `make edits` tries all. A check takes no libraries of two builds, and `rt ci` gives back those that stood beside the crates before. So these
+# go first, and edits are tried before `make agent` builds the agent's libraries again)
 test: ## the gate, in more than an hour: all proofs from nothing, all tests, wrong versions that must be refused; at the end what was left out
 	@mkdir -p build && rm -f build/left-out
-	scripts/check-layout
-	scripts/check-words
-	scripts/check-lemmas
-	scripts/check-vocabulary
-	scripts/make-audit --check
+	scripts/check/layout
+	scripts/check/words
+	scripts/check/lemmas
+	scripts/check/vocabulary
+	scripts/build/make-audit --check
+	scripts/test scripts
 	rm -rf crates/*/out/rlib
 	rt ci 2>&1 | tee build/rt.log
 	cp crates/smplan/out/smplan build/smplan
 	cp crates/smpland/out/smpland build/smpland
-	scripts/keep-verdict build/rt.log
-	scripts/check-tests
-	scripts/try-edits --always tests/must-fail --until 0
+	scripts/build/keep-verdict build/rt.log
+	scripts/check/rattle
+	scripts/edits/try-edits --edits tests/must-fail --until "$$(($$(date +%s) + 240))"
 	$(MAKE) --jobs=2 --output-sync=line check-caught check-program check-tests
 	@if [ -s build/left-out ]; then echo "This machine lacks something, so that tests were left out:"; sort -u build/left-out; else echo "No test was left out."; fi
 
-# (wrong versions that only tests catch, of which none is begun after a quarter of an hour: `make edits` tries all; the scripts over the program that
+# (wrong versions that only tests catch, of which none is begun after eight minutes: `make edits` tries all; the scripts over the program that
 # stands in build; and those over tests)
 check-caught:
-	scripts/check-caught-by-tests --until "$$(($$(date +%s) + 900))"
+	scripts/edits/caught-by-tests --until "$$(($$(date +%s) + 480))"
 
 check-program:
-	scripts/check-examples
-	scripts/check-plans
-	scripts/check-readme
-	scripts/check-driving-model
-	scripts/check-smpland-model build/smplan build/smpland -
-	scripts/check-driver-example
-	scripts/check-smpland
-	scripts/check-smpland-kills
-	scripts/check-smpland-faults 10
-	scripts/check-documents
-	scripts/check-reports
-	scripts/check-faults
-	scripts/check-early
-	scripts/check-command-line
-	scripts/check-python
-	scripts/check-dist
-	scripts/check-deb
-	scripts/page-test --or-leave-out
-	python3 tests/cluster/checker_cases.py
-	scripts/check-cluster
-	scripts/check-memory
-	scripts/check-threads
-	scripts/check-storm 20
+	scripts/test program
+	scripts/check/readme
+	scripts/test driving_model data_model
+	scripts/check/smpland-model build/smplan build/smpland -
+	scripts/check/driver-example
+	scripts/check/smpland
+	scripts/check/smpland-kills
+	scripts/check/smpland-faults 10
+	scripts/check/early
+	scripts/check/command-line
+	scripts/test python
+	scripts/check/dist
+	scripts/check/deb
+	scripts/check/pages --or-leave-out
+	scripts/check/cluster
+	scripts/check/memory
+	scripts/check/threads
+	scripts/check/storm 20
 	build/board_trials-unproved looks check
 
 check-tests:
 	$(MAKE) agent vectors
-	scripts/check-agent
-	scripts/check-memory-tests
-	scripts/check-refused-programs
+	scripts/check/agent
+	scripts/check/memory-tests
+	scripts/check/refused-programs
+	scripts/test cluster
 
 edits: ## tries all wrong versions, over what make test has proved: hours of a processor
 	@mkdir -p build
 	rm -rf crates/*/out/rlib
 	rt ci >build/rt-edits.log 2>&1 || { tail -n 20 build/rt-edits.log; exit 1; }
-	scripts/check-try-edits
-	scripts/try-edits --always tests/must-fail
-	scripts/check-caught-by-tests
+	scripts/edits/check-try-edits
+	scripts/edits/try-edits --always tests/must-fail
+	scripts/edits/caught-by-tests
 
 cluster: ## a minute of a real cluster of Redis servers, moved and harmed while clients write (it needs Debian's etcd-server and redis-server)
 	scripts/cluster run
@@ -124,25 +123,25 @@ postgresql: ## a minute of four PostgreSQL servers whose schemas move while they
 	scripts/postgresql
 
 bench-postgresql: ## drains of PostgreSQL servers with 60 shards of 7 MB and 12 of 100 MB, and for how long writes pause (docs/BENCH.md); on a machine at rest
-	scripts/bench-postgresql
+	scripts/bench/postgresql
 
 RUNS ?= 200
 cluster-storm: ## RUNS (200) runs of the cluster of 20 seconds, each with other harm, and in how many each situation came up
 	scripts/cluster storm $(RUNS)
 
 page-test: ## loads the tools' pages in Debian's chromium, and writes pictures to build/pages
-	scripts/page-test
+	scripts/check/pages
 
 # (over the program as it is now, and not as the gate may have built it before)
 storm: ## makes 1,000 runs of 64 streams, beside clients, restarts and halts, with lost calls or two plans; kills build/smpland 1,000 times, refuses each of its calls, spoils 100,000 lines
-	scripts/check-storm
-	scripts/check-smpland-kills 1000
-	scripts/check-smpland-faults
-	scripts/check-smpland build/smpland 100000
+	scripts/check/storm
+	scripts/check/smpland-kills 1000
+	scripts/check/smpland-faults
+	scripts/check/smpland build/smpland 100000
 
 bench: build ## measures the proved program on large documents (docs/BENCH.md)
-	scripts/bench
-	scripts/bench-map
-	scripts/bench-machine
-	scripts/bench-board
-	scripts/bench-smpland
+	scripts/bench/smplan
+	scripts/bench/map
+	scripts/bench/machine
+	scripts/bench/board
+	scripts/bench/smpland

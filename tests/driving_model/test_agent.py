@@ -1,9 +1,7 @@
 """The model's servers answer as the agent does: in random schedules each judgement, commit, route, fence, settle and
 restore is made by its port to Python, too, which passes the vectors of the proved functions (tests/agent)."""
-import sys
 import unittest
 from collections import Counter
-from pathlib import Path
 from unittest import mock
 
 from driving_model.cells import Kind, Verb
@@ -11,9 +9,8 @@ from driving_model.rules import SOUND
 from driving_model.schedule import run_schedule
 from driving_model.server import Commit, Judgement, Pass, Route, Server
 
-sys.path.insert(0, str(Path(__file__).resolve().parents[2] / "python"))
-from smplan import agent  # noqa: E402  (the path comes first)
-from smplan.agent import Answer  # noqa: E402
+from smplan import agent
+from smplan.agent import Answer
 
 CELLS = {it: agent.Cell[it.name] for it in Kind}
 CALLS = {it: agent.Call[it.name] for it in (Verb.ADD, Verb.DROP, Verb.CHANGE, Verb.PREPARE_ADD, Verb.PREPARE_DROP)}
@@ -160,7 +157,3 @@ class ServersAnswerAsTheAgent(unittest.TestCase):
             for rule, seed in SEEN.items():
                 with self.subTest(rule), self.assertRaisesRegex(AssertionError, "the model says .*, the agent"):
                     run_schedule(seed, SOUND.without(rule), STEPS)
-
-
-if __name__ == "__main__":
-    unittest.main()

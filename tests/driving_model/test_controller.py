@@ -398,7 +398,3 @@ class Journals(ControllerTest):
         self.assertNotEqual(one.snapshot(), replayed(journal[:-1]).snapshot())
         with self.assertRaises(ValueError):
             replayed([*journal, Answered(0, 0, 2)])
-
-
-if __name__ == "__main__":
-    unittest.main()

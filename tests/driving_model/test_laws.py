@@ -97,7 +97,3 @@ class PlantedBugs(unittest.TestCase):
         self.assert_breaks("a_replay_is_the_same", self.world.check_replay, len(self.world.journal))
         self.world.network.messages.known.clear()
         self.assert_breaks("a_beginning_sends_nothing_new", self.world.check_replay, len(self.world.journal))
-
-
-if __name__ == "__main__":
-    unittest.main()

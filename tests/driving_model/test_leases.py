@@ -32,7 +32,3 @@ class LeaseTest(unittest.TestCase):
 
     def test_so_is_the_bound_on_clocks(self):
         self.assertIn("one_serves", broken(SOUND, clocks=1.5))
-
-
-if __name__ == "__main__":
-    unittest.main()

@@ -119,7 +119,3 @@ class Check(unittest.TestCase):
         self.assertEqual(where["why"], "OverBudget")
         crossed = (Stream({}, (wait(0), signal(1))), Stream({}, (wait(1), signal(0))))
         self.assert_fault("Stuck", *crossed, signals=({}, {}))
-
-
-if __name__ == "__main__":
-    unittest.main()

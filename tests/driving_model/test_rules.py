@@ -70,7 +70,3 @@ class RulesAreNeeded(unittest.TestCase):
             with self.subTest(worked.name):
                 self.assertIsNone(played(worked, with_rule=True))
                 self.assertIsNotNone(played(worked, with_rule=False))
-
-
-if __name__ == "__main__":
-    unittest.main()

@@ -62,7 +62,3 @@ class Sessions(unittest.TestCase):
 def is_first(command):
     """The command is the first one of a journal."""
     return isinstance(command, Open) or (isinstance(command, Reopen) and command.journal is not None)
-
-
-if __name__ == "__main__":
-    unittest.main()

@@ -209,7 +209,3 @@ class TheMap(unittest.TestCase):
         self.assertIsNone(owner.fence(Fence(MAP, BASE_STEP, 9)))
         self.assertFalse(owner.publish(Publication(9, 0, 0, 0, 0, 1, 0, 1, 2)))
         self.assertEqual(owner.entries, [Entry(None, BASE_STEP)])
-
-
-if __name__ == "__main__":
-    unittest.main()

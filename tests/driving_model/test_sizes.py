@@ -184,7 +184,3 @@ class ServersCount(unittest.TestCase):
         self.assertIsNone(nobody_has_what_is_not_there(Sight(play.world)))
         play.world.hosts[2].server.slots[1].cell = SECONDARY
         self.assertIsNotNone(nobody_has_what_is_not_there(Sight(play.world)))
-
-
-if __name__ == "__main__":
-    unittest.main()

@@ -1,4 +1,4 @@
-"""page_test [FOLDER]: loads pages of `smplan-tools show --html` in a headless browser: see scripts/page-test.
+"""page_test [FOLDER]: loads pages of `smplan-tools show --html` in a headless browser: see scripts/check/pages.
 
 Of each page: every stream, signal, step and touched server is in it, its scripts do nothing wrong, it asks no network, and no two texts lie over each
 other. First it shows that it would find each of these in a page that has them.
@@ -183,5 +183,5 @@ if __name__ == "__main__":
     try:
         sys.exit(main(sys.argv[1] if len(sys.argv) > 1 else None))
     except NoBrowser as why:
-        print(f"page-test: {why}")
+        print(f"check/pages: {why}")
         sys.exit(NO_BROWSER)

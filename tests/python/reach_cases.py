@@ -1,4 +1,4 @@
-"""Random documents, placements that are wanted of them, and what has to hold of each plan that leads there. scripts/fuzz-plans tries many."""
+"""Random documents, placements that are wanted of them, and what has to hold of each plan that leads there. scripts/check/fuzz-plans tries many."""
 import random
 from collections import Counter
 

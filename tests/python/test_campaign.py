@@ -400,7 +400,3 @@ class Recorded(unittest.TestCase):
         }
         fleet = fleet_of_state(state, None)
         self.assertEqual(([3, 6], [False, True], 60), ([fleet.free(it) for it in range(2)], fleet.is_down, fleet.document.log))
-
-
-if __name__ == "__main__":
-    unittest.main()

@@ -77,7 +77,3 @@ class Terminal(unittest.TestCase):
     def test_nothing_is_added_elsewhere(self):
         self.assertEqual("", self.run_script("placement", "calls")[1])
         self.assertEqual(("bad input: 4 UnknownName server\n", "", 2), self.run_script("unknown-server", "calls", is_terminal=False))
-
-
-if __name__ == "__main__":
-    unittest.main()

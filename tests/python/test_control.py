@@ -214,7 +214,3 @@ class ControlTest(unittest.IsolatedAsyncioTestCase):
         with self.assertRaises(SessionEnded):
             await controller.do({"do": "stop"})
         await controller.rest()
-
-
-if __name__ == "__main__":
-    unittest.main()

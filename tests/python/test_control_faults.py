@@ -260,7 +260,3 @@ class SessionFaultsTest(unittest.IsolatedAsyncioTestCase):
             with self.assertRaisesRegex(SessionEnded, "KeyError 'server'"):
                 await session.ask({"do": "hello"}, heed)
         await session.close()
-
-
-if __name__ == "__main__":
-    unittest.main()

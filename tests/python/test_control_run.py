@@ -342,14 +342,14 @@ class WordsTest(unittest.TestCase):
             document_of_state(STATE, {"shards": WANTS["shards"][:1]})
 
     def test_a_proposal_in_words(self):
-        proposal = {"base": 1, "lost": ["u"], "floors": [{"shard": "t", "floor": 0}], "carried": ["d"], "cells": [
+        proposal = {"base": 1, "lost": ["t", "u"], "floors": [{"shard": "t", "floor": 0}], "carried": ["d"], "cells": [
             {"shard": "s", "cells": [{"server": "a", "state": "primary"}]}, {"shard": "t", "cells": [{"server": "b", "state": "primary"}]}, {"shard": "u", "cells": []},
             {"shard": "v", "cells": [{"server": "b", "state": "secondary"}]}]}
         before = {it["shard"]: it["cells"] for it in STATE["shards"]} | {"u": [{"server": "c", "state": "primary"}]}
-        self.assertEqual(proposal_lines(proposal, before, ["c"]), [
+        self.assertEqual(proposal_lines(proposal, before), [
             "proposed:", "  s                a primary", "  t                b primary  (primary before: c)", "  u                nobody has it  (primary before: c)",
             "  v                b secondary",
-            "lost, as nobody who is left has all: u", "may lack writes that c alone had acknowledged: t",
+            "lost, or without writes that a server which is gone acknowledged alone: t, u",
             "without a primary, secondaries alone: v; promote the one that has most writes by a plan",
             "with fewer live replicas than their floor: t 0", "down, silent, and left as recorded: d"])
 
@@ -552,8 +552,9 @@ class StoryTest(unittest.TestCase):
         self.running["c"].wait()
         status, text = self.control("reopen", "--lost", "c", "--dry-run", "--json")
         self.assertEqual((status, [it["name"] for it in json.loads(text)["document"]["servers"]]), (0, ["a", "b"]), text)
-        status, text = self.control("reopen", "--lost", "c", "--yes")
-        self.assertEqual((status, "may lack writes that c alone had acknowledged: s" in text), (0, True), text)
+        self.check(("reopen", "--lost", "c", "--yes"), 1, "s may be lost: only --accept-loss says yes to that")
+        status, text = self.control("reopen", "--go-on", "--yes", "--accept-loss")
+        self.assertEqual((status, "acknowledged alone: s" in text), (0, True), text)
         self.assertEqual((self.listed(), self.request("b", 3)), ("b", {"reply": "1243"}))
         status, text = self.control("repair", "--yes")
         self.assertEqual((status, "s: a gets a secondary" in text), (0, True), text)
@@ -602,7 +603,3 @@ class StoryTest(unittest.TestCase):
         reopening = {"do": "reopen", "document": self.ask("/document"), "lost": [], "why": "it"}
         urlopen(f"{self.controller}/do", json.dumps(reopening).encode(), timeout=10).close()
         self.check(("remove-server", "b", "--yes"), 1, "a reopening is under way")
-
-
-if __name__ == "__main__":
-    unittest.main()

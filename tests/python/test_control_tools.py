@@ -401,7 +401,3 @@ class AuditTest(unittest.TestCase):
     def test_placement_of_a_report(self):
         report = ["server a room 10 load 4 up", "shard s live 2 floor 1 listed a version 0", "  a primary", "  c secondary", "shard t live 0 floor 0 listed - version 0"]
         self.assertEqual(control_audit.placement_of(report), {"s": {"a": "primary", "c": "secondary"}, "t": {}})
-
-
-if __name__ == "__main__":
-    unittest.main()

@@ -114,7 +114,3 @@ class AskRestart(unittest.TestCase):
         done = tools("ask-restart", "--program", "/no/such/program", str(example("placement")), "oslo-1")
         self.assertEqual(3, done.status)
         self.assertIn("/no/such/program", done.err)
-
-
-if __name__ == "__main__":
-    unittest.main()

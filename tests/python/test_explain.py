@@ -261,7 +261,3 @@ class Told(unittest.TestCase):
             done = tools("explain", "--command", "run", path)
         self.assertEqual("not begun: 4 LogFull", refusal_of(program("run", value)))
         self.assertIn("the plan needs 6 places of the log, and 5 are free", done.out)
-
-
-if __name__ == "__main__":
-    unittest.main()

@@ -83,7 +83,3 @@ class Batches(unittest.TestCase):
                 done = tools("export", "kafka", path)
             self.assertIn(told, done.err)
             self.assertIn(done.status, (1, 2))
-
-
-if __name__ == "__main__":
-    unittest.main()

@@ -477,7 +477,3 @@ class Storm(unittest.TestCase):
         with gate_of(fleet.world) as gate, mock.patch.object(Store, "put", lambda *_: None):
             storm(gate, fleet, 120.0, 5.0)
         self.assertNotEqual([], fleet.broken)
-
-
-if __name__ == "__main__":
-    unittest.main()

@@ -176,7 +176,3 @@ class Databases(unittest.TestCase):
         for words, live in [((), ["n1", "n2"]), (("--lag", "1"), ["n1", "n2"]), (("--lag", "0.5"), ["n1"])]:
             found = imported("postgresql", json.dumps(rows), "--primary", "n1", *words, "--members", "n1,n2,n3")
             self.assertEqual(live, [it["server"] for it in found["shards"][0]["cells"]])
-
-
-if __name__ == "__main__":
-    unittest.main()

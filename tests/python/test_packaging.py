@@ -99,19 +99,19 @@ class Figures(unittest.TestCase):
     def test_the_package_of_python(self):
         text = (ROOT / "python" / "pyproject.toml").read_text()
         for name, module in re.findall(r'^(smplan-\w+) = "([\w.]+):main"$', text, re.MULTILINE):
-            self.assertIn(f"{name}:{module.replace('.__main__', '')}", (ROOT / "scripts" / "install-tree").read_text())
+            self.assertIn(f"{name}:{module.replace('.__main__', '')}", (ROOT / "scripts/build/install-tree").read_text())
         self.assertEqual(2, text.count(":main"))
 
 
 class Installed(unittest.TestCase):
-    """What scripts/install-tree puts below a prefix, and what commands say of themselves."""
+    """What scripts/build/install-tree puts below a prefix, and what commands say of themselves."""
 
     def test_the_ports_to_go_and_rust(self):
         with tempfile.TemporaryDirectory() as folder:
             stub = Path(folder) / "stub"
             stub.write_text("#!/bin/sh\necho usage\n")
             stub.chmod(0o755)
-            subprocess.run([ROOT / "scripts/install-tree", f"{folder}/tree", "/usr"], check=True, capture_output=True, env={**os.environ, "SMPLAN": str(stub), "SMPLAND": ""})
+            subprocess.run([ROOT / "scripts/build/install-tree", f"{folder}/tree", "/usr"], check=True, capture_output=True, env={**os.environ, "SMPLAN": str(stub), "SMPLAND": ""})
             at = Path(folder) / "tree/usr/share/smplan/ports"
             found = {str(it.relative_to(at)) for it in at.rglob("*") if it.is_file()}
         sources = {str(it.relative_to(ROOT / "ports")) for port in ("go", "rust") for it in (ROOT / "ports" / port).rglob("*") if it.is_file()}
@@ -129,7 +129,3 @@ class Installed(unittest.TestCase):
                 self.assertIn("Exit status", text)
         for name in ("begin", "state", "restart", "reopen", "add-server", "remove-server", "repair", "controllers", "drain", "watch"):
             self.assertIn("--json", commands[name].format_help(), name)
-
-
-if __name__ == "__main__":
-    unittest.main()

@@ -77,7 +77,3 @@ class Faults(unittest.TestCase):
         self.assertEqual([f"bad input: 3 Shape {it}" for it in ("calls", "plan", "events", "moves", "plan")], lines)
         self.assertEqual("bad input: 3 Shape drain", need_faults(value | {"moves": [], "drain": "a"}, "plan")[0].line)
         self.assertEqual("bad input: 3 Shape plans", need_faults(value | {"plan": {}, "plans": []}, "play")[0].line)
-
-
-if __name__ == "__main__":
-    unittest.main()

@@ -130,7 +130,3 @@ class Told(unittest.TestCase):
         value = json.loads(done.out)
         self.assertEqual(64, len(value["plan"]["streams"]))
         self.assertEqual("accepted: calls 300 streams 64\n", program("check", value))
-
-
-if __name__ == "__main__":
-    unittest.main()

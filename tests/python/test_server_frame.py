@@ -22,6 +22,8 @@ from urllib.error import HTTPError
 from urllib.parse import urlsplit
 from urllib.request import Request as Page, urlopen
 
+import kv_http
+import kv_rules
 from smplan import agent
 from smplan.agent import Answer, Call, Cell, Request, Role, Slot
 from smplan.control_agent import told_of
@@ -33,9 +35,6 @@ from smplan.server_orders import NotYet
 from smplan.server_records import Records
 
 ROOT = pathlib.Path(__file__).resolve().parents[2]
-sys.path[:0] = [str(ROOT / "examples"), str(ROOT / "tests/agent")]
-import kv_http  # noqa: E402  (the path comes first)
-import kv_rules  # noqa: E402
 
 ENVIRONMENT = {**os.environ, "PYTHONPATH": str(ROOT / "python"), "PYTHONDONTWRITEBYTECODE": "1"}
 SMPLAND = pathlib.Path(os.environ.get("SMPLAND") or ROOT / "build/smpland")
@@ -219,7 +218,7 @@ class FleetTest(unittest.TestCase):
         if fleet.has_go:
             go("build", "-o", f"{folder.name}/kv", "./examples/kv")
         else:
-            subprocess.run([ROOT / "scripts/leave-out", "the frame for servers in Go", "there is no go"], check=True)
+            subprocess.run([ROOT / "scripts/lib/leave-out", "the frame for servers in Go", "there is no go"], check=True)
         fleet.until(lambda: fleet.ask(f"{fleet.controller}/healthz")["leads"], "the controller")
         for it in "abcg":
             fleet.start_server(it, "-new")
@@ -519,6 +518,13 @@ class TellsWhileItLeaves(Frame):
             return answer(line)
 
 
+class TakesNoneForLess(Frame):
+    """Says that it has less than another one, though it has lost its copy."""
+    def answer(self, path, line):
+        told = super().answer(path, line)
+        return {"less": 0} if "lost its copy" in told.get("said", "") else told
+
+
 def passed_before_the_cut(kind):
     """The old owner's last write is late, and comes behind a request that it passes on."""
     a, b = kv_rules.pair(kind)
@@ -542,6 +548,21 @@ def lost_disk(kind):
     a.kept(lambda it: it.tx.delete("frame/new"))
     a.restore(kv_rules.JOURNAL, 0, 0, a.base().nonce, {kv_rules.SHARD: Slot(cell=Cell.PRIMARY, load=1)})
     kv_rules.want((kv_rules.read(a), b.value(kv_rules.SHARD, "k")), (Answer.NOT_HERE, "x"))
+
+
+def change_beside_a_new_disk(kind):
+    """The primary is dropped by leave of a secondary that has all, whose disk is replaced then. The other one lags, and is to be primary."""
+    a, b = kv_rules.pair(kind, Cell.SECONDARY)
+    c = kind(3, a.peers)
+    kv_rules.restore(c, Cell.SECONDARY)
+    kv_rules.push(a, "r1", "x")
+    c.follow = lambda line: {"later": "lost"}
+    kv_rules.want((kv_rules.push(a, "r2", "y"), kv_rules.answered(a, kv_rules.order(1, Call.DROP))), ("xy", True))
+    del c.follow
+    b = kind(2, a.peers)
+    b.kept(lambda it: it.tx.delete("frame/new"))
+    kv_rules.restore(b, Cell.SECONDARY)
+    kv_rules.want(kv_rules.answered(c, kv_rules.order(2, Call.CHANGE, role=Role.SECONDARY, new_role=Role.PRIMARY)), False)
 
 
 def overtaken(kind):
@@ -578,6 +599,21 @@ def dropped_by_leave(kind):
     del b.follow
     a.streams.keep_up()
     kv_rules.want((a.work(kv_rules.SHARD, drop), b.value(kv_rules.SHARD, "k"), a.slot(kv_rules.SHARD).cell), (True, "x", Cell.ABSENT))
+
+
+def primary_is_not_known(kind):
+    """A secondary is to be dropped whose primary it does not know yet: others do not give leave in its place."""
+    a, b = kv_rules.pair(kind, Cell.SECONDARY)
+    c = kind(3, a.peers)
+    kv_rules.restore(c, Cell.SECONDARY)
+    kv_rules.push(a, "r1", "x")
+    drop = kv_rules.order(1, Call.DROP)
+    kv_rules.want(b.order(kv_rules.SHARD, drop), Answer.BEGIN)
+    try:
+        b.orders.prepare(kv_rules.SHARD, drop, {**b.line_of(kv_rules.SHARD, drop), "primary": "new"})
+    except OSError:
+        return
+    raise AssertionError("it has leave")
 
 
 def leave_is_given_up(kind):
@@ -625,9 +661,10 @@ SCHEDULES = (
     (AnswersAtOnce, kv_rules.crash_at_work), (KeepsWork, kv_rules.crash_and_repeat), (DeletesAtDrop, kv_rules.late_order),
     (ComesBackEmpty, kv_rules.lost_state),
     (KeepsItsNonce, kv_rules.given_up), (AcknowledgesAlone, kv_rules.lost_for_good), (ExecutesWhileForwarding, kv_rules.whole_handover),
-    (ExecutesBeforeTheCut, passed_before_the_cut), (LosesWithoutAsking, lost_disk), (None, overtaken), (None, roles_change),
+    (ExecutesBeforeTheCut, passed_before_the_cut), (LosesWithoutAsking, lost_disk), (TakesNoneForLess, change_beside_a_new_disk), (None, overtaken),
+    (None, roles_change),
     (DropsWithoutLeave, dropped_by_leave), (CountsNoMore, leave_is_given_up), (TellsWhileItLeaves, leave_is_given_up), (None, leave_ends_at_a_fence),
-    (GivesWhileItLeaves, both_leave))
+    (None, primary_is_not_known), (GivesWhileItLeaves, both_leave))
 
 
 class RulesTest(unittest.TestCase):
@@ -662,7 +699,3 @@ class RulesTest(unittest.TestCase):
             if kind is not None:
                 with self.subTest(kind.__name__), self.assertRaises(AssertionError):
                     schedule(kind)
-
-
-if __name__ == "__main__":
-    unittest.main()

@@ -238,7 +238,3 @@ class CommandLine(unittest.TestCase):
             done = tools("show", path)
         self.assertEqual(2, done.status)
         self.assertIn("bad input: 4 UnknownName drain: $.drain: no server is named 'a'", done.err)
-
-
-if __name__ == "__main__":
-    unittest.main()

@@ -167,7 +167,8 @@ class Reopening:
             heir = self.heir(survey, choice)
             cells.append(self.settled_row(survey, heir))
             part = heir is not None and self.rules.survivor_rank and survey.standing[heir][0] == PART
-            if self.is_bare(survey, shard, heir) or (part and survey.row[heir].kind is Kind.PREPARED):
+            part = part and survey.row[heir].kind is Kind.PREPARED
+            if self.is_bare(survey, shard, heir) or part or self.is_perhaps_lost(survey, shard):
                 lost.append(shard)
         return Proposal(self.base, tuple(cells), tuple(lost), self.short_floors(cells), tuple(self.missing))
 
@@ -176,6 +177,24 @@ class Reopening:
         if heir is None:
             return any(it != ABSENT for it in (self.record.cells if self.record else self.document.cells)[shard])
         return heir not in survey.sure and heir not in survey.silent
+
+    def may_have_served(self, shard: int) -> set[int]:
+        """Who is recorded so that it may have served a shard: who has a part in its lead, or, if nobody has, its
+        secondaries, which may have become its primary since."""
+        row = self.record.cells[shard] if self.record else ()
+        led = {it for it, cell in enumerate(row) if cell not in (ABSENT, SECONDARY)}
+        return led or {it for it, cell in enumerate(row) if cell == SECONDARY}
+
+    def is_perhaps_lost(self, survey: Survey, shard: int) -> bool:
+        """The shard has survivors and no primary, and a server that may have served it is lost or Unknown, or tells
+        nothing of it: that one may have acknowledged writes alone. So may one to which a replaced reopening has sent a
+        settle, and each server if nothing is recorded."""
+        if survey.primary() is not None or not survey.sure:
+            return False
+        blank = {it for it, found in self.inventories.items() if isinstance(found, Unknown)} | self.lost
+        any_shard = self.already_settled if self.record else blank
+        served = self.may_have_served(shard)
+        return bool(blank & any_shard or (served & (self.lost | set(self.inventories))) - survey.sure)
 
     def short_floors(self, cells: list[tuple[Cell, ...]]) -> tuple[tuple[int, int], ...]:
         """The shards with fewer live replicas than the document's floor."""
