@@ -1,0 +1,12 @@
+mod Columns
+mod Standing
+mod Fencing
+mod Assigning
+mod Losing
+mod Handling
+mod Requests
+mod Simulated
+mod Opening
+mod Reached
+mod First
+mod Plays

@@ -1,0 +1,3 @@
+pub mod Cluster
+pub mod ClusterLaws
+pub mod ClusterPlays

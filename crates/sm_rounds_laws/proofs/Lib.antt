@@ -1,0 +1,11 @@
+mod Positions
+mod Publications
+mod Moves
+mod Walks
+mod Hearing
+mod Rounds
+mod Gathering
+mod Gentle
+mod Serving
+mod Comes
+mod Plays

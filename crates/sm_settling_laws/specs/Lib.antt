@@ -1,0 +1,3 @@
+pub mod Inheriting
+pub mod Ending
+pub mod EndingPlays

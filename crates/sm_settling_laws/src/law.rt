@@ -1,0 +1,30 @@
+//! The laws.
+ghost use Rattle.sm_network.specs.ReopeningLaws.{EachSettling};
+ghost use Rattle.sm_reopening_laws.specs.Service.{EachService};
+ghost use Rattle.sm_settling_laws.specs.Ending.{CanEnd, CanSettle, CanTell};
+
+use sm_network::{executes_safely, told_is_had};
+use sm_reopening_laws::{can_open, laws_hold};
+
+/// States that another reopening may begin whatever is under way, and that all can tell then.
+pub fn can_tell()
+    ensures { EachSettling CanTell }
+{}
+
+/// States that once all have told what they have, what comes of it may be confirmed under each configuration that has
+/// place for it, and all can take it.
+pub fn can_settle()
+    ensures { EachSettling CanSettle }
+{
+    executes_safely();
+    told_is_had();
+}
+
+/// States that once all have told what they have, events lead on until a controller runs plans again.
+pub fn reopening_can_end()
+    ensures { EachService CanEnd }
+{
+    can_settle();
+    can_open();
+    laws_hold();
+}
