@@ -65,19 +65,15 @@ def primary_of(cells: List[Line]) -> Optional[str]:
     return next((it["server"] for it in cells if it["state"] in ("primary", "forwarding")), None)
 
 
-def proposal_lines(proposal: Line, before: Dict[str, List[Line]], gone: List[str]) -> List[str]:
-    """Returns a proposal in words: what is lost, what may be incomplete, what is below its floor, who did not answer."""
-    lines, incomplete = [], []
+def proposal_lines(proposal: Line, before: Dict[str, List[Line]]) -> List[str]:
+    """Returns a proposal in words: what is lost, what is below its floor, who did not answer."""
+    lines = []
     for it in proposal["cells"]:
         old, new = primary_of(before.get(it["shard"], [])), primary_of(it["cells"])
         cells = ", ".join(f"{cell['server']} {cell['state']}" for cell in it["cells"]) or "nobody has it"
         lines.append(f"  {it['shard']:<16} {cells}" + (f"  (primary before: {old or 'none'})" if old != new else ""))
-        if old in gone and it["shard"] not in proposal["lost"]:
-            incomplete.append(it["shard"])
     bare = [it["shard"] for it in proposal["cells"] if it["cells"] and primary_of(it["cells"]) is None]
-    found = ["proposed:", *lines, f"lost, as nobody who is left has all: {listed(proposal['lost'])}"]
-    if incomplete:
-        found.append(f"may lack writes that {' or '.join(gone)} alone had acknowledged: {', '.join(incomplete)}")
+    found = ["proposed:", *lines, f"lost, or without writes that a server which is gone acknowledged alone: {listed(proposal['lost'])}"]
     if bare:
         found.append(f"without a primary, secondaries alone: {', '.join(bare)}; promote the one that has most writes by a plan")
     found.append(f"with fewer live replicas than their floor: {listed([floor_text(it) for it in proposal['floors']])}")
@@ -126,20 +122,19 @@ def confirm(controllers: Controllers, arguments: argparse.Namespace, base: int, 
     """Shows the proposal, confirms it if that is agreed to, and waits until the service is open."""
     proposal = wait_for_proposal(controllers, base, arguments.wait)
     cells = {it["shard"]: it["cells"] for it in before.get("shards", [])}
-    recorded = [it["server"] for it in before.get("servers", [])]
-    gone = [it for it in recorded if it in arguments.lost] if arguments.lost else []
-    text = "\n".join(proposal_lines(proposal, cells, gone))
+    text = "\n".join(proposal_lines(proposal, cells))
     print(text, file=sys.stderr if arguments.json else sys.stdout, flush=True)
     if proposal["lost"] and arguments.yes and not arguments.accept_loss:
-        raise Failure(f"{', '.join(proposal['lost'])} would be lost: only --accept-loss says yes to that. {CLOSED}", 1)
+        raise Failure(f"{', '.join(proposal['lost'])} may be lost: only --accept-loss says yes to that. {CLOSED}", 1)
+    doubt = f", though {', '.join(proposal['lost'])} may be lost" if proposal["lost"] else ""
     try:
-        is_agreed = agrees("Confirm this?", arguments.yes)
+        is_agreed = agrees(f"Confirm this{doubt}?", arguments.yes)
     except Failure as why:
         raise Failure(f"{why}. {CLOSED}", 1) from None
     if not is_agreed:
         print(CLOSED)
         return 1
-    reply = controllers.post("/do", {"do": "confirm", "base": base})
+    reply = controllers.post("/do", {"do": "confirm", "base": base, "lost": proposal["lost"]})
     if "refused" in reply or "bad" in reply:
         raise Failure(f"{Refused(reply)}. {CLOSED}", 1)
     state = wait_until_open(controllers, arguments.wait)
@@ -203,7 +198,7 @@ def add_agreement(parser: argparse.ArgumentParser) -> None:
     """Adds the options of a command that reopens."""
     parser.add_argument("--dry-run", action="store_true", help="show the document and who would be lost, and send nothing")
     parser.add_argument("--yes", action="store_true", help="do not ask")
-    parser.add_argument("--accept-loss", action="store_true", help="with --yes: confirm also if shards are lost")
+    parser.add_argument("--accept-loss", action="store_true", help="with --yes: confirm also if shards may be lost")
     parser.add_argument("--wait", type=at_least(0), default=120.0, metavar="SECONDS", help="wait so long for answers (120)")
     add_options(parser)
     add_json(parser)

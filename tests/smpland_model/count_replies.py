@@ -1,4 +1,7 @@
-"""count_replies.py [FIRST LAST]: how often each reply comes in random sessions of the reference, and which documented ones do not."""
+"""count_replies.py [FIRST LAST]: how often each reply comes in random sessions of the reference, and which documented ones do not.
+
+By hand: PYTHONPATH=tools:python python3 tests/smpland_model/count_replies.py
+"""
 from __future__ import annotations
 
 import json
@@ -8,13 +11,10 @@ from collections import Counter
 from pathlib import Path
 from typing import Any
 
-if __name__ == "__main__":
-    sys.path[:0] = [str(Path(__file__).resolve().parents[2] / it) for it in ("tools", "python")]
+from smpland_model.lines import tables
+from smplan.reading import Names
 
-from smpland_model.lines import tables  # noqa: E402
-from smplan.reading import Names  # noqa: E402
-
-from random_client import Client  # noqa: E402
+from random_client import Client
 
 Json = dict[str, Any]
 STEPS = 300
@@ -33,7 +33,7 @@ ELSEWHERE = {
 }
 REPLIES = {
     "opened", "begun", "moved", "approved", "ended", "up", "restore", "fence", "waiting", "proposal", "settle", "ignored old",
-    "ignored unknown", "bad", "hello", "orders", "map", "state", "since", "accepted", "plan", "audit agrees", "audit differs",
+    "ignored unknown", "bad", "hello", "orders", "map", "document", "state", "since", "accepted", "plan", "audit agrees", "audit differs",
     "audit ahead", "audit later", "failed audit", "failed restore", "failed reopen", "begun again",
 }
 

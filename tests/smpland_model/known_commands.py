@@ -4,13 +4,9 @@ from __future__ import annotations
 import json
 import subprocess
 import sys
-from pathlib import Path
 
-if __name__ == "__main__":
-    sys.path[:0] = [str(Path(__file__).resolve().parents[2] / it) for it in ("tools", "python")]
-
-from smpland_model.lines import tables  # noqa: E402
-from smplan.reading import Names  # noqa: E402
+from smpland_model.lines import tables
+from smplan.reading import Names
 
 
 # Members by which a command is read as one, so that it is not bad for lack of them.

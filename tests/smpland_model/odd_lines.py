@@ -22,7 +22,7 @@ MEMBERS = {
     "approve": "server by", "restarted": "permit base", "restore": "server nonce",
     "reopen": "document lost? why? journal? fence?",
     "fenced": "party base slots | party base unknown | party base slots? unknown?",
-    "confirm": "base choices", "settled": "party base", "hello": "", "orders": "", "map": "",
+    "confirm": "base choices lost?", "settled": "party base", "hello": "", "orders": "", "map": "", "document": "",
     "state": "shard? plan_number?", "moves": "moves", "drain": "server", "check": "plan", "since": "place",
     "audit": "server place slots", "failed": "plan_number stream number answer",
 }

@@ -238,6 +238,7 @@ def reply_form(reply: replies.Reply) -> Json:
         case replies.Moved():
             return {"moved": {"plan": reply.plan, "stream": reply.stream, "at": reply.at}}
         case replies.Approved():
+            # (the session also tells the shards that nobody serves meanwhile)
             return {"approved": {"server": server_name(reply.server), "permit": reply.permit}}
         case replies.PermitEnded():
             return {"ended": {"server": server_name(reply.server), "permit": reply.permit}}

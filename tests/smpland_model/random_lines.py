@@ -15,7 +15,7 @@ from plain_commands import command_json, with_own_cells
 
 Json = dict[str, Any]
 QUESTIONS = [
-    {"do": "hello"}, {"do": "orders"}, {"do": "map"}, {"do": "state"}, {"do": "state", "shard": "s0"},
+    {"do": "hello"}, {"do": "orders"}, {"do": "map"}, {"do": "document"}, {"do": "state"}, {"do": "state", "shard": "s0"},
     {"do": "state", "plan": 0}, {"do": "since", "place": 3},
     {"do": "failed", "plan": 0, "stream": 0, "number": 1, "answer": "old"},
     {"do": "audit", "server": "v0", "place": 5, "slots": []},

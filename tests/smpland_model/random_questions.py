@@ -10,7 +10,7 @@ from random_plans import bent, random_plan
 from random_slots import Slots
 
 Json = dict[str, Any]
-PLAIN = ("hello", "orders", "map", "state", "since")
+PLAIN = ("hello", "orders", "map", "document", "state", "since")
 ANSWERS = ("old", "refused", "foreign", "not_ready")
 
 
@@ -96,10 +96,20 @@ class Questions:
             target = self.dice.choice(away if away and self.dice.random() < 0.8 else self.servers)
             if record.permits and self.dice.random() < 0.3:
                 target = numbering.servers[self.dice.choice(list(record.permits))]
+            elif away and self.dice.random() < 0.2:
+                target = min(away, key=self.left)
             moves.append({"shard": self.shards[shard], "from": source, "to": target})
         if self.dice.random() < 0.3:
             moves = [it | {"to": moves[0]["to"]} for it in moves]
         return {"do": "moves", "moves": moves}
+
+    def left(self, server: str) -> int:
+        """Returns how much room a server has left."""
+        controller = self.session.controller
+        rows = zip(controller.numbering.shards, controller.record.cells)
+        number = controller.numbering.servers.index(server)
+        used = sum(controller.document.shards[name].load for name, row in rows if row[number].kind.value != "absent")
+        return controller.document.servers[server].room - used
 
     def drain(self) -> Json:
         """Asks for a plan that empties a server."""

@@ -114,13 +114,23 @@ class Reopenings:
     def confirm(self) -> Json:
         """Accepts the proposal, or chooses otherwise."""
         controller = self.session.controller
-        line: Json = {"do": "confirm", "base": self.base()}
+        line: Json = {"do": "confirm", "base": self.base(), **self.named()}
         document = controller.next_document
         if controller.reopening.settles or self.chance(0.5) or not document.shards:
             return line
         names = self.dice.sample(list(document.shards), self.dice.randint(1, min(2, len(document.shards))))
         rows = {it["shard"]: it["cells"] for it in self.session.writer.proposal(controller.reopening.propose())["cells"]}
         return line | {"cells": [{"shard": it, "cells": self.choice(rows[it])} for it in names]}
+
+    def named(self) -> Json:
+        """Returns, as a member, the shards that are named as lost, and sometimes others, or fewer."""
+        controller = self.session.controller
+        lost = [controller.numbering.shards[it] for it in controller.reopening.propose().lost]
+        if self.chance(0.1):
+            lost = self.dice.sample(lost, self.dice.randint(0, len(lost)))
+        if self.chance(0.05):
+            lost.append(self.dice.choice([*controller.numbering.shards, "zz"]))
+        return {"lost": lost} if lost or self.chance(0.3) else {}
 
     def choice(self, cells: list[Json]) -> list[Json]:
         """Returns cells of a shard: the proposed ones, others that may be chosen, and such that may not."""

@@ -12,22 +12,18 @@ import unittest
 from collections import Counter
 from collections.abc import Callable
 from dataclasses import dataclass, field
-from pathlib import Path
 from typing import Any
 
-if __name__ == "__main__":
-    sys.path[:0] = [str(Path(__file__).resolve().parents[2] / it) for it in ("tools", "python")]
+from driving_model import commands
+from driving_model.rules import SOUND
+from driving_model.schedule import PROFILES, Schedule
+from smpland_model.controller import NamedController
+from smpland_model.session import Session
 
-from driving_model import commands  # noqa: E402
-from driving_model.rules import SOUND  # noqa: E402
-from driving_model.schedule import PROFILES, Schedule  # noqa: E402
-from smpland_model.controller import NamedController  # noqa: E402
-from smpland_model.session import Session  # noqa: E402
-
-from count_replies import COMMANDS, ELSEWHERE, documented, kind_of  # noqa: E402
-from random_client import Client  # noqa: E402
-from test_program import comparable  # noqa: E402
-from test_schedules import Divergence, Pair  # noqa: E402
+from count_replies import COMMANDS, ELSEWHERE, documented, kind_of
+from random_client import Client
+from test_program import comparable
+from test_schedules import Divergence, Pair
 
 Json = dict[str, Any]
 EVENTS, LINES = 160, 100

@@ -47,7 +47,3 @@ class CommandLine(unittest.TestCase):
         self.assertEqual(cut(b"1234\n12345\n1\n"), [b"1234", None, b"1"])
         self.assertEqual(cut(b"12345678901234\n1\n12345"), [None, b"1", None])
         self.assertEqual(cut(b"\n\n1234"), [b"", b"", b"1234"])
-
-
-if __name__ == "__main__":
-    unittest.main()

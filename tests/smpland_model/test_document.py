@@ -64,7 +64,3 @@ class Document(unittest.TestCase):
             known |= {it["server"] for it in brought if it["server"] is not None}
             named = {it["server"] for it in reply.get("orders", []) if it["server"] is not None}
             self.assertEqual(named - known, set())
-
-
-if __name__ == "__main__":
-    unittest.main()

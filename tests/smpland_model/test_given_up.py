@@ -72,7 +72,3 @@ class GivenUp(unittest.TestCase):
             held = [it for it in settle["slots"] if it["cell"] != "absent"]
             left += in_handovers(by_settle(told, settle | {"slots": held}))
         self.assertGreater(len(left), 2)
-
-
-if __name__ == "__main__":
-    unittest.main()

@@ -39,7 +39,3 @@ class OddLines(unittest.TestCase):
                 met[told["bad"]["kind"]].add(re.sub(r"\d+", "", told["bad"]["at"]))
         for kind, places in PLACES.items():
             self.assertEqual(set(places.split()) - met[kind], set(), kind)
-
-
-if __name__ == "__main__":
-    unittest.main()

@@ -106,7 +106,3 @@ class WithoutProgram(unittest.TestCase):
         session = Session("/nowhere/smplan")
         reply(session, do="open", document=service(), journal="1", epoch=0)
         self.assertEqual(reply(session, do="drain", server="v0")["refused"]["kind"], "NoProgram")
-
-
-if __name__ == "__main__":
-    unittest.main()

@@ -132,7 +132,3 @@ class Comparison(unittest.TestCase):
         one = {"hello": {"program": "smpland", "place": 1}}
         self.assertEqual(comparable(one), comparable({"hello": {"program": "smpland", "version": "1", "place": 1}}))
         self.assertNotEqual(comparable(one), comparable({"hello": {"program": "smpland", "place": 2}}))
-
-
-if __name__ == "__main__":
-    unittest.main()

@@ -36,7 +36,3 @@ class Replies(unittest.TestCase):
                 has_changed = not {"bad", "refused", "ignored", "again"} & set(reply)
                 self.assertTrue(after == place or (has_changed and after == place + 1), f"{line!r} -> {reply}")
                 place = after
-
-
-if __name__ == "__main__":
-    unittest.main()

@@ -87,7 +87,3 @@ class Refusals(unittest.TestCase):
         where = {"server": "c", "plan": 0, "stream": 1}
         told = {"kind": "Engaged"} | where | {"text": "refused: Engaged server c plan 0 stream 1"}
         self.assertEqual(words.own("Engaged", **where), told)
-
-
-if __name__ == "__main__":
-    unittest.main()

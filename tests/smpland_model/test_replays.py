@@ -16,7 +16,7 @@ SPOILT = 4_000
 QUESTIONS = [b'{"do":"state"}', b'{"do":"orders"}', b'{"do":"hello"}', b'{"do":"since","place":0}']
 WORDS = {
     "opened", "begun", "moved", "approved", "ended", "up", "restore", "fence", "waiting", "proposal", "settle",
-    "ignored", "refused", "bad", "hello", "orders", "map", "state", "since", "audit", "failed", "plan", "accepted",
+    "ignored", "refused", "bad", "hello", "orders", "map", "document", "state", "since", "audit", "failed", "plan", "accepted",
 }
 
 
@@ -88,7 +88,3 @@ class Replays(unittest.TestCase):
         if word in ("bad", "refused", "ignored") or "again" in reply:
             self.assertEqual(place_of(session), before, f"{line!r} -> {reply}")
         return 1
-
-
-if __name__ == "__main__":
-    unittest.main()

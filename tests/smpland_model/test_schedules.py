@@ -10,6 +10,7 @@ from driving_model import commands
 from driving_model.controller import Controller
 from driving_model.rules import SOUND
 from driving_model.schedule import PROFILES, Schedule
+from smpland_model.messages import owner_of
 from smpland_model.session import Session
 
 from plain_commands import (
@@ -47,10 +48,15 @@ class Pair:
             # (there versions go on)
             self.model.record.versions = versions
         line = command_json(command)
+        if isinstance(command, commands.Confirm) and (reopening := self.session.controller.reopening):
+            line["lost"] = [shard_name(it) for it in reopening.propose().lost]
         if isinstance(command, commands.Restarted):
             line["permit"] = self.permits.get(command.permit, command.permit)
         told = self.session.reply(json.dumps(line).encode())
         expected, found = reply_form(outcome.reply), line_form(told)
+        if "approved" in expected:
+            expected["approved"]["unserved"] = self.unserved(outcome.reply.server)
+            found.get("approved", {}).get("unserved", []).sort()
         self.coverage[" ".join(map(str, [next(iter(found)), found.get("refused", "")]))] += 1
         if found.get("refused") in STRICTER and "settle" in expected:
             raise Divergence
@@ -66,6 +72,11 @@ class Pair:
         self.note_permits(outcome.reply, told)
         orders = self.session.reply(b'{"do":"orders"}')["orders"]
         case.assertEqual([without(it, "primary", "replicas") for it in orders], present(self.model))
+
+    def unserved(self, server: int) -> list[str]:
+        """Returns the shards that nobody serves while a server is down: it has their data."""
+        record = self.model.record
+        return sorted(shard_name(it) for it in range(len(record.cells)) if owner_of(record.lead(it)) == server)
 
     def leave_open(self, expected: dict, found: dict) -> None:
         """Takes shards for which both propose no primary out of those that are lost: the model names them, though a
@@ -118,7 +129,3 @@ class Schedules(unittest.TestCase):
                 pair.do(self, command)
         except Divergence:
             coverage["apart"] += 1
-
-
-if __name__ == "__main__":
-    unittest.main()

@@ -41,6 +41,16 @@ class Sessions(unittest.TestCase):
             if isinstance(replier, Program):
                 self.assertEqual(replier.end(), 0)
 
+    def test_blanks_around_a_line_are_taken(self) -> None:
+        """Also the CR of a line that ends in CR and LF. Nothing else may stand there."""
+        replier = subject(PROGRAM or None)
+        for line in (b'{"do":"hello"}\r', b'\r\t {"do":"hello"}\x0c', b'{"do":\r"hello"}'):
+            self.assertIn("hello", replier.reply(line), line)
+        for line in (b"\r", b"\x0b{}", b'{"do":\x0c"hello"}', b'{"do":"hello"}\xc2\xa0'):
+            self.assertEqual(replier.reply(line)["bad"]["kind"], "NotJson", line)
+        if isinstance(replier, Program):
+            self.assertEqual(replier.end(), 0)
+
     def test_a_reply_that_is_not_due_is_told(self) -> None:
         """The comparison can fail: another text, another path, another member."""
         bad = {"bad": {"kind": "Shape", "at": "$.x", "text": "bad input: 3 Shape x"}}
@@ -54,7 +64,3 @@ class Sessions(unittest.TestCase):
         words = {re.search(r"(?:: |denied )(?:\d+ )?([A-Za-z]+)", it)[1] for it in texts(FILES)}
         self.assertEqual(documented() - ELSEWHERE - words, set())
         self.assertEqual(words - documented(), BAD)
-
-
-if __name__ == "__main__":
-    unittest.main()

@@ -5,7 +5,7 @@ from collections.abc import Callable
 from typing import Any
 
 from driving_model import replies
-from driving_model.cells import Verb
+from driving_model.cells import SECONDARY, Verb
 from driving_model.controller import Answer
 from driving_model.messages import MAP, Order
 from driving_model.record import PlanState, Record, StreamState
@@ -30,8 +30,8 @@ class Asking:
         self.audits = Audit(controller, writer, history)
         self.planner = Planner(controller, program)
         self.answers: dict[str, Callable[[Json], Json]] = {
-            "hello": self.hello, "orders": self.orders, "map": self.map, "state": self.state, "moves": self.moves,
-            "drain": self.drain, "check": self.check, "since": self.since, "audit": self.audit,
+            "hello": self.hello, "orders": self.orders, "map": self.map, "document": self.document,
+            "state": self.state, "moves": self.moves, "drain": self.drain, "check": self.check, "since": self.since, "audit": self.audit,
             "failed": self.failed,
         }
 
@@ -79,6 +79,33 @@ class Asking:
             }
             for it in self.shards()
         ]}
+
+    def document(self, _command: Json) -> Json:
+        """Tells the service as a document."""
+        record = self.record
+        servers = [self.documented_server(it) for it in self.servers()]
+        shards = [self.documented_shard(it) for it in self.shards()]
+        limit, log = record.limit, record.document.log
+        return {"document": {"limit": limit, "log": log, "servers": servers, "shards": shards}}
+
+    def documented_server(self, number: int) -> Json:
+        """Tells a server as a document has it."""
+        row = self.controller.document.servers[self.writer.server(number)]
+        return {"name": row.name, "region": row.region, "room": row.room, "down": number in self.record.permits}
+
+    def documented_shard(self, number: int) -> Json:
+        """Tells a shard as a document has it. In a handover one server has it, and the map's entry counts if it names that."""
+        row, owner = self.controller.document.shards[self.writer.shard(number)], self.writer.owner(number)
+        roles = {it: self.controller.cell(number, it) for it in self.servers()}
+        cells = [
+            {"server": self.writer.server(it), "state": "primary" if it == owner else "secondary"}
+            for it, cell in roles.items() if it == owner or cell == SECONDARY
+        ]
+        listed = self.record.listed[number]
+        return {
+            "name": row.name, "load": row.load, "want": row.want, "cap": row.want - self.record.floors[number],
+            "spread": row.spread, "listed": self.writer.server(listed) if listed == owner else None, "cells": cells,
+        }
 
     def shards(self) -> list[int]:
         """Returns the numbers of the recorded shards, in the order of the document in force."""
@@ -211,6 +238,8 @@ class Asking:
     def since(self, command: Json) -> Json:
         """Tells what was ordered, published and ended after a place."""
         record, place, history = self.record, command["place"], self.history
+        if place > history.place:
+            return {"since": {"place": history.place, "is": "later"}}
         orders = [it for it in self.controller.orders() if history.ordered[it.plan, it.stream] > place]
         shards = [it for it in self.map({})["map"] if history.published.get(it["shard"], 0) > place]
         ended = [it for it, at in sorted(history.ended.items()) if at > place and it < len(record.plans)]

@@ -114,6 +114,11 @@ class NamedController(Controller):
         if self.journal is not None:
             raise refuse("AlreadyOpened")
 
+    def need_journal(self) -> None:
+        """Refuses what is told of a journal before there is one."""
+        if self.record is None and self.reopening is None:
+            raise refuse("NotOpened")
+
     def check_journal(self, journal: int | None, epoch: int | None) -> None:
         """Refuses a reopening in a journal that does not fit."""
         nothing = commands.Document(frozenset(), (), (), (), (), 0, ())
@@ -289,12 +294,18 @@ class NamedController(Controller):
         """Returns whether a reopening with this base waits to be confirmed, or will."""
         return self.reopening is not None and not self.reopening.settles and base == self.reopening.base
 
-    def confirm_cells(self, base: int, chosen: dict[int, tuple[Cell, ...]]) -> Outcome:
-        """Accepts the proposal, with these cells of some shards in place of the proposed ones."""
+    def confirm_cells(self, base: int, chosen: dict[int, tuple[Cell, ...]], named: list[str]) -> Outcome:
+        """Accepts the proposal, with these cells of some shards in place of the proposed ones. Those that it names as lost
+        are named."""
         reopening = self.reopening
         waits_for = reopening.waits_for()
         if waits_for:
             raise Refusal(missing(self.server_name(waits_for[0])))
+        lost = [self.numbering.shards[it] for it in reopening.propose().lost]
+        unnamed = [it for it in lost if it not in named] + [it for it in named if it not in lost]
+        if unnamed:
+            is_known = unnamed[0] in self.numbering.shard_numbers
+            raise Refusal(words.own("Unnamed", **({"shard": unnamed[0]} if is_known else {})))
         proposed = reopening.propose().cells
         cells = tuple(chosen.get(shard, row) for shard, row in enumerate(proposed))
         fault = reopening.fault(cells)

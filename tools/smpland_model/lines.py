@@ -9,7 +9,7 @@ from typing import Any
 from driving_model.messages import LAST_EPOCH
 from smplan import reading
 from smplan.faults import Fault, FaultKind, answered
-from smplan.limits import MOST_BYTES, MOST_LOAD, MOST_MOVES, MOST_NUMBER, MOST_SERVERS
+from smplan.limits import MOST_BYTES, MOST_LOAD, MOST_MOVES, MOST_NUMBER, MOST_SERVERS, MOST_SHARDS
 from smplan.reading import Names, Reader, Row, entries, flag, keyed, kind_of, list_of, maybe, name, object_here, one
 from smplan.reading import own_faults, shape, up_to, word
 
@@ -20,6 +20,8 @@ MOST_EXACT = 2**53 - 1
 MOST_WHY = 4_096
 LABEL = re.compile(r"[A-Za-z0-9._-]{1,64}")
 HEX = re.compile(r"(?=.*[1-9a-f])[0-9a-f]{1,16}")
+# The blanks that may stand around a line.
+BLANKS = b" \t\r\x0c"
 CELLS = ("absent", "prepared", "secondary", "primary", "forwarding")
 ANSWERS = ("old", "refused", "foreign", "not_ready")
 
@@ -97,11 +99,13 @@ def or_null(test: reading.Test) -> reading.Test:
     return either
 
 
-def names_of_servers(value: Any, place: str, member: str) -> Iterator[Fault]:
-    """Tests for a list of names, known or not."""
-    yield from list_of(MOST_SERVERS)(value, place, member)
-    for at, entry in enumerate(value if isinstance(value, list) else []):
-        yield from name(entry, f"{place}[{at}]", member)
+def names_of(most: int) -> reading.Test:
+    """Returns a test for a list of names, known or not."""
+    def names(value: Any, place: str, member: str) -> Iterator[Fault]:
+        yield from list_of(most)(value, place, member)
+        for at, entry in enumerate(value if isinstance(value, list) else []):
+            yield from name(entry, f"{place}[{at}]", member)
+    return names
 
 
 # Objects.
@@ -161,6 +165,14 @@ def inventory_faults(value: Json) -> Iterator[Fault]:
         yield shape("unknown", "$.unknown", "'unknown' stands beside 'slots'")
 
 
+def state_faults(value: Json, known: Known) -> Iterator[Fault]:
+    """Yields what is wrong with a question for the state that names a shard and a plan."""
+    if "shard" in value and "plan" in value:
+        either = [*known.names.shard(value["shard"], "$.shard", "shard"), *SMALL(value["plan"], "$.plan", "plan")]
+        if not either:
+            yield shape("plan", "$.plan", "'plan' stands beside 'shard'")
+
+
 def tables(names: Names) -> dict[str, list[Row]]:
     """Returns the members of each command."""
     party, server, base = one("server", or_null(name)), one("server", names.server), one("base", EXACT)
@@ -175,15 +187,16 @@ def tables(names: Names) -> dict[str, list[Row]]:
         "restore": [server, one("nonce", random_bits)],
         "new_epoch": [],
         "reopen": [
-            one("document", object_here), maybe("lost", names_of_servers), maybe("why", reason),
+            one("document", object_here), maybe("lost", names_of(MOST_SERVERS)), maybe("why", reason),
             maybe("journal", random_bits), maybe("epoch", epoch_of_fences),
         ],
         "fenced": [party, base, maybe("slots", slots), maybe("unknown", random_bits)],
-        "confirm": [base, maybe("cells", keyed("shard"))],
+        "confirm": [base, maybe("cells", keyed("shard")), maybe("lost", names_of(MOST_SHARDS))],
         "settled": [party, base],
         "hello": [],
         "orders": [],
         "map": [],
+        "document": [],
         "state": [maybe("shard", names.shard), maybe("plan", SMALL)],
         "moves": [one("moves", list_of(MOST_MOVES))],
         "drain": [server],
@@ -232,6 +245,8 @@ def line_faults(value: Any, known: Known) -> Iterator[Fault]:
     yield from by_name(reading.worded_faults("command", "do", known.tables, value, "$"), "$")
     if value.get("do") == "fenced":
         yield from inventory_faults(value)
+    if value.get("do") == "state":
+        yield from state_faults(value, known)
 
 
 def identity_of(value: Any) -> Any:
@@ -247,15 +262,15 @@ def refuse_bad(faults: Iterable[Fault], identity: Any) -> None:
         raise BadLine(fault, fault.place, identity)
 
 
-def is_bare(line: bytes) -> bool:
-    """Returns whether nothing stands round the text of a line."""
-    return line == line.strip(b" \t\r\n")
+def bare(line: bytes) -> bytes:
+    """Returns a line without the blanks around it. One that is too long stays so."""
+    return line.strip(BLANKS) if len(line) <= MOST_BYTES else line
 
 
 def read(line: bytes, known: Known) -> Json:
     """Returns the command of a line, whose inner objects were not looked at. Raises `BadLine` if it is none."""
-    text = reading.read_text(line)
-    if text.fault or (isinstance(text.value, dict) and not is_bare(line)):
+    text = reading.read_text(bare(line))
+    if text.fault:
         kind = FaultKind.TOO_LONG if len(line) > MOST_BYTES else FaultKind.NOT_JSON
         raise BadLine(Fault(kind, None, "$", "the line is no JSON object"), "$", None)
     refuse_bad(line_faults(text.value, known), identity_of(text.value))

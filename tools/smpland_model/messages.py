@@ -37,6 +37,10 @@ class Writer:
         """Returns the name of a shard."""
         return self.controller.shard_name(number)
 
+    def owner(self, shard: int) -> int | None:
+        """Returns the server that has a shard's data."""
+        return owner_of(lead_of(self.controller.record.cells[shard]))
+
     # Orders.
 
     def order(self, order: Order | Publication) -> Json:

@@ -136,7 +136,7 @@ class NamedReopening(Reopening):
         for shard in self.shards:
             heir = self.heir_of(shard)
             cells[shard] = tuple(self.proposed(shard, it, heir) for it in self.servers)
-        lost = tuple(it for it in self.shards if self.is_bare(None, it, None))
+        lost = tuple(it for it in self.shards if self.is_named_lost(it))
         return Proposal(self.base, tuple(cells), lost, self.short_floors(cells), tuple(self.missing))
 
     def is_bare(self, survey: object, shard: int, heir: int | None) -> bool:
@@ -145,6 +145,32 @@ class NamedReopening(Reopening):
         cells = [(self.recorded(shard, it), self.document.cells[shard][it]) for it in self.servers]
         has_been = any(it != (ABSENT, ABSENT) for it in cells)
         return max(standings, default=0) < 2 and (has_been or max(standings, default=0) > 0)
+
+    # What may be lost: a primary may have acknowledged writes alone.
+
+    def may_have_served(self, shard: int, server: int) -> bool:
+        """Returns whether a server may have served a shard, as it is recorded: it has a part in the shard's lead, or is
+        a secondary of a shard without a lead, whose primary it may have become since."""
+        cell = self.recorded(shard, server)
+        if cell == SECONDARY:
+            return all(self.recorded(shard, it) in (ABSENT, SECONDARY) for it in self.servers)
+        return cell != ABSENT
+
+    def has_gone(self, shard: int, server: int) -> bool:
+        """Returns whether a server that may have served a shard is lost or Unknown, or tells nothing of it. Any shard may
+        have been served by one to which a replaced reopening sent a settle, and by each if nothing is recorded."""
+        if self.may_have_served(shard, server) and self.standing(shard, server)[0] == 0:
+            return True
+        has_no_slots = server in self.lost or isinstance(self.inventories.get(server), Unknown)
+        return has_no_slots and (server in self.already_settled or self.record is None)
+
+    def is_named_lost(self, shard: int) -> bool:
+        """Returns whether the proposal names a shard as lost: no server is left that has all of it; or it has no primary,
+        and one that may have served it is gone."""
+        if self.is_bare(None, shard, None):
+            return True
+        claims = [self.standing(shard, it)[0] for it in self.servers]
+        return max(claims, default=0) in (2, 3) and any(self.has_gone(shard, it) for it in self.servers)
 
     # What may be settled.
 

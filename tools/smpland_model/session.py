@@ -84,7 +84,7 @@ class Session:
             replies.Moved: lambda it: {
                 "moved": {"plan": it.plan, "stream": it.stream, "at": it.at}, **self.following(outcome),
             },
-            replies.Approved: lambda it: {"approved": {"server": self.writer.server(it.server), "permit": it.permit}},
+            replies.Approved: lambda it: {"approved": self.approved(it)},
             replies.PermitEnded: lambda it: {"ended": {"server": self.writer.server(it.server), "permit": it.permit}},
             replies.Up: lambda it: {"up": self.writer.server(it.server)},
             replies.Restoring: lambda it: {"restore": self.restored(it, outcome.has_changed)},
@@ -110,6 +110,11 @@ class Session:
         """Returns what is told of a plan that has begun."""
         told: Json = {"plan": begun.plan, "calls": begun.calls, "streams": begun.streams, "epoch": begun.epoch}
         return {"begun": told, **({"again": True} if begun.is_again else {}), **self.following(outcome)}
+
+    def approved(self, approved: replies.Approved) -> Json:
+        """Returns what is told of a restart that is approved: its permit, and the shards that nobody serves meanwhile."""
+        unserved = [self.writer.shard(it) for it in self.asking.shards() if self.writer.owner(it) == approved.server]
+        return {"server": self.writer.server(approved.server), "permit": approved.permit, "unserved": unserved}
 
     def restored(self, restoring: replies.Restoring, is_new: bool) -> Json:
         """Returns a restore as it was told first."""
@@ -163,6 +168,7 @@ class Session:
 
     def restarted(self, command: Json) -> Outcome:
         """Takes the end of a restart."""
+        self.controller.need_journal()
         return self.controller.restarted(commands.Restarted(command["permit"], command["base"]))
 
     def restore(self, command: Json) -> Outcome:
@@ -188,6 +194,7 @@ class Session:
     def fenced(self, command: Json) -> Outcome:
         """Takes what a server has."""
         controller = self.controller
+        controller.need_journal()
         server = controller.numbering.server(command["server"])
         if not controller.awaits(server, command["base"]):
             return Outcome(replies.Ignored("old"), has_changed=False)
@@ -212,10 +219,11 @@ class Session:
 
     def confirm(self, command: Json) -> Outcome:
         """Confirms what is settled."""
+        self.controller.need_journal()
         if not self.controller.may_confirm(command["base"]):
             return Outcome(replies.Ignored("old"), has_changed=False)
         self.read_inside(command)
-        return self.controller.confirm_cells(command["base"], self.chosen(command.get("cells", [])))
+        return self.controller.confirm_cells(command["base"], self.chosen(command.get("cells", [])), command.get("lost", []))
 
     def chosen(self, shards: list[Json]) -> dict[int, tuple[Cell, ...]]:
         """Returns cells that are to be settled in place of the proposed ones."""
@@ -230,6 +238,7 @@ class Session:
 
     def settled(self, command: Json) -> Outcome:
         """Takes the answer to a settle."""
+        self.controller.need_journal()
         server = self.controller.numbering.server(command["server"])
         return self.controller.settled(commands.Settled(server, command["base"]))
 

@@ -14,7 +14,7 @@ use Rattle.journal_session.specs.declared.pending.Pending.{Pending}
 use Rattle.journal_session.specs.declared.turn.Turn.{Turn}
 use Rattle.journal_session.specs.Pieces.{Splits, lines_of}
 use Rattle.journal_session.specs.Trace.{Exchange, lines_in, changes_in, replies_in}
-use Rattle.journal_session.specs.Turn.{kept_line, lines_taken, Took, TookText}
+use Rattle.journal_session.specs.Turn.{lines_taken, taken_line, Took, TookText}
 use Rattle.journal_session.specs.Session.{GrowsWithin, AreSafe, IsBetween, HasChanges}
 use Rattle.journal_session.proofs.Lines.{splits_begin, splits_join, lines_read}
 use Rattle.journal_session.proofs.Turns.{lines_in-append, replies_in-append, leads_on}
@@ -23,13 +23,13 @@ use Rattle.journal_session.proofs.Sessions.{safe_turn, kept_goes}
 
 -- lines that were read, with those of what comes behind
 pub all_so_far : (text left : List ℕ) (lines : List (List ℕ)) (open_line : List ℕ) → Splits text lines open_line
-    → lines_taken (text ++ left) ≡ map kept_line lines ++ lines_taken (open_line ++ left)
-all_so_far text left lines open_line splits = ap (map kept_line) (lines_read text left lines open_line splits) ∙ map-append kept_line lines (lines_of (open_line ++ left))
+    → lines_taken (text ++ left) ≡ map taken_line lines ++ lines_taken (open_line ++ left)
+all_so_far text left lines open_line splits = ap (map taken_line) (lines_read text left lines open_line splits) ∙ map-append taken_line lines (lines_of (open_line ++ left))
 
 -- at the end
-pub all_at_end : (text : List ℕ) (lines : List (List ℕ)) (open_line : List ℕ) → Splits text lines open_line → lines_taken text ≡ map kept_line lines ++ lines_taken open_line
+pub all_at_end : (text : List ℕ) (lines : List (List ℕ)) (open_line : List ℕ) → Splits text lines open_line → lines_taken text ≡ map taken_line lines ++ lines_taken open_line
 all_at_end text lines open_line splits =
-    ap lines_taken (sym (append-nil text)) ∙ all_so_far text [] lines open_line splits ∙ ap (λ (l : List ℕ). map kept_line lines ++ lines_taken l) (append-nil open_line)
+    ap lines_taken (sym (append-nil text)) ∙ all_so_far text [] lines open_line splits ∙ ap (λ (l : List ℕ). map taken_line lines ++ lines_taken l) (append-nil open_line)
 
 -- the lines of exchanges, with more
 pub lines_both : (a b : List Exchange) (lines more : List (List ℕ)) → lines_in a ≡ lines → lines_in b ≡ more → lines_in (a ++ b) ≡ lines ++ more
@@ -80,7 +80,7 @@ module _ {A : Type 0} (takes : A → Exchange → A → Type 0) where
   between_goes text piece lines more open_line next trace behind first state state' before mid after pending pending' old new last now took whole changed replies = record {
     splits = splits_join text piece lines more open_line next now.splits took.splits;
     held = took.held;
-    are = lines_both trace behind (map kept_line lines) (map kept_line more) now.are took.are ∙ sym (map-append kept_line lines more);
+    are = lines_both trace behind (map taken_line lines) (map taken_line more) now.are took.are ∙ sym (map-append taken_line lines more);
     leads = leads_on takes first state state' trace behind now.leads took.leads;
     told = turn_told_whole trace behind old new before mid after took.took now.replies now.told whole;
     changed = changed;

@@ -7,7 +7,7 @@ use Rattle.journal.specs.declared.journal.Journal.{Journal}
 use Rattle.journal_session.specs.declared.pending.Pending.{Pending}
 use Rattle.journal_session.specs.declared.turn.Turn.{Turn}
 use Rattle.journal_session.specs.Trace.{Exchange, lines_in, replies_in, LeadsThrough}
-use Rattle.journal_session.specs.Turn.{kept_line, lines_taken, Took, TookText}
+use Rattle.journal_session.specs.Turn.{lines_taken, taken_line, Took, TookText}
 use Rattle.journal_session.specs.Session.{GrowsWithin, HasServed, IsServed, AreSafe, IsBetween, HasChanges}
 use Rattle.journal_session.proofs.Lines.{splits_join}
 use Rattle.journal_session.proofs.Turns.{leads_on}
@@ -59,7 +59,7 @@ module _ {A : Type 0} (takes : A → Exchange → A → Type 0) (text : List ℕ
           leads = leads_on takes first state state' trace behind now.leads lines'.leads;
           others = lines_taken (next ++ left.0);
           are = all_so_far (text ++ piece) left.0 (lines ++ more) next (splits_join text piece lines more open_line next now.splits lines'.splits)
-              ∙ ap (λ (l : List (List ℕ)). l ++ lines_taken (next ++ left.0)) (map-append kept_line lines more ∙ sym (lines_both trace behind (map kept_line lines) (map kept_line more) now.are lines'.are));
+              ∙ ap (λ (l : List (List ℕ)). l ++ lines_taken (next ++ left.0)) (map-append taken_line lines more ∙ sym (lines_both trace behind (map taken_line lines) (map taken_line more) now.are lines'.are));
           told = turn_told trace behind turn took before mid after lines'.took now.replies now.told part;
         },
       )
@@ -68,7 +68,7 @@ module _ {A : Type 0} (takes : A → Exchange → A → Type 0) (text : List ℕ
   module _ (behind : List Exchange) (state' : A) (after : Option (List ℕ)) (took : Turn) (are : lines_in behind ≡ lines_taken open_line) (leads : LeadsThrough takes state behind state')
       (lines' : Took behind turn took) where
     all_lines : lines_taken text ≡ lines_in (trace ++ behind)
-    all_lines = all_at_end text lines open_line now.splits ∙ sym (lines_both trace behind (map kept_line lines) (lines_taken open_line) now.are are)
+    all_lines = all_at_end text lines open_line now.splits ∙ sym (lines_both trace behind (map taken_line lines) (lines_taken open_line) now.are are)
 
     -- what was written is of the replies to all the exchanges
     pub end_served : GrowsWithin mid after took.replies.items → HasServed takes text before after first state' (trace ++ behind)

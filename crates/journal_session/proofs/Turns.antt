@@ -10,7 +10,7 @@ use Rattle.journal_session.specs.declared.pending.Pending.{Pending}
 use Rattle.journal_session.specs.declared.turn.Turn.{Turn}
 use Rattle.journal_session.specs.Pieces.{IsOneLine, EndsLine}
 use Rattle.journal_session.specs.Trace.{Exchange, exchange, lines_in, changed_first, changes_in, replies_in, LeadsThrough, ReplaysCommands, IsDetermined}
-use Rattle.journal_session.specs.Turn.{kept_line, Took, TookText}
+use Rattle.journal_session.specs.Turn.{bare_line, kept_line, taken_line, Took, TookText}
 use Rattle.journal_session.proofs.Lines.{splits_begin, splits_line, splits_open}
 
 first_append : (effect : Applied) (line : List ℕ) (xs ys : List (List ℕ)) → changed_first effect line (xs ++ ys) ≡ changed_first effect line xs ++ ys
@@ -153,13 +153,13 @@ module _ {A : Type 0} (takes : A → Exchange → A → Type 0) where
   -- a line that a piece ends
   pub text_line : (text rest part line : List ℕ) (used : ℕ) (lines : List (List ℕ)) (open_line : List ℕ) (trace : List Exchange) (pending next : Pending) (first state state' : A) (old mid new : Turn)
       → TookText takes text lines open_line trace pending first state old mid → EndsLine rest part used
-      → line ≡ kept_line (open_line ++ part) → (one : Exchange) → one.line ≡ line → takes state one state' → Took (one ∷ []) mid new → next.text.items ≡ []
+      → line ≡ kept_line (open_line ++ part) → (one : Exchange) → one.line ≡ bare_line line → takes state one state' → Took (one ∷ []) mid new → next.text.items ≡ []
       → TookText takes (text ++ part ++ 10 ∷ []) (lines ++ (open_line ++ part) ∷ []) [] (trace ++ one ∷ []) next first state' old new
   text_line text rest part line used lines open_line trace pending next first state state' old mid new so_far ends is one its step takes_one none = record {
     splits = splits_line text lines open_line part so_far.splits ends.one_line;
     held = none ∙ sym (take_all 67108865 [] (omega arith));
-    are = lines_in-append trace (one ∷ []) ∙ ap (λ (l : List (List ℕ)). l ++ one.line ∷ []) so_far.are ∙ ap (λ (l : List ℕ). map kept_line lines ++ l ∷ []) (its ∙ is)
-        ∙ sym (map-append kept_line lines ((open_line ++ part) ∷ []));
+    are = lines_in-append trace (one ∷ []) ∙ ap (λ (l : List (List ℕ)). l ++ one.line ∷ []) so_far.are ∙ ap (λ (l : List ℕ). map taken_line lines ++ l ∷ []) (its ∙ ap bare_line is)
+        ∙ sym (map-append taken_line lines ((open_line ++ part) ∷ []));
     leads = leads_on takes first state state' trace (one ∷ []) so_far.leads (leads_one takes state state' one step);
     took = took_more trace (one ∷ []) old mid new so_far.took takes_one;
   }

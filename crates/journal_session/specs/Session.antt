@@ -10,7 +10,7 @@ use Rattle.journal_session.specs.declared.pending.Pending.{Pending}
 use Rattle.journal_session.specs.declared.turn.Turn.{Turn}
 use Rattle.journal_session.specs.Pieces.{Splits}
 use Rattle.journal_session.specs.Trace.{Exchange, lines_in, changes_in, replies_in, LeadsThrough}
-use Rattle.journal_session.specs.Turn.{kept_line, lines_taken}
+use Rattle.journal_session.specs.Turn.{kept_line, lines_taken, taken_line}
 
 -- the commands of these batches, in their order
 abbrev pub commands_of : List (List (List ℕ)) → List (List ℕ)
@@ -60,7 +60,7 @@ pub record IsBetween {A : Type 0} (takes : A → Exchange → A → Type 0) (tex
     (first state : A) (before after : Option (List ℕ)) (pending : Pending) (turn : Turn) : Type 0 where
   pub splits : Splits text lines open_line
   pub held : pending.text.items ≡ kept_line open_line
-  pub are : lines_in trace ≡ map kept_line lines
+  pub are : lines_in trace ≡ map taken_line lines
   pub leads : LeadsThrough takes first trace state
   pub told : Appends before after (replies_in trace)
   pub changed : turn.changed.items ≡ []

@@ -1,6 +1,8 @@
 -- The lines of a turn of a session. `Took` and `TookText` are internal: you need not read them for the public
 -- contracts.
-use Rattle.std.specs.Prelude.{◌≡◌, ℕ, List, ◌++◌, All, map, take}
+use Rattle.std.specs.Prelude.{◌≡◌, ℕ, ◌-◌, List, ◌++◌, All, drop, if◌then◌else◌, length, map, nat_lt, take}
+use Rattle.std.specs.Char.{is_ascii_whitespace}
+use Rattle.std.specs.List.{prefix_len, suffix_len}
 use Rattle.journal_lines.specs.Objects.{IsObject, behind_commas}
 use Rattle.journal_session.specs.declared.pending.Pending.{Pending}
 use Rattle.journal_session.specs.declared.turn.Turn.{Turn}
@@ -11,9 +13,29 @@ use Rattle.journal_session.specs.Trace.{Exchange, lines_in, changes_in, replies_
 abbrev pub kept_line : List ℕ → List ℕ
 kept_line line = take 67108865 line
 
--- the lines of a text, each as far as it is kept
+-- a text without the blanks at its front
+abbrev pub without_front : List ℕ → List ℕ
+without_front text = drop (prefix_len is_ascii_whitespace text) text
+
+-- a text without the blanks at its end
+abbrev pub without_end : List ℕ → List ℕ
+without_end text = take (length text - suffix_len is_ascii_whitespace text) text
+
+-- a text without the blanks around it
+abbrev pub bare : List ℕ → List ℕ
+bare text = without_end (without_front text)
+
+-- what is applied of a line that is kept: it without the blanks around it, and all of one that is too long
+abbrev pub bare_line : List ℕ → List ℕ
+bare_line line = if nat_lt (length line) 67108865 then bare line else line
+
+-- the line as it is applied
+abbrev pub taken_line : List ℕ → List ℕ
+taken_line line = bare_line (kept_line line)
+
+-- the lines of a text, each as it is applied
 abbrev pub lines_taken : List ℕ → List (List ℕ)
-lines_taken text = map kept_line (lines_of text)
+lines_taken text = map taken_line (lines_of text)
 
 -- Lines were applied: behind what the turn had, it has their replies, and those of them that changed something.
 pub record Took (trace : List Exchange) (old new : Turn) : Type 0 where
@@ -26,6 +48,6 @@ pub record TookText {A : Type 0} (takes : A → Exchange → A → Type 0) (text
     (pending : Pending) (first state : A) (old new : Turn) : Type 0 where
   pub splits : Splits text lines open_line
   pub held : pending.text.items ≡ kept_line open_line
-  pub are : lines_in trace ≡ map kept_line lines
+  pub are : lines_in trace ≡ map taken_line lines
   pub leads : LeadsThrough takes first trace state
   pub took : Took trace old new

@@ -2,7 +2,7 @@
 ghost use Rattle.std.specs.Prelude.{◌≡◌, ℕ, List, [], ◌∷◌, ◌++◌, OnOk};
 ghost use Rattle.journal_session.specs.Pieces.{IsOneLine};
 ghost use Rattle.journal_session.specs.Trace.{Exchange, lines_in, LeadsThrough};
-ghost use Rattle.journal_session.specs.Turn.{kept_line, lines_taken, Took, TookText};
+ghost use Rattle.journal_session.specs.Turn.{bare, bare_line, kept_line, lines_taken, Took, TookText};
 
 use crate::applies::{Applied, Applies};
 use crate::pending::Pending;
@@ -10,6 +10,24 @@ use std::alloc::{AllocError, Global};
 
 /// The most bytes that are kept of a line: 64 MiB, and one more that shows that a line is longer.
 pub const LONGEST: usize = 67_108_865;
+
+/// A text without the blanks around it.
+fn bare(text: &[u8]) -> &[u8]
+    ensures { result.now ≡ bare text.now }
+{
+    text.trim_ascii()
+}
+
+/// A line without the blanks around it. One that is too long stays so.
+fn bare_line(line: &[u8]) -> &[u8]
+    ensures { result.now ≡ bare_line line.now }
+{
+    if line.len() < LONGEST {
+        bare(line)
+    } else {
+        line
+    }
+}
 
 /// The commands of one read that changed something, each behind a comma, and the replies to all of its lines.
 #[derive(Drop)]
@@ -39,15 +57,16 @@ impl Turn {
         self.replies.clear();
     }
 
-    /// Applies a line.
+    /// Applies a line, without the blanks around it.
     fn take_line<A: Applies>(
         &mut self,
         alloc: Global,
         state: &mut A,
         line: &[u8],
     ) -> Result<(), AllocError>
-        ensures { OnOk result ((one : Exchange) × (one.line ≡ line.now) × A.takes state.old one state.new × Took (one ∷ []) self.old self.new) }
+        ensures { OnOk result ((one : Exchange) × (one.line ≡ bare_line line.now) × A.takes state.old one state.new × Took (one ∷ []) self.old self.new) }
     {
+        let line = bare_line(line);
         let applied = state.apply(alloc, line, &mut self.replies)?;
         self.replies.push(b'\n')?;
         match applied {

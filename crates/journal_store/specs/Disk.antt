@@ -18,7 +18,7 @@ IsBrought from text before content = content ≡ take from before ++ drop from t
 abbrev pub IsFirm : {D : Type 0} → (D → ℕ) → (D → ℕ → List ℕ) → (D → ℕ → List ℕ → Type 0) → D → ℕ → Type 0
 IsFirm moment written_at left_at disk place = (content : List ℕ) → MayLeave moment left_at disk content → take place content ≡ take place (written_now moment written_at disk)
 
--- all that was written but its last bytes, so many, is on the disk
+-- all that was written but its last bytes, as many as `last`, is on the disk
 abbrev pub IsFirmBut : {D : Type 0} → (D → ℕ) → (D → ℕ → List ℕ) → (D → ℕ → List ℕ → Type 0) → D → ℕ → Type 0
 IsFirmBut moment written_at left_at disk last = IsFirm moment written_at left_at disk (length (written_now moment written_at disk) - last)
 

@@ -33,10 +33,12 @@ pub trait Disk {
     /// Reads bytes from a place on. Their number.
     fn read(&mut self, at: u64, piece: &mut [u8]) -> io::Result<usize>
         ensures room { IfOk result (λ n. n ≤ length piece.old) }
-        ensures bytes { keeps_word self.old → IfOk result (λ n. IsPiece (written_now moment written_at self.old) at piece.new n) }
+        ensures bytes { keeps_word self.old
+            → IfOk result (λ n. IsPiece (written_now moment written_at self.old) at piece.new n) }
         ensures time { keeps_word self.old → DiskPasses moment written_at left_at nameless_at self.old self.new
             (written_now moment written_at self.old) (MayLeave moment left_at self.old) }
-        ensures same { keeps_word self.old → written_now moment written_at self.new ≡ written_now moment written_at self.old }
+        ensures same { keeps_word self.old
+            → written_now moment written_at self.new ≡ written_now moment written_at self.old }
         ensures own { keeps_word self.old → OnOk result (own_from self.new ≡ own_from self.old) }
         ensures word { keeps_word self.old → OnOk result (keeps_word self.new) };
 
@@ -45,7 +47,8 @@ pub trait Disk {
         ensures written { keeps_word self.old → OnOk result
             (written_now moment written_at self.new ≡ written_now moment written_at self.old ++ bytes.now) }
         ensures time { keeps_word self.old → DiskPasses moment written_at left_at nameless_at self.old self.new
-            (written_now moment written_at self.old ++ bytes.now) (StepsTo (MayLeave moment left_at self.old) (IsTorn bytes.now)) }
+            (written_now moment written_at self.old ++ bytes.now)
+            (StepsTo (MayLeave moment left_at self.old) (IsTorn bytes.now)) }
         ensures own { keeps_word self.old → OnOk result (own_from self.new ≡ own_from self.old) }
         ensures word { keeps_word self.old → OnOk result (keeps_word self.new) };
 
@@ -54,35 +57,43 @@ pub trait Disk {
         ensures written { keeps_word self.old → OnOk result
             (written_now moment written_at self.new ≡ take least (written_now moment written_at self.old)) }
         ensures time { keeps_word self.old → DiskPasses moment written_at left_at nameless_at self.old self.new
-            (take least (written_now moment written_at self.old)) (StepsTo (MayLeave moment left_at self.old) (IsCut least)) }
+            (take least (written_now moment written_at self.old))
+            (StepsTo (MayLeave moment left_at self.old) (IsCut least)) }
         ensures own { keeps_word self.old → OnOk result (own_from self.new ≤ own_from self.old) }
         ensures within { keeps_word self.old → OnOk result (own_from self.new ≤ least) }
         ensures word { keeps_word self.old → OnOk result (keeps_word self.new) };
 
     /// Writes the last bytes anew as they stand, as many as `most`, or all.
     fn renew(&mut self, most: u64) -> Result<(), StoreFailure>
-        ensures same { keeps_word self.old → written_now moment written_at self.new ≡ written_now moment written_at self.old }
+        ensures same { keeps_word self.old
+            → written_now moment written_at self.new ≡ written_now moment written_at self.old }
         ensures time { keeps_word self.old → DiskPasses moment written_at left_at nameless_at self.old self.new
             (written_now moment written_at self.old) (MayLeave moment left_at self.old) }
-        ensures own { keeps_word self.old → OnOk result (own_from self.new ≤ length (written_now moment written_at self.old) - most) }
+        ensures own { keeps_word self.old
+            → OnOk result (own_from self.new ≤ length (written_now moment written_at self.old) - most) }
         ensures word { keeps_word self.old → OnOk result (keeps_word self.new) };
 
     /// Brings to the disk what was written through this disk. The file's name may still be missing there.
     fn sync(&mut self) -> io::Result<()>
-        ensures synced { keeps_word self.old → OnOk result ((content : List ℕ) → MayLeave moment left_at self.new content
-            → StepsTo (MayLeave moment left_at self.old) (IsBrought (own_from self.old) (written_now moment written_at self.old)) content) }
-        ensures same { keeps_word self.old → written_now moment written_at self.new ≡ written_now moment written_at self.old }
+        ensures synced { keeps_word self.old → OnOk result ((content : List ℕ)
+            → MayLeave moment left_at self.new content
+            → StepsTo (MayLeave moment left_at self.old)
+            (IsBrought (own_from self.old) (written_now moment written_at self.old)) content) }
+        ensures same { keeps_word self.old
+            → written_now moment written_at self.new ≡ written_now moment written_at self.old }
         ensures time { keeps_word self.old → DiskPasses moment written_at left_at nameless_at self.old self.new
             (written_now moment written_at self.old)
             (λ content. MayLeave moment left_at self.old content
-            ⊎ StepsTo (MayLeave moment left_at self.old) (IsBrought (own_from self.old) (written_now moment written_at self.old)) content) }
+            ⊎ StepsTo (MayLeave moment left_at self.old)
+            (IsBrought (own_from self.old) (written_now moment written_at self.old)) content) }
         ensures own { keeps_word self.old → OnOk result (own_from self.new ≡ own_from self.old) }
         ensures word { keeps_word self.old → OnOk result (keeps_word self.new) };
 
     /// Brings the file's name to the disk.
     fn sync_folder(&mut self) -> io::Result<()>
         ensures named { keeps_word self.old → OnOk result (nameless_at self.new (moment self.new) → ⊥) }
-        ensures same { keeps_word self.old → written_now moment written_at self.new ≡ written_now moment written_at self.old }
+        ensures same { keeps_word self.old
+            → written_now moment written_at self.new ≡ written_now moment written_at self.old }
         ensures time { keeps_word self.old → DiskPasses moment written_at left_at nameless_at self.old self.new
             (written_now moment written_at self.old) (MayLeave moment left_at self.old) }
         ensures own { keeps_word self.old → OnOk result (own_from self.new ≡ own_from self.old) }

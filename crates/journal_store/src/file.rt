@@ -11,7 +11,7 @@ use std::io;
 /// The number of last bytes that are written anew before the first sync: more than the lines of one turn, as a rule.
 pub const RENEWED: u64 = 1 << 23;
 
-/// Returns the cause of a change that comes before the first sync.
+/// The cause of a change that comes before the first sync.
 fn unsynced() -> io::Error {
     io::Error::other("the file was not synced before")
 }
@@ -49,7 +49,8 @@ impl<D: Disk + Drop> FileStore<D> {
         ensures named { self.new.is_named ≡ self.old.is_named }
         ensures same { D.keeps_word self.old.disk
             → written_now D.moment D.written_at self.new.disk ≡ written_now D.moment D.written_at self.old.disk }
-        ensures time { D.keeps_word self.old.disk → DiskPasses D.moment D.written_at D.left_at D.nameless_at self.old.disk self.new.disk
+        ensures time { D.keeps_word self.old.disk
+            → DiskPasses D.moment D.written_at D.left_at D.nameless_at self.old.disk self.new.disk
             (written_now D.moment D.written_at self.old.disk) (MayLeave D.moment D.left_at self.old.disk) }
     {
         if self.is_renewed {
@@ -64,11 +65,13 @@ impl<D: Disk + Drop> FileStore<D> {
     fn sync_renewed(&mut self) -> Result<(), StoreFault>
         requires { self.old.is_renewed ≡ true }
         ensures synced { KeepsFile D.keeps_word D.moment D.written_at D.left_at D.nameless_at D.own_from self.old
-            → OnOk result (IsSynced (λ store. D.moment store.disk) (λ store. D.written_at store.disk) (λ store. file_left D.left_at D.nameless_at store.disk) self.new) }
+            → OnOk result (IsSynced (λ store. D.moment store.disk) (λ store. D.written_at store.disk)
+            (λ store. file_left D.left_at D.nameless_at store.disk) self.new) }
         ensures written { D.keeps_word self.old.disk
             → written_now D.moment D.written_at self.new.disk ≡ written_now D.moment D.written_at self.old.disk }
         ensures time { KeepsFile D.keeps_word D.moment D.written_at D.left_at D.nameless_at D.own_from self.old
-            → Passes (λ store. D.moment store.disk) (λ store. D.written_at store.disk) (λ store. file_left D.left_at D.nameless_at store.disk)
+            → Passes (λ store. D.moment store.disk) (λ store. D.written_at store.disk)
+            (λ store. file_left D.left_at D.nameless_at store.disk)
             self.old self.new (written_now D.moment D.written_at self.old.disk)
             (λ content. file_left D.left_at D.nameless_at self.old.disk (D.moment self.old.disk) content
             ⊎ (content ≡ written_now D.moment D.written_at self.old.disk)) }

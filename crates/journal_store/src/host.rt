@@ -32,7 +32,7 @@ const PIECE: usize = 1 << 16;
 /// The number of bytes that are looked at when a file is opened: more than a head has.
 const FRONT: usize = 64;
 
-/// Tells whether a file may go on from this front: it begins with the head, or is no longer and has no byte but the
+/// Whether a file may go on from this front: it begins with the head, or is no longer and has no byte but the
 /// head's and zeros, as a crash may leave of it.
 fn may_begin(front: &[u8], head: &[u8]) -> bool {
     let torn = front

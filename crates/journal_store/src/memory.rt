@@ -7,7 +7,7 @@ use crate::store::StoreFailure;
 use std::alloc::{AllocError, Global};
 use std::io;
 
-/// Returns the cause of each failure of a disk that was told to fail.
+/// The cause of each failure of a disk that was told to fail.
 fn told() -> io::Error {
     io::Error::other("the disk was told to fail")
 }
@@ -28,8 +28,8 @@ impl MemoryDisk {
     ghost use Rattle.journal_store.specs.Disk.{IsFirmBut, DiskPasses};
     ghost use Rattle.journal_store.specs.MemoryDisk.{memory_moment, memory_written, memory_left, memory_nameless, memory_own};
 
-    /// Makes a disk with a file of these bytes, of which an earlier process failed to sync the last, so many. It fails
-    /// at the call that changes something after `left` others.
+    /// A disk with a file of these bytes, of which an earlier process failed to sync the last `lost`. It fails at the
+    /// call that changes something after `left` others.
     pub fn new(
         alloc: Global,
         bytes: &[u8],
@@ -57,24 +57,24 @@ impl MemoryDisk {
         &self.shots[self.shots.len() - 1]
     }
 
-    /// Returns what was written.
+    /// The bytes that were written.
     pub fn written(&self) -> &[u8]
         ensures { result.now ≡ memory_written self.now (memory_moment self.now) }
     {
         &self.present().written
     }
 
-    /// Returns how many bytes were appended since the last sync.
+    /// The number of bytes that were appended since the last sync.
     pub fn unsynced(&self) -> usize {
         self.present().loose
     }
 
-    /// Tells whether the file's name is on the disk.
+    /// Whether the file's name is on the disk.
     pub fn is_named(&self) -> bool {
         self.present().is_named
     }
 
-    /// Makes what a crash leaves now that keeps `front` bytes of what is on the disk, and these bytes in the range that
+    /// The bytes left by a crash now that keeps `front` bytes of what is on the disk, and these bytes in the range that
     /// was appended. None if no crash leaves that.
     pub fn crash(
         &self,
@@ -82,7 +82,8 @@ impl MemoryDisk {
         front: usize,
         torn: &[u8],
     ) -> Result<Option<Vec<u8>>, AllocError>
-        ensures { IfOk result (λ found. IfSome found (λ content. memory_left self.now (memory_moment self.now) content.items)) }
+        ensures { IfOk result (λ found. IfSome found (λ content.
+            memory_left self.now (memory_moment self.now) content.items)) }
     {
         self.present().crash(alloc, front, torn)
     }
@@ -91,7 +92,8 @@ impl MemoryDisk {
     fn go_on(&mut self, next: Shot) -> io::Result<()>
         ensures ok { OnOk result (self.new.shots.items ≡ self.old.shots.items ++ next ∷ []) }
         ensures word { OnOk result (self.new.failed ≡ self.old.failed) }
-        ensures shots { (self.new.shots.items ≡ self.old.shots.items ++ next ∷ []) ⊎ (self.new.shots.items ≡ self.old.shots.items) }
+        ensures shots { (self.new.shots.items ≡ self.old.shots.items ++ next ∷ [])
+            ⊎ (self.new.shots.items ≡ self.old.shots.items) }
     {
         self.shots.push(next)?;
         if self.left == 0 {
@@ -104,10 +106,12 @@ impl MemoryDisk {
 
     /// Writes the last bytes anew as they stand, as many as `most`, or all.
     fn renew_last(&mut self, most: usize) -> io::Result<()>
-        ensures same { memory_written self.new (memory_moment self.new) ≡ memory_written self.old (memory_moment self.old) }
+        ensures same { memory_written self.new (memory_moment self.new)
+            ≡ memory_written self.old (memory_moment self.old) }
         ensures time { DiskPasses memory_moment memory_written memory_left memory_nameless self.old self.new
             (memory_written self.old (memory_moment self.old)) (memory_left self.old (memory_moment self.old)) }
-        ensures own { OnOk result (memory_own self.new ≤ length (memory_written self.old (memory_moment self.old)) - most) }
+        ensures own { OnOk result
+            (memory_own self.new ≤ length (memory_written self.old (memory_moment self.old)) - most) }
         ensures word { OnOk result (self.new.failed ≡ self.old.failed) }
     {
         let next = self.present().renewed(self.alloc, most)?;

@@ -28,8 +28,8 @@ impl Shot {
     ghost use Rattle.journal_store.specs.Disk.{IsBrought};
     ghost use Rattle.journal_store.specs.Shot.{IsLeft};
 
-    /// Makes the shot of a file with these bytes, of which an earlier process failed to sync the last, so many: on the
-    /// disk they are zeros.
+    /// The shot of a file with these bytes, of which an earlier process failed to sync the last `lost`: on the disk they
+    /// are zeros.
     pub fn found(alloc: Global, bytes: &[u8], lost: usize) -> Result<Shot, AllocError>
         ensures written { IfOk result (λ shot. shot.written.items ≡ bytes.now) }
         ensures firm { IfOk result (λ shot. (content : List ℕ) → IsLeft shot content
@@ -49,7 +49,7 @@ impl Shot {
         })
     }
 
-    /// Makes the same shot.
+    /// The same shot.
     pub fn copy(&self, alloc: Global) -> Result<Shot, AllocError>
         ensures synced { IfOk result (λ shot. shot.synced.items ≡ self.now.synced.items) }
         ensures floor { IfOk result (λ shot. shot.floor ≡ self.now.floor) }
@@ -70,10 +70,11 @@ impl Shot {
         })
     }
 
-    /// Makes what is there once these bytes were appended.
+    /// The shot once these bytes were appended.
     pub fn appended(&self, alloc: Global, bytes: &[u8]) -> io::Result<Shot>
         ensures written { IfOk result (λ shot. shot.written.items ≡ self.now.written.items ++ bytes.now) }
-        ensures left { IfOk result (λ shot. (content : List ℕ) → IsLeft shot content → StepsTo (IsLeft self.now) (IsTorn bytes.now) content) }
+        ensures left { IfOk result (λ shot. (content : List ℕ) → IsLeft shot content
+            → StepsTo (IsLeft self.now) (IsTorn bytes.now) content) }
         ensures own { IfOk result (λ shot. shot.own ≡ self.now.own) }
         ensures named { IfOk result (λ shot. shot.is_named ≡ self.now.is_named) }
     {
@@ -86,10 +87,11 @@ impl Shot {
         Ok(next)
     }
 
-    /// Makes what is there after a cut, if nothing was appended since the last sync.
+    /// The shot after a cut, if nothing was appended since the last sync.
     pub fn cut(&self, alloc: Global, least: usize) -> io::Result<Shot>
         ensures written { IfOk result (λ shot. shot.written.items ≡ take least self.now.written.items) }
-        ensures left { IfOk result (λ shot. (content : List ℕ) → IsLeft shot content → StepsTo (IsLeft self.now) (IsCut least) content) }
+        ensures left { IfOk result (λ shot. (content : List ℕ) → IsLeft shot content
+            → StepsTo (IsLeft self.now) (IsCut least) content) }
         ensures own { IfOk result (λ shot. shot.own ≤ self.now.own) }
         ensures short { IfOk result (λ shot. shot.own ≤ least) }
         ensures named { IfOk result (λ shot. shot.is_named ≡ self.now.is_named) }
@@ -110,7 +112,7 @@ impl Shot {
         })
     }
 
-    /// Makes what is there once the last bytes, as many as `most`, were written anew.
+    /// The shot once the last bytes, as many as `most`, were written anew.
     pub fn renewed(&self, alloc: Global, most: usize) -> Result<Shot, AllocError>
         ensures written { IfOk result (λ shot. shot.written.items ≡ self.now.written.items) }
         ensures left { IfOk result (λ shot. (content : List ℕ) → IsLeft shot content → IsLeft self.now content) }
@@ -122,7 +124,7 @@ impl Shot {
         Ok(next)
     }
 
-    /// Makes what is there once the file was synced: in front of `own` the disk is as it was.
+    /// The shot once the file was synced: in front of `own` the disk is as it was.
     pub fn brought(&self, alloc: Global) -> Result<Shot, AllocError>
         ensures written { IfOk result (λ shot. shot.written.items ≡ self.now.written.items) }
         ensures left { IfOk result (λ shot. (content : List ℕ) → IsLeft shot content
@@ -144,7 +146,7 @@ impl Shot {
         })
     }
 
-    /// Makes what is there once the folder was synced.
+    /// The shot once the folder was synced.
     pub fn named(&self, alloc: Global) -> Result<Shot, AllocError>
         ensures written { IfOk result (λ shot. shot.written.items ≡ self.now.written.items) }
         ensures left { IfOk result (λ shot. (content : List ℕ) → IsLeft shot content → IsLeft self.now content) }
@@ -156,7 +158,7 @@ impl Shot {
         Ok(next)
     }
 
-    /// Makes what a crash leaves that keeps `front` bytes of what is on the disk, and these bytes in the range that was
+    /// The bytes left by a crash that keeps `front` bytes of what is on the disk, and these bytes in the range that was
     /// appended. None if no crash leaves that.
     pub fn crash(
         &self,

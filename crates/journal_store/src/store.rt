@@ -72,10 +72,12 @@ pub trait Store {
     /// Reads bytes from a place on, and returns how many.
     fn read(&mut self, at: u64, piece: &mut [u8]) -> Result<usize, StoreFault>
         ensures room { IfOk result (λ n. n ≤ length piece.old) }
-        ensures bytes { keeps_word self.old → IfOk result (λ n. IsPiece (written_now moment written_at self.old) at piece.new n) }
+        ensures bytes { keeps_word self.old
+            → IfOk result (λ n. IsPiece (written_now moment written_at self.old) at piece.new n) }
         ensures time { keeps_word self.old → Passes moment written_at left_at self.old self.new
             (written_now moment written_at self.old) (MayLeave moment left_at self.old) }
-        ensures same { keeps_word self.old → written_now moment written_at self.new ≡ written_now moment written_at self.old }
+        ensures same { keeps_word self.old
+            → written_now moment written_at self.new ≡ written_now moment written_at self.old }
         ensures word { keeps_word self.old → OnOk result (keeps_word self.new) };
 
     /// Writes bytes behind the last. Until a sync, a crash may leave any bytes in their range.
@@ -83,7 +85,8 @@ pub trait Store {
         ensures written { keeps_word self.old → OnOk result
             (written_now moment written_at self.new ≡ written_now moment written_at self.old ++ bytes.now) }
         ensures time { keeps_word self.old → Passes moment written_at left_at self.old self.new
-            (written_now moment written_at self.old ++ bytes.now) (StepsTo (MayLeave moment left_at self.old) (IsTorn bytes.now)) }
+            (written_now moment written_at self.old ++ bytes.now)
+            (StepsTo (MayLeave moment left_at self.old) (IsTorn bytes.now)) }
         ensures word { keeps_word self.old → OnOk result (keeps_word self.new) };
 
     /// Cuts to a length.
@@ -91,13 +94,15 @@ pub trait Store {
         ensures written { keeps_word self.old → OnOk result
             (written_now moment written_at self.new ≡ take least (written_now moment written_at self.old)) }
         ensures time { keeps_word self.old → Passes moment written_at left_at self.old self.new
-            (take least (written_now moment written_at self.old)) (StepsTo (MayLeave moment left_at self.old) (IsCut least)) }
+            (take least (written_now moment written_at self.old))
+            (StepsTo (MayLeave moment left_at self.old) (IsCut least)) }
         ensures word { keeps_word self.old → OnOk result (keeps_word self.new) };
 
     /// Brings what was written to the disk: after it, a crash leaves that and nothing else.
     fn sync(&mut self) -> Result<(), StoreFault>
         ensures synced { keeps_word self.old → OnOk result (IsSynced moment written_at left_at self.new) }
-        ensures written { keeps_word self.old → written_now moment written_at self.new ≡ written_now moment written_at self.old }
+        ensures written { keeps_word self.old
+            → written_now moment written_at self.new ≡ written_now moment written_at self.old }
         ensures time { keeps_word self.old → Passes moment written_at left_at self.old self.new
             (written_now moment written_at self.old)
             (λ content. MayLeave moment left_at self.old content ⊎ (content ≡ written_now moment written_at self.old)) }

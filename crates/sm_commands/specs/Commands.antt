@@ -3,7 +3,7 @@
 use Rattle.std.specs.Prelude.{◌≢◌, ◌≤◌, ℕ, List, Option, Some, None, IsSome, IfSome, length}
 use Rattle.std.specs.Borrow.{Bor}
 use Rattle.sm_placement.specs.Setup.{Setup, server_named, shard_named}
-use Rattle.sm_placement.specs.declared.limits.TheConstants.{MOST_SERVERS}
+use Rattle.sm_placement.specs.declared.limits.TheConstants.{MOST_SERVERS, MOST_SHARDS}
 use Rattle.sm_plan_code.specs.declared.limits.TheConstants.{MOST_MOVES, MOST_RIGHTS}
 use Rattle.sm_commands.specs.declared.form.TheConstants.{MOST_EXACT}
 use Rattle.sm_commands.specs.declared.command.StateOf.{StateOf}
@@ -50,7 +50,8 @@ IsKnownCommand config (line.Driver (driver.Restore server nonce)) = IsServerOf c
 IsKnownCommand _ (line.Reopening (reopening.Reopen _ lost journal epoch)) =
     (length lost.now ≤ MOST_SERVERS) × IfSome journal (λ bits. bits ≢ 0) × IfSome epoch (λ number. number ≢ 0)
 IsKnownCommand _ (line.Reopening (reopening.Fenced server base told)) = (base ≤ MOST_EXACT) × IsToldBy server told
-IsKnownCommand _ (line.Reopening (reopening.Confirm base cells)) = (base ≤ MOST_EXACT) × (length cells.now ≤ MOST_RIGHTS)
+IsKnownCommand _ (line.Reopening (reopening.Confirm base cells lost)) =
+    (base ≤ MOST_EXACT) × (length cells.now ≤ MOST_RIGHTS) × (length lost.now ≤ MOST_SHARDS)
 IsKnownCommand _ (line.Reopening (reopening.Settled _ base)) = base ≤ MOST_EXACT
 IsKnownCommand _ (line.Question (question.InForce (plans.Moves moves))) = length moves.now ≤ MOST_MOVES
 IsKnownCommand config (line.Question (question.InForce (plans.Drain server))) = IsServerOf config server.now

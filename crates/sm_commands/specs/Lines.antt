@@ -1,8 +1,8 @@
 -- Commands as lines say them: a line is an object, whose member `do` has the command's word, and whose other members have what it asks for.
 -- `TellsFound` and `OfWord` are internal: you need not read them for the public contracts.
-use Rattle.std.specs.Prelude.{◌≡◌, ℕ, List, codes, Option, Some, None, Result, IfOk}
+use Rattle.std.specs.Prelude.{◌≡◌, ℕ, List, codes, Option, Some, None, Result, IfOk, option_map}
 use Rattle.std.specs.Borrow.{Bor}
-use Rattle.serde_json.specs.Data.{Data, null}
+use Rattle.serde_json.specs.Data.{Data, Items, null}
 use Rattle.json_tree.specs.View.{view, items_view}
 use Rattle.json_tree.specs.declared.tree.Tree.{Tree}
 use Rattle.sm_commands.specs.Values.{bits_at, entries_at, list_at, text_at, value_at, whole_at}
@@ -33,12 +33,13 @@ command_word (line.Driver (driver.Restore _ _)) = codes "restore"
 command_word (line.Driver driver.NewEpoch) = codes "new_epoch"
 command_word (line.Reopening (reopening.Reopen _ _ _ _)) = codes "reopen"
 command_word (line.Reopening (reopening.Fenced _ _ _)) = codes "fenced"
-command_word (line.Reopening (reopening.Confirm _ _)) = codes "confirm"
+command_word (line.Reopening (reopening.Confirm _ _ _)) = codes "confirm"
 command_word (line.Reopening (reopening.Settled _ _)) = codes "settled"
 command_word (line.Question (question.InForce (plans.Check _))) = codes "check"
 command_word (line.Question (question.InForce (plans.Moves _))) = codes "moves"
 command_word (line.Question (question.InForce (plans.Drain _))) = codes "drain"
 command_word (line.Question question.Map) = codes "map"
+command_word (line.Question question.Document) = codes "document"
 command_word (line.Question question.Orders) = codes "orders"
 command_word (line.Question question.Hello) = codes "hello"
 command_word (line.Question (question.State _)) = codes "state"
@@ -62,16 +63,24 @@ IsNameOrNull member d None = value_at member d ≡ Some null
 abbrev pub IsFrom : Data → Option (Bor (List ℕ)) → Type 0
 IsFrom d server = IsNameOrNull at.Server d server
 
--- the answer to a fence, that of the map's owner having no members of its own
-abbrev pub HasToldMembers : Data → ToldText → Type 0
-HasToldMembers d told.Map = Unit {0}
-HasToldMembers d (told.Slots slots) = list_at at.Slots d ≡ Some (items_view slots.now)
-HasToldMembers d (told.Unknown nonce) = bits_at at.Unknown d ≡ Some nonce
+-- the slots that an answer to a fence tells
+abbrev pub told_slots : ToldText → Option Items
+told_slots (told.Slots slots) = Some (items_view slots.now)
+told_slots _ = None
 
--- the part of the state that is asked for: a shard rather than a plan, if both are named
+-- the nonce that it tells
+abbrev pub told_nonce : ToldText → Option ℕ
+told_nonce (told.Unknown nonce) = Some nonce
+told_nonce _ = None
+
+-- the answer to a fence has slots or a nonce, and that of the map's owner neither
+abbrev pub HasToldMembers : Data → ToldText → Type 0
+HasToldMembers d told = (list_at at.Slots d ≡ told_slots told) × (bits_at at.Unknown d ≡ told_nonce told)
+
+-- the part of the state that is asked for: a shard or a plan, if one is named
 abbrev pub HasStateMembers : Data → StateOf → Type 0
 HasStateMembers d Whole = (text_at at.Shard d ≡ None) × (whole_at at.Plan d ≡ None)
-HasStateMembers d (Shard name) = text_at at.Shard d ≡ Some name.now
+HasStateMembers d (Shard name) = (text_at at.Shard d ≡ Some name.now) × (whole_at at.Plan d ≡ None)
 HasStateMembers d (Plan plan) = (text_at at.Shard d ≡ None) × (whole_at at.Plan d ≡ Some plan)
 
 -- a plan, a stream of it, and the number of its order
@@ -92,7 +101,8 @@ HasMembers d (line.Reopening (reopening.Reopen document lost journal epoch)) =
     (value_at at.Document d ≡ Some (view document.now)) × (entries_at at.Lost d ≡ items_view lost.now)
     × (bits_at at.Journal d ≡ journal) × (whole_at at.Epoch d ≡ epoch)
 HasMembers d (line.Reopening (reopening.Fenced server base told)) = IsFrom d server × (whole_at at.Base d ≡ Some base) × HasToldMembers d told
-HasMembers d (line.Reopening (reopening.Confirm base cells)) = (whole_at at.Base d ≡ Some base) × (entries_at at.Cells d ≡ items_view cells.now)
+HasMembers d (line.Reopening (reopening.Confirm base cells lost)) =
+    (whole_at at.Base d ≡ Some base) × (entries_at at.Cells d ≡ items_view cells.now) × (entries_at at.Lost d ≡ items_view lost.now)
 HasMembers d (line.Reopening (reopening.Settled server base)) = IsFrom d server × (whole_at at.Base d ≡ Some base)
 HasMembers d (line.Question (question.InForce (plans.Check plan))) = value_at at.Plan d ≡ Some (view plan.now)
 HasMembers d (line.Question (question.InForce (plans.Moves moves))) = list_at at.Moves d ≡ Some (items_view moves.now)
@@ -108,11 +118,10 @@ HasMembers d _ = Unit {0}
 abbrev pub Says : Data → LineCommand → Type 0
 Says d command = (text_at at.Do d ≡ Some (command_word command)) × HasMembers d command
 
--- the answer to a fence has the slots or the nonce that were found, if it has some
+-- the answer to a fence has the slots that were found, and the nonce
 abbrev pub TellsFound : Option (Bor (List Tree)) → Option ℕ → ToldText → Type 0
-TellsFound slots bits told.Map = Unit {0}
-TellsFound slots bits (told.Slots found) = slots ≡ Some found
-TellsFound slots bits (told.Unknown found) = bits ≡ Some found
+TellsFound slots bits told =
+    (option_map (λ (found : Bor (List Tree)). items_view found.now) slots ≡ told_slots told) × (bits ≡ told_nonce told)
 
 -- what was read of a line whose word this is
 abbrev pub OfWord : List ℕ → Data → Result LineCommand BadLine → Type 0

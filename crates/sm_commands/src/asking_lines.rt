@@ -11,6 +11,7 @@ use crate::bad_line::BadLine;
 use crate::command::{FailedAnswer, LineCommand, PlanQuestion, Question, StateOf};
 use crate::command_member::CommandMember;
 use crate::form::MOST_EXACT;
+use crate::line_part::LinePart;
 use crate::reader::Reader;
 use crate::row::Row;
 use json_tree::Tree;
@@ -76,7 +77,7 @@ pub fn read_drain<'t, 'a>(
     }
 }
 
-/// Reads the question for the state: of a shard rather than a plan, if both are named.
+/// Reads the question for the state: of a shard or of a plan, if one is named.
 pub fn read_state<'t, 'a>(
     line: &'t Tree<'a>,
     config: Option<&Config>,
@@ -88,9 +89,13 @@ pub fn read_state<'t, 'a>(
     let shard = reader.shard_name(Row::Maybe(CommandMember::Shard), config);
     let plan = reader.small(Row::Maybe(CommandMember::Plan));
     let of = match (shard, plan) {
-        (Some(shard), _) => StateOf::Shard(shard),
+        (Some(shard), None) => StateOf::Shard(shard),
         (None, Some(plan)) => StateOf::Plan(plan),
         (None, None) => StateOf::Whole,
+        (Some(_), Some(_)) => {
+            reader.note(BadLine::Shape(LinePart::Line, CommandMember::Plan));
+            StateOf::Whole
+        }
     };
     reader.finish(LineCommand::Question(Question::State { of }))
 }

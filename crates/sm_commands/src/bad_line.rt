@@ -1,7 +1,8 @@
 //! Lines that are no commands.
 ghost use Rattle.std.specs.Prelude.{◌≡◌, ◌++◌, IfOk, OnOk, codes, option_map, string_bytes};
 ghost use Rattle.sm_commands.specs.Members.{object_member};
-ghost use Rattle.sm_commands.specs.BadLines.{bad_kind, bad_path, bad_words, below_path, inner_text, kind_words, member_words, path_in, text_fault_kind, told_bad, unknown_words};
+ghost use Rattle.sm_commands.specs.BadLines.{bad_kind, bad_path, bad_words, below_path, inner_text, kind_words};
+ghost use Rattle.sm_commands.specs.BadLines.{member_words, path_in, text_fault_kind, told_bad, unknown_words};
 ghost use Rattle.sm_commands.specs.Refusals.{bad_members};
 
 use crate::command_member::CommandMember;
@@ -68,7 +69,8 @@ fn inner_member(fault: TextFault) -> Option<&'static str>
 
 impl BadLine<'_> {
     ghost use Rattle.std.specs.Prelude.{◌≡◌, ◌++◌, OnOk, option_map, string_bytes};
-    ghost use Rattle.sm_commands.specs.BadLines.{bad_kind, bad_member, bad_number, bad_path, bad_words, plain_words, unknown_words};
+    ghost use Rattle.sm_commands.specs.BadLines.{bad_kind, bad_member, bad_number, bad_path, bad_words, plain_words};
+    ghost use Rattle.sm_commands.specs.BadLines.{unknown_words};
 
     /// Returns the kind of the fault.
     pub fn kind(self) -> &'static str
@@ -182,7 +184,8 @@ fn push_kind(out: &mut String, number: u8, kind: &str) -> Result<(), AllocError>
 
 /// Adds a member behind a space, if one is told.
 fn push_told(out: &mut String, member: Option<&str>) -> Result<(), AllocError>
-    ensures { OnOk result (string_bytes out.new ≡ string_bytes out.old ++ member_words (option_map (λ name. name.now) member.entry)) }
+    ensures { OnOk result (string_bytes out.new
+        ≡ string_bytes out.old ++ member_words (option_map (λ name. name.now) member.entry)) }
 {
     match member {
         Some(name) => write!(out, " {name}"),
@@ -200,7 +203,8 @@ fn push_member(out: &mut String, part: LinePart, name: &str) -> Result<(), Alloc
 
 /// Adds behind the path of a document or a plan that a member stands somewhere below.
 fn push_inner(out: &mut String, member: Option<&str>) -> Result<(), AllocError>
-    ensures { OnOk result (string_bytes out.new ≡ string_bytes out.old ++ below_path (option_map (λ name. name.now) member.entry)) }
+    ensures { OnOk result (string_bytes out.new
+        ≡ string_bytes out.old ++ below_path (option_map (λ name. name.now) member.entry)) }
 {
     match member {
         Some(name) => write!(out, "..{name}"),
@@ -225,7 +229,8 @@ fn write_bad_members(
 
 /// Writes what is wrong with a line, as a member of its reply, from its kind, its path and its words.
 fn write_told(writer: &mut Writer, kind: &str, at: &str, text: &str) -> Result<(), AllocError>
-    ensures { OnOk result (writer.new.tokens ≡ writer.old.tokens ++ object_member (codes "bad") (bad_members kind.now at.now text.now)) }
+    ensures { OnOk result (writer.new.tokens ≡ writer.old.tokens
+        ++ object_member (codes "bad") (bad_members kind.now at.now text.now)) }
 {
     writer.key("bad")?;
     writer.begin_object()?;

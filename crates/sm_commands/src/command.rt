@@ -70,10 +70,12 @@ pub enum ReopeningCommand<'t, 'a> {
         base: u64,
         told: ToldText<'t, 'a>,
     },
-    /// To confirm a proposal, but for the shards whose cells are given.
+    /// To confirm a proposal, but for the shards whose cells are given. Shards that may be lost are given as texts that
+    /// are names.
     Confirm {
         base: u64,
         cells: &'t [Tree<'a>],
+        lost: &'t [Tree<'a>],
     },
     /// To take the answer to a settle from a server, or from the map's owner, which is no server.
     Settled {
@@ -93,6 +95,8 @@ pub enum Question<'t, 'a> {
     State { of: StateOf<'a> },
     /// The published map.
     Map,
+    /// The service as a document.
+    Document,
     /// What has come up since a place.
     Since { place: u64 },
     /// A question that is refused while a reopening is under way.

@@ -3,7 +3,8 @@ ghost use Rattle.std.specs.Prelude.{◌≡◌, ◌++◌, IfOk, OnOk, string_byte
 ghost use Rattle.std.specs.List.{flat_map};
 ghost use Rattle.sm_refusals.specs.Refusals.{field_of, field_words, fields_of, refusal_model, refusal_words};
 ghost use Rattle.sm_commands.specs.Members.{list_member};
-ghost use Rattle.sm_commands.specs.Refusals.{TellsRefused, field_member, number_item, own_refusal, refusal_members, refused_member, shared_refusal};
+ghost use Rattle.sm_commands.specs.Refusals.{TellsRefused, field_member, number_item, own_refusal, refusal_members};
+ghost use Rattle.sm_commands.specs.Refusals.{refused_member, shared_refusal};
 
 use crate::writer::Writer;
 use crate::writing::{write_name, write_number, write_text};
@@ -22,7 +23,8 @@ fn write_each_number(writer: &mut Writer, numbers: &[u32]) -> Result<(), AllocEr
 
 /// Writes a member that is a list of numbers.
 fn write_numbers(writer: &mut Writer, name: &str, numbers: &[u32]) -> Result<(), AllocError>
-    ensures { OnOk result (writer.new.tokens ≡ writer.old.tokens ++ list_member name.now (flat_map number_item numbers.now)) }
+    ensures { OnOk result (writer.new.tokens ≡ writer.old.tokens
+        ++ list_member name.now (flat_map number_item numbers.now)) }
 {
     writer.key(name)?;
     writer.begin_array()?;
@@ -65,7 +67,8 @@ fn write_fields(writer: &mut Writer, fields: &Fields<'_>) -> Result<(), AllocErr
 
 /// Writes fields as members.
 fn write_each_field(writer: &mut Writer, fields: &[Field<'_>]) -> Result<(), AllocError>
-    ensures { OnOk result (writer.new.tokens ≡ writer.old.tokens ++ flat_map (λ f. field_member (field_of f)) fields.now) }
+    ensures { OnOk result (writer.new.tokens ≡ writer.old.tokens
+        ++ flat_map (λ f. field_member (field_of f)) fields.now) }
 {
     for field in fields {
         write_field(writer, field)?;
@@ -75,7 +78,8 @@ fn write_each_field(writer: &mut Writer, fields: &[Field<'_>]) -> Result<(), All
 
 /// Adds the words of fields.
 fn push_fields(out: &mut String, fields: &[Field<'_>]) -> Result<(), AllocError>
-    ensures { OnOk result (string_bytes out.new ≡ string_bytes out.old ++ flat_map (λ f. field_words (field_of f)) fields.now) }
+    ensures { OnOk result (string_bytes out.new
+        ≡ string_bytes out.old ++ flat_map (λ f. field_words (field_of f)) fields.now) }
 {
     for field in fields {
         field.push_words(out)?;
@@ -125,7 +129,8 @@ fn write_shared_members(
     refusal: &RefusalText<'_>,
 ) -> Result<(), AllocError>
     ensures { words.now ≡ refusal_words (refusal_model refusal.now)
-        → OnOk result (writer.new.tokens ≡ writer.old.tokens ++ refusal_members (shared_refusal (refusal_model refusal.now))) }
+        → OnOk result (writer.new.tokens ≡ writer.old.tokens
+        ++ refusal_members (shared_refusal (refusal_model refusal.now))) }
 {
     write_text(writer, "kind", refusal.kind)?;
     write_number(writer, "number", u64::from(refusal.number))?;
@@ -157,7 +162,8 @@ fn write_shared(
     alloc: Global,
     refusal: &RefusalText<'_>,
 ) -> Result<(), AllocError>
-    ensures { OnOk result (writer.new.tokens ≡ writer.old.tokens ++ refused_member (shared_refusal (refusal_model refusal.now))) }
+    ensures { OnOk result (writer.new.tokens ≡ writer.old.tokens
+        ++ refused_member (shared_refusal (refusal_model refusal.now))) }
 {
     let words = shared_words(alloc, refusal)?;
     writer.key("refused")?;
@@ -174,7 +180,8 @@ pub fn refuse(
     kind: &str,
     fields: &[Field<'_>],
 ) -> Result<(), AllocError>
-    ensures told { OnOk result (writer.new.tokens ≡ writer.old.tokens ++ refused_member (own_refusal kind.now fields.now)) }
+    ensures told { OnOk result (writer.new.tokens
+        ≡ writer.old.tokens ++ refused_member (own_refusal kind.now fields.now)) }
     ensures refused { OnOk result (TellsRefused writer.old.tokens writer.new.tokens) }
 {
     write_own(writer, alloc, kind, fields)?;
@@ -187,7 +194,8 @@ pub fn write_refusal(
     alloc: Global,
     refusal: &RefusalText<'_>,
 ) -> Result<(), AllocError>
-    ensures told { OnOk result (writer.new.tokens ≡ writer.old.tokens ++ refused_member (shared_refusal (refusal_model refusal.now))) }
+    ensures told { OnOk result (writer.new.tokens
+        ≡ writer.old.tokens ++ refused_member (shared_refusal (refusal_model refusal.now))) }
     ensures refused { OnOk result (TellsRefused writer.old.tokens writer.new.tokens) }
 {
     write_shared(writer, alloc, refusal)?;

@@ -1,4 +1,5 @@
-//! The commands of `smpland`, one JSON object a line: what a line asks for, and what is said of one that is no command or is refused.
+//! The commands of `smpland`, one JSON object a line: what a line asks for, and what is said of one that is no
+//! command or is refused.
 #![tactic(auto)]
 
 mod asking_lines;

@@ -73,6 +73,7 @@ fn read_worded<'t, 'a>(
         "moves" => read_moves(line),
         "drain" => read_drain(line, config),
         "map" => read_plain(line, LineCommand::Question(Question::Map)),
+        "document" => read_plain(line, LineCommand::Question(Question::Document)),
         "orders" => read_plain(line, LineCommand::Question(Question::Orders)),
         "hello" => read_plain(line, LineCommand::Question(Question::Hello)),
         "state" => read_state(line, config),

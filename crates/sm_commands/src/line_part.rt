@@ -19,7 +19,8 @@ impl LinePart {
     ghost use Rattle.sm_commands.specs.BadLines.{part_member, part_path};
     ghost use Rattle.sm_commands.specs.Reading.{is_whole_line};
 
-    /// Returns the entry at a place of a list that stands in the part. No list stands deeper than in an entry of the line's lists.
+    /// Returns the entry at a place of a list that stands in the part. No list stands deeper than in an entry of the
+    /// line's lists.
     pub const fn entry(self, list: CommandMember, at: usize) -> LinePart {
         match self {
             LinePart::Line => LinePart::Entry(list, at),

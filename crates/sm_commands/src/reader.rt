@@ -67,7 +67,8 @@ pub struct Reader<'t, 'a> {
     pub faults: Faults<'a>,
 }
 
-/// Each call that reads a member notes what is wrong with it, and answers None then, and for one that may be missing and is.
+/// Each call that reads a member notes what is wrong with it, and answers None then, and for one that may be missing
+/// and is.
 impl<'t, 'a> Reader<'t, 'a> {
     /// Begins to read a part of a line, whose members have these names.
     pub fn new(object: &'t Tree<'a>, part: LinePart, names: &[CommandMember]) -> Self
@@ -201,7 +202,8 @@ impl<'t, 'a> Reader<'t, 'a> {
     /// Returns the name, known or not, that a member has to be, and None within for null.
     pub fn name_or_null(&mut self, row: Row) -> Option<Option<&'a str>>
         ensures read { IsRead self.old self.new row (is_some result) }
-        ensures told { is_clean self.new.faults ≡ true → IfSome result (IsNameOrNull (row_member row) (object_data self.old)) }
+        ensures told { is_clean self.new.faults ≡ true
+            → IfSome result (IsNameOrNull (row_member row) (object_data self.old)) }
     {
         match self.find(row.member()) {
             Some(value) if value.is_null() => Some(None),
@@ -299,7 +301,8 @@ impl<'t, 'a> Reader<'t, 'a> {
         key: CommandMember,
     ) -> Result<Option<&'t [Tree<'a>]>, AllocError>
         ensures read { IfOk result (λ found. IsRead self.old self.new row (is_some found)) }
-        ensures told { IfOk result (λ found. IsValueOf self.old self.new list_at row (option_map (λ entries. items_view entries.now) found)) }
+        ensures told { IfOk result (λ found. IsValueOf self.old self.new list_at row
+            (option_map (λ entries. items_view entries.now) found)) }
         ensures most { IfOk result (λ found. IfSome found (λ entries. length entries.now ≤ MOST_RIGHTS)) }
     {
         let found = self.list(row, MOST_RIGHTS);

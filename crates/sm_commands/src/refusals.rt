@@ -23,7 +23,8 @@ pub fn refuse_open(
     config: &Config,
     fault: OpenFault,
 ) -> Result<(), AllocError>
-    ensures told { OnOk result (writer.new.tokens ≡ writer.old.tokens ++ refused_member (shared_refusal (open_refusal config.now fault))) }
+    ensures told { OnOk result (writer.new.tokens
+        ≡ writer.old.tokens ++ refused_member (shared_refusal (open_refusal config.now fault))) }
     ensures refused { OnOk result (TellsRefused writer.old.tokens writer.new.tokens) }
 {
     write_refusal(writer, alloc, &open_refusal(config, fault))
@@ -44,7 +45,8 @@ pub fn refuse_log(writer: &mut Writer, alloc: Global) -> Result<(), AllocError>
 
 /// Writes why a plan does not pass the check.
 pub fn refuse_check(writer: &mut Writer, alloc: Global, fault: &Fault) -> Result<(), AllocError>
-    ensures told { OnOk result (writer.new.tokens ≡ writer.old.tokens ++ refused_member (shared_refusal (check_refusal fault.now))) }
+    ensures told { OnOk result (writer.new.tokens
+        ≡ writer.old.tokens ++ refused_member (shared_refusal (check_refusal fault.now))) }
     ensures refused { OnOk result (TellsRefused writer.old.tokens writer.new.tokens) }
 {
     write_refusal(writer, alloc, &check_refusal(fault))
@@ -57,7 +59,8 @@ pub fn refuse_begin(
     config: &Config,
     fault: BeginFault,
 ) -> Result<(), AllocError>
-    ensures told { OnOk result (writer.new.tokens ≡ writer.old.tokens ++ refused_member (shared_refusal (begin_refusal config.now fault))) }
+    ensures told { OnOk result (writer.new.tokens
+        ≡ writer.old.tokens ++ refused_member (shared_refusal (begin_refusal config.now fault))) }
     ensures refused { OnOk result (TellsRefused writer.old.tokens writer.new.tokens) }
 {
     write_refusal(writer, alloc, &begin_refusal(config, fault))

@@ -18,7 +18,7 @@ use crate::line_part::LinePart;
 use crate::reader::Reader;
 use crate::row::Row;
 use json_tree::Tree;
-use sm_placement::MOST_SERVERS;
+use sm_placement::{MOST_SERVERS, MOST_SHARDS};
 use std::alloc::{AllocError, Global};
 
 /// The highest number of bytes of a reopening's reason.
@@ -176,17 +176,24 @@ pub fn read_confirm<'t, 'a>(
     ensures known { IfOk result (λ read. IfOk read IsKnownAnywhere) }
     ensures told { IfOk result (OfWord (codes "confirm") (view line.now)) }
 {
-    let mut reader = Reader::of_line(line, &[CommandMember::Base, CommandMember::Cells]);
+    let names = &[
+        CommandMember::Base,
+        CommandMember::Cells,
+        CommandMember::Lost,
+    ];
+    let mut reader = Reader::of_line(line, names);
     let base = reader.number(Row::One(CommandMember::Base), MOST_EXACT);
     let cells = reader.keyed(
         alloc,
         Row::Maybe(CommandMember::Cells),
         CommandMember::Shard,
     )?;
+    let lost = reader.names(Row::Maybe(CommandMember::Lost), MOST_SHARDS);
     match base {
         Some(base) => Ok(reader.finish(LineCommand::Reopening(ReopeningCommand::Confirm {
             base,
             cells: entries_or_none(cells),
+            lost: entries_or_none(lost),
         }))),
         None => Ok(Err(reader.fault())),
     }

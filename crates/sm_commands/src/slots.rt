@@ -2,7 +2,8 @@
 ghost use Rattle.std.specs.Prelude.{◌≡◌, All, IfOk, IfSome, Some, true};
 ghost use Rattle.json_tree.specs.View.{view};
 ghost use Rattle.sm_commands.specs.Reading.{ReadsOn, is_clean, object_data};
-ghost use Rattle.sm_commands.specs.Slots.{IsSlotFor, TellSlots, TellsParty, TellsSlot, cell_word, is_handover, is_named, needs_position, needs_reached};
+ghost use Rattle.sm_commands.specs.Slots.{IsSlotFor, TellSlots, TellsParty, TellsSlot, cell_word, is_handover};
+ghost use Rattle.sm_commands.specs.Slots.{is_named, needs_position, needs_reached};
 ghost use Rattle.sm_commands.specs.Values.{text_at};
 ghost use Rattle.sm_commands.specs.declared.command_member.CommandMember.TheVariants as members;
 
@@ -114,7 +115,8 @@ fn cell_kind(word: &str) -> Option<CellKind>
 /// else.
 fn cell_in(reader: &mut Reader<'_, '_>) -> CellKind
     ensures on { ReadsOn reader.old reader.new }
-    ensures told { is_clean reader.new.faults ≡ true → text_at members.Cell (object_data reader.old) ≡ Some (cell_word result) }
+    ensures told { is_clean reader.new.faults ≡ true
+        → text_at members.Cell (object_data reader.old) ≡ Some (cell_word result) }
 {
     let row = Row::One(CommandMember::Cell);
     match reader.value(row) {

@@ -1,8 +1,11 @@
 //! The writer of replies.
 ghost use Rattle.std.specs.Prelude.{◌≡◌, ◌∷◌, ◌++◌, [], OnErr, OnOk, decimal};
-ghost use Rattle.json.specs.Token.{begin_array, begin_object, boolean, end_array, end_object, key, null, number, string};
+ghost use Rattle.json.specs.Token.{begin_array, begin_object, boolean, end_array, end_object, key, null, number};
+ghost use Rattle.json.specs.Token.{string};
 ghost use Rattle.json.specs.Reads.{token_of};
+ghost use Rattle.json.specs.Lex.{tokens};
 ghost use Rattle.json.specs.Print.{IsPrintable, print};
+ghost use Rattle.std.specs.Str.{IsUtf8};
 ghost use Rattle.sm_commands.specs.Members.{object};
 ghost use Rattle.sm_commands.specs.Writer.{HasNoLineFeed};
 
@@ -43,6 +46,8 @@ impl Writer {
     pub fn into_text(self) -> Vec<u8>
         ensures text { result.items ≡ print self.tokens }
         ensures one_line { HasNoLineFeed (print (object self.tokens)) }
+        ensures reads_back { tokens (print self.tokens) ≡ self.tokens }
+        ensures utf8 { IsUtf8 (print self.tokens) }
     {
         let Writer { members } = self;
         members.into_inner()

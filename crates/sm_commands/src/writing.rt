@@ -24,7 +24,8 @@ pub fn write_number(writer: &mut Writer, name: &str, number: u64) -> Result<(), 
 
 /// Writes a member that is a name, or null for none.
 pub fn write_name(writer: &mut Writer, name: &str, found: Option<&str>) -> Result<(), AllocError>
-    ensures { OnOk result (writer.new.tokens ≡ writer.old.tokens ++ name_member name.now (option_map (λ text. text.now) found.entry)) }
+    ensures { OnOk result (writer.new.tokens ≡ writer.old.tokens
+        ++ name_member name.now (option_map (λ text. text.now) found.entry)) }
 {
     writer.key(name)?;
     match found {

@@ -1,4 +1,6 @@
+pub mod Chosen
 pub mod Numbers
+pub mod Named
 pub mod Eased
 mod Floors
 pub mod Naming

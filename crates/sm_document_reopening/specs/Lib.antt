@@ -1,5 +1,6 @@
 pub mod Waiting
 pub mod Proposal
+pub mod Chosen
 pub mod Faults
 pub mod Numbers
 pub mod Roles

@@ -1,9 +1,10 @@
 -- The proposal under a document: the shards that it is of, who would be their primaries, and who is waited for before.
-use Rattle.std.specs.Prelude.{ℕ, ◌&&◌, ◌==◌, Bool, List, [], ◌∷◌, Option, None, length, map}
+use Rattle.std.specs.Prelude.{◌≡◌, ℕ, ◌&&◌, ◌==◌, Bool, List, [], ◌∷◌, Option, None, length, map}
 use Rattle.std.specs.List.{filter, list_any, range_with_len}
 use Rattle.sm_placement.specs.Layout.{grid_of}
 use Rattle.sm_reopening.specs.declared.party.Party.{Party as ToldParty}
 use Rattle.sm_reopening.specs.declared.party.Party.TheVariants as party
+use Rattle.sm_reopening.specs.Losses.{is_named_lost}
 use Rattle.sm_reopening.specs.Ongoing.{is_missing, net_reopening}
 use Rattle.sm_reopening.specs.Proposal.{Documented, is_silent_heir, is_the, primary_of}
 use Rattle.sm_reopening.specs.Settles.{net_party}
@@ -25,6 +26,18 @@ documented_roles r = grid_of (net_reopening r.ongoing).servers None r.documented
 -- the primary that is proposed for a shard
 abbrev pub proposed_primary : ReopeningModel → ℕ → Option ℕ
 proposed_primary r s = primary_of r.ongoing (documented_roles r) s
+
+-- the shards of the document that the proposal names as lost
+abbrev pub lost_shards : ReopeningModel → List ℕ
+lost_shards r = filter (is_named_lost r.ongoing (documented_roles r)) (document_shards r)
+
+-- one shard is among others
+abbrev pub is_shard_among : List ℕ → ℕ → Bool
+is_shard_among shards s = list_any (λ k. k == s) shards
+
+-- the shards that are named are those that the proposal names as lost
+abbrev pub NamesLost : ReopeningModel → List ℕ → Type 0
+NamesLost r named = (s : ℕ) → is_shard_among named s ≡ is_shard_among (lost_shards r) s
 
 -- ---- who is waited for
 

@@ -4,7 +4,8 @@ ghost use Rattle.sm_network.specs.Reopening.{Entries, MapOwner, Server, Told, To
 ghost use Rattle.sm_network.specs.ReopeningLaws.{AllTook};
 ghost use Rattle.sm_reopening.specs.States.{fits_told, net_inventory};
 ghost use Rattle.sm_reopening.specs.Ongoing.{net_reopening, position_after, shards_of, told_positions};
-ghost use Rattle.sm_reopening.specs.Settles.{is_due_settle, net_party, settle_messages, settle_sent, settled_of, what_settles};
+ghost use Rattle.sm_reopening.specs.Settles.{is_due_settle, net_party, settle_messages, settle_sent, settled_of};
+ghost use Rattle.sm_reopening.specs.Settles.{what_settles};
 ghost use Rattle.sm_document_reopening.specs.Reopening.{IsUnder};
 ghost use Rattle.sm_document_reopening.specs.Told.{has_told_of};
 
@@ -39,8 +40,8 @@ impl DocumentReopening {
         note(&mut self.strays, server, strays)
     }
 
-    /// Takes what a server tells that stands at a fence, and the names of the shards that it has and nobody knows. Only its first answer to
-    /// this fence counts.
+    /// Takes what a server tells that stands at a fence, and the names of the shards that it has and nobody knows.
+    /// Only its first answer to this fence counts.
     pub fn fenced(
         &mut self,
         server: ServerId,
@@ -49,10 +50,13 @@ impl DocumentReopening {
         strays: Vec<String>,
     ) -> Result<FencedEffect, AllocError>
         requires { fits_told (shards_of self.old.ongoing) (Some inventory) ≡ true }
-        ensures old { IfOk result (λ effect. (effect ≡ FencedEffect.Old) ↔ (is_first (net_reopening self.old.ongoing) (Server server) base ≡ false)) }
+        ensures old { IfOk result (λ effect. (effect ≡ FencedEffect.Old) ↔
+            (is_first (net_reopening self.old.ongoing) (Server server) base ≡ false)) }
         ensures unchanged { IfOk result (λ effect. effect ≡ FencedEffect.Old → self.new ≡ self.old) }
-        ensures reopening { OnOk result (net_reopening self.new.ongoing ≡ entered (Told (Server server) base (net_inventory inventory)) (net_reopening self.old.ongoing)) }
-        ensures positions { OnOk result (told_positions self.new.ongoing ≡ position_after self.old.ongoing server base inventory) }
+        ensures reopening { OnOk result (net_reopening self.new.ongoing
+            ≡ entered (Told (Server server) base (net_inventory inventory)) (net_reopening self.old.ongoing)) }
+        ensures positions { OnOk result (told_positions self.new.ongoing
+            ≡ position_after self.old.ongoing server base inventory) }
         ensures under { OnOk result (IsUnder self.old self.new) }
     {
         if !self.is_first(&Party::Server(server), base) {
@@ -65,8 +69,10 @@ impl DocumentReopening {
     /// Takes what a server tells that stands at a fence.
     fn tell(&mut self, server: ServerId, base: u64, inventory: Inventory) -> FencedEffect
         requires { fits_told (shards_of self.old.ongoing) (Some inventory) ≡ true }
-        ensures old { (result ≡ FencedEffect.Old) ↔ (is_first (net_reopening self.old.ongoing) (Server server) base ≡ false) }
-        ensures reopening { net_reopening self.new.ongoing ≡ entered (Told (Server server) base (net_inventory inventory)) (net_reopening self.old.ongoing) }
+        ensures old { (result ≡ FencedEffect.Old) ↔
+            (is_first (net_reopening self.old.ongoing) (Server server) base ≡ false) }
+        ensures reopening { net_reopening self.new.ongoing
+            ≡ entered (Told (Server server) base (net_inventory inventory)) (net_reopening self.old.ongoing) }
         ensures positions { told_positions self.new.ongoing ≡ position_after self.old.ongoing server base inventory }
         ensures under { IsUnder self.old self.new }
     {
@@ -77,7 +83,8 @@ impl DocumentReopening {
     pub fn map_fenced(&mut self, base: u64) -> FencedEffect
         ensures old { (result ≡ FencedEffect.Old) ↔ (is_first (net_reopening self.old.ongoing) MapOwner base ≡ false) }
         ensures unchanged { result ≡ FencedEffect.Old → self.new ≡ self.old }
-        ensures reopening { net_reopening self.new.ongoing ≡ entered (Told MapOwner base Entries) (net_reopening self.old.ongoing) }
+        ensures reopening { net_reopening self.new.ongoing
+            ≡ entered (Told MapOwner base Entries) (net_reopening self.old.ongoing) }
         ensures under { IsUnder self.old self.new }
     {
         if !self.is_first(&Party::MapOwner, base) {
@@ -98,26 +105,32 @@ impl DocumentReopening {
 
     /// Returns the settle of a party, once a settlement is confirmed. It may be sent again at any time.
     pub fn settle(&self, party: Party) -> Option<Settle>
-        ensures { settle_messages (net_reopening self.now.ongoing).settlement result ≡ settle_sent (net_reopening self.now.ongoing) (net_party party) }
+        ensures { settle_messages (net_reopening self.now.ongoing).settlement result
+            ≡ settle_sent (net_reopening self.now.ongoing) (net_party party) }
     {
         self.ongoing.settle(party)
     }
 
     /// Returns what was confirmed, under the numbers of the reopening.
     pub fn settlement(&self) -> Option<&Placement>
-        ensures { option_map (λ p. settled_of p.now) result ≡ option_map what_settles (net_reopening self.now.ongoing).settlement }
+        ensures { option_map (λ p. settled_of p.now) result
+            ≡ option_map what_settles (net_reopening self.now.ongoing).settlement }
     {
         self.ongoing.settlement()
     }
 
     /// Takes the answer of a party to its settle.
     pub fn settled(&mut self, party: Party, base: u64) -> SettledEffect
-        ensures old { (result ≡ SettledEffect.Old) ↔ (is_due_settle (net_reopening self.old.ongoing) (net_party party) base ≡ false) }
+        ensures old { (result ≡ SettledEffect.Old) ↔
+            (is_due_settle (net_reopening self.old.ongoing) (net_party party) base ≡ false) }
         ensures complete { result ≡ SettledEffect.Complete → AllTook (net_reopening self.new.ongoing) }
-        ensures confirmed { result ≡ SettledEffect.Complete → is_some (net_reopening self.new.ongoing).settlement ≡ true }
+        ensures confirmed { result ≡ SettledEffect.Complete
+            → is_some (net_reopening self.new.ongoing).settlement ≡ true }
         ensures waiting { result ≡ SettledEffect.Waiting → AllTook (net_reopening self.new.ongoing) → ⊥ }
         ensures unchanged { result ≡ SettledEffect.Old → self.new ≡ self.old }
-        ensures reopening { (result ≡ SettledEffect.Old) ⊎ (net_reopening self.new.ongoing ≡ entered (Took (net_party party) base) (net_reopening self.old.ongoing)) }
+        ensures reopening { (result ≡ SettledEffect.Old)
+            ⊎ (net_reopening self.new.ongoing ≡ entered (Took (net_party party) base)
+            (net_reopening self.old.ongoing)) }
         ensures under { IsUnder self.old self.new }
     {
         self.ongoing.settled(party, base)

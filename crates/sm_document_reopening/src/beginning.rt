@@ -92,7 +92,8 @@ pub(crate) fn ground_of(
     lost: &[&str],
 ) -> Result<(Ground, Vec<Membership>), ReopenFault>
     ensures ground { IfOk result (λ g. IsGround recorded.now document.now.config g.0) }
-    ensures members { IfOk result (λ g. g.1.items ≡ members_under g.0.numbering document.now.config (map (λ n. n.now) lost.now)) }
+    ensures members { IfOk result (λ g. g.1.items
+        ≡ members_under g.0.numbering document.now.config (map (λ n. n.now) lost.now)) }
 {
     check_document(alloc, document, lost)?;
     let servers = number_servers(alloc, recorded, &document.config)?;
@@ -135,7 +136,9 @@ fn begin_over(
     epoch: u32,
 ) -> Result<Begun, ReopenFault>
     ensures begun { IfOk result (λ b. IsBegun document.now.config epoch b) }
-    ensures over { IfOk result (λ b. BeginsUnder (no_reopening (length placement.now.setup.servers)) placement.now.setup document.now.config b.ground.numbering (map (λ n. n.now) lost.now) epoch b.ongoing) }
+    ensures over { IfOk result (λ b. BeginsUnder
+        (no_reopening (length placement.now.setup.servers)) placement.now.setup document.now.config
+        b.ground.numbering (map (λ n. n.now) lost.now) epoch b.ongoing) }
     ensures setup { IfOk result (λ b. recorded_setup b.ongoing ≡ placement.now.setup) }
     ensures place { IfOk result (λ b. recorded_place b.ongoing ≡ place_of placement.now) }
 {
@@ -155,7 +158,9 @@ pub(crate) fn begin_over_driver(
     epoch: u32,
 ) -> Result<(Begun, Vec<Option<u64>>), ReopenFault>
     ensures begun { IfOk result (λ b. IsBegun document.now.config epoch b.0) }
-    ensures over { IfOk result (λ b. BeginsUnder (no_reopening (length driver.now.machine.placement.setup.servers)) driver.now.machine.placement.setup document.now.config b.0.ground.numbering (map (λ n. n.now) lost.now) epoch b.0.ongoing) }
+    ensures over { IfOk result (λ b. BeginsUnder
+        (no_reopening (length driver.now.machine.placement.setup.servers)) driver.now.machine.placement.setup
+        document.now.config b.0.ground.numbering (map (λ n. n.now) lost.now) epoch b.0.ongoing) }
     ensures place { IfOk result (λ b. recorded_place b.0.ongoing ≡ (record_of driver.now).place) }
     ensures permits { IfOk result (λ b. b.1.items ≡ driver.now.permits) }
     ensures earlier { IfOk result (λ b. AreEarlierPermits (epoch_base (driver.now.epoch + 1)) b.1.items) }
@@ -174,7 +179,8 @@ pub(crate) fn begin_over_nothing(
     epoch: u32,
 ) -> Result<Begun, ReopenFault>
     ensures begun { IfOk result (λ b. IsBegun document.now.config epoch b) }
-    ensures over { IfOk result (λ b. BeginsUnder (no_reopening 0) (setup_of [] []) document.now.config b.ground.numbering (map (λ n. n.now) lost.now) epoch b.ongoing) }
+    ensures over { IfOk result (λ b. BeginsUnder (no_reopening 0)
+        (setup_of [] []) document.now.config b.ground.numbering (map (λ n. n.now) lost.now) epoch b.ongoing) }
 {
     let placement = nothing(alloc)?;
     begin_over(alloc, &placement, document, lost, epoch)

@@ -6,7 +6,9 @@ ghost use Rattle.sm_placement.specs.Setup.{names_of_servers, names_of_shards, si
 ghost use Rattle.sm_network.specs.Reopening.{Confirm, Settlement, entered};
 ghost use Rattle.sm_reopening.specs.Faults.{MayConfirm};
 ghost use Rattle.sm_reopening.specs.Ongoing.{net_reopening};
+ghost use Rattle.sm_document_reopening.specs.Chosen.{IsAsChosen, chosen_role};
 ghost use Rattle.sm_document_reopening.specs.Eased.{IsEased};
+ghost use Rattle.sm_document_reopening.specs.Proposal.{NamesLost};
 ghost use Rattle.sm_document_reopening.specs.Reopening.{IsRenumbered, IsUnder};
 ghost use Rattle.sm_document_reopening.specs.RoleGrids.{role_at};
 ghost use Rattle.sm_document_reopening.specs.Roles.{cell_by_role, is_down_in};
@@ -19,7 +21,7 @@ use crate::roles::Roles;
 use sm_placement::{OpenFault, Placement};
 use sm_plan_code::MOST_PLACES;
 use sm_reopening::ConfirmFault;
-use sm_server::ServerId;
+use sm_server::{ServerId, ShardId};
 use std::alloc::{AllocError, Global};
 
 impl DocumentReopening {
@@ -38,7 +40,8 @@ impl DocumentReopening {
         Ok(down)
     }
 
-    /// Returns by number which servers are down: those that the document calls so, and those that it has and that are recorded so.
+    /// Returns by number which servers are down: those that the document calls so, and those that it has and that are
+    /// recorded so.
     pub(crate) fn down_servers(&self, alloc: Global) -> Result<Vec<bool>, AllocError> {
         let mut down = self.recorded_down(alloc)?;
         for server in &self.document.down {
@@ -75,7 +78,9 @@ impl DocumentReopening {
     /// Gives a shard of the document the roles of its number.
     fn fill_row(&self, roles: &Roles, list: &mut Roles, shard: u32)
         requires { shard < list.old.shards }
-        ensures row { (v : ℕ) → v < list.old.servers → role_at list.new shard v ≡ role_at roles.now (slice_index_or self.now.shards shard u32.MAX) (slice_index_or self.now.servers v u32.MAX) }
+        ensures row { (v : ℕ) → v < list.old.servers
+            → role_at list.new shard v ≡ role_at roles.now (slice_index_or self.now.shards shard u32.MAX)
+            (slice_index_or self.now.servers v u32.MAX) }
         ensures others { (t v : ℕ) → t ≢ shard → role_at list.new t v ≡ role_at list.old t v }
         ensures shards { list.new.shards ≡ list.old.shards }
         ensures servers { list.new.servers ≡ list.old.servers }
@@ -88,8 +93,10 @@ impl DocumentReopening {
 
     /// Returns the roles of the document's servers and shards, under its own numbers.
     fn documents_roles(&self, alloc: Global, roles: &Roles) -> Result<Roles, AllocError>
-        ensures { IfOk result (λ list. (k v : ℕ) → k < length self.now.document.config.shards → v < length self.now.document.config.servers
-            → role_at list k v ≡ role_at roles.now (slice_index_or self.now.shards k u32.MAX) (slice_index_or self.now.servers v u32.MAX)) }
+        ensures { IfOk result (λ list. (k v : ℕ) → k < length self.now.document.config.shards
+            → v < length self.now.document.config.servers
+            → role_at list k v ≡ role_at roles.now (slice_index_or self.now.shards k u32.MAX)
+            (slice_index_or self.now.servers v u32.MAX)) }
     {
         let shards = self.document.config.shard_count();
         let servers = self.document.config.server_count();
@@ -121,9 +128,12 @@ impl DocumentReopening {
         ensures servers { IfOk result (λ p. names_of_servers p.setup ≡ names_of_servers self.now.document.config) }
         ensures shards { IfOk result (λ p. names_of_shards p.setup ≡ names_of_shards self.now.document.config) }
         ensures eased { IfOk result (λ p. IsEased self.now.document.config p.setup) }
-        ensures cells { IfOk result (λ p. (k v : ℕ) → k < length self.now.document.config.shards → v < length self.now.document.config.servers
-            → (place_of p).cells k v ≡ cell_by_role (role_at roles.now (slice_index_or self.now.shards k u32.MAX) (slice_index_or self.now.servers v u32.MAX))) }
-        ensures down { IfOk result (λ p. (v : ℕ) → v < length self.now.document.config.servers → (place_of p).down v ≡ is_down_in (map (is_down_in down.now) self.now.servers) v) }
+        ensures cells { IfOk result (λ p. (k v : ℕ) → k < length self.now.document.config.shards
+            → v < length self.now.document.config.servers
+            → (place_of p).cells k v ≡ cell_by_role (role_at roles.now (slice_index_or self.now.shards k u32.MAX)
+            (slice_index_or self.now.servers v u32.MAX))) }
+        ensures down { IfOk result (λ p. (v : ℕ) → v < length self.now.document.config.servers
+            → (place_of p).down v ≡ is_down_in (map (is_down_in down.now) self.now.servers) v) }
     {
         let roles = self.documents_roles(alloc, roles)?;
         let down = self.documents_down(alloc, down)?;
@@ -141,7 +151,10 @@ impl DocumentReopening {
         ensures servers { IfOk result (λ p. names_of_servers p.0.setup ≡ names_of_servers self.now.numbering) }
         ensures shards { IfOk result (λ p. names_of_shards p.0.setup ≡ names_of_shards self.now.numbering) }
         ensures next_settled { IfOk result (λ p. IsSettled (sizes_of p.1.setup) (place_of p.1)) }
-        ensures same { IfOk result (λ p. (room : ℕ) → IsRenumbered self.now.document.config self.now.shards self.now.servers (record { setup = p.0.setup; place = place_of p.0; room = room }) p.1) }
+        ensures same { IfOk result (λ p. (room : ℕ)
+            → IsRenumbered self.now.document.config self.now.shards self.now.servers
+            (record { setup = p.0.setup; place = place_of p.0; room = room }) p.1) }
+        ensures cells { IfOk result (λ p. (s v : ℕ) → (place_of p.0).cells s v ≡ cell_by_role (role_at roles.now s v)) }
     {
         let down = self.down_servers(alloc)?;
         let limit = self.document.limit;
@@ -150,8 +163,12 @@ impl DocumentReopening {
         Ok((settlement, next))
     }
 
-    /// Returns the roles that are proposed, but for the shards of which others were chosen.
-    fn chosen_roles(&self, alloc: Global, chosen: &[Choice]) -> Result<Roles, AllocError> {
+    /// The roles that are proposed, but for the shards of which others were chosen.
+    fn chosen_roles(&self, alloc: Global, chosen: &[Choice]) -> Result<Roles, AllocError>
+        ensures { IfOk result (λ roles. (s v : ℕ)
+            → s < length self.now.numbering.shards → v < length self.now.numbering.servers
+            → role_at roles s v ≡ chosen_role self.now chosen.now s v) }
+    {
         let mut roles = self.proposed_roles(alloc)?;
         for choice in chosen {
             roles.choose(choice, &self.shards, &self.servers);
@@ -159,14 +176,26 @@ impl DocumentReopening {
         Ok(roles)
     }
 
-    /// Confirms what is proposed, with other replicas of some shards: settles are to be sent. Otherwise nothing changes.
-    pub fn confirm(&mut self, alloc: Global, chosen: &[Choice]) -> Result<(), ConfirmRefusal>
-        ensures confirmed { OnOk result ((s : Settlement) × MayConfirm self.old.ongoing s × (net_reopening self.new.ongoing ≡ entered (Confirm s) (net_reopening self.old.ongoing))) }
+    /// Confirms what is proposed, with other replicas of some shards: settles are to be sent. The shards that may be
+    /// lost are named. Otherwise nothing changes.
+    pub fn confirm(
+        &mut self,
+        alloc: Global,
+        chosen: &[Choice],
+        named: &[ShardId],
+    ) -> Result<(), ConfirmRefusal>
+        ensures confirmed { OnOk result ((s : Settlement) × MayConfirm self.old.ongoing s
+            × (net_reopening self.new.ongoing ≡ entered (Confirm s) (net_reopening self.old.ongoing))
+            × IsAsChosen self.old chosen.now s.place) }
+        ensures named { OnOk result (NamesLost self.old named.now) }
         ensures under { OnOk result (IsUnder self.old self.new) }
         ensures unchanged { OnErr result (self.new ≡ self.old) }
     {
         if let Some(party) = self.waits_for(alloc)?.first() {
             return Err(ConfirmRefusal::Missing { party: *party });
+        }
+        if let Some(shard) = self.first_unnamed(alloc, named)? {
+            return Err(ConfirmRefusal::Unnamed { shard });
         }
         let roles = self.chosen_roles(alloc, chosen)?;
         let (settlement, next) = self.placements_of(alloc, &roles)?;
@@ -195,8 +224,11 @@ impl DocumentReopening {
         requires servers { names_of_servers settlement.setup ≡ names_of_servers self.old.numbering }
         requires shards { names_of_shards settlement.setup ≡ names_of_shards self.old.numbering }
         requires next_settled { IsSettled (sizes_of next.setup) (place_of next) }
-        requires same { (room : ℕ) → IsRenumbered self.old.document.config self.old.shards self.old.servers (record { setup = settlement.setup; place = place_of settlement; room = room }) next }
-        ensures confirmed { OnOk result ((s : Settlement) × MayConfirm self.old.ongoing s × (net_reopening self.new.ongoing ≡ entered (Confirm s) (net_reopening self.old.ongoing))) }
+        requires same { (room : ℕ) → IsRenumbered self.old.document.config self.old.shards self.old.servers
+            (record { setup = settlement.setup; place = place_of settlement; room = room }) next }
+        ensures confirmed { OnOk result ((s : Settlement) × MayConfirm self.old.ongoing s
+            × (net_reopening self.new.ongoing ≡ entered (Confirm s) (net_reopening self.old.ongoing))
+            × (s.place ≡ place_of settlement)) }
         ensures under { OnOk result (IsUnder self.old self.new) }
         ensures unchanged { OnErr result (self.new ≡ self.old) }
     {

@@ -36,6 +36,8 @@ pub enum ConfirmRefusal {
     NoMemory,
     /// The party has to answer the fence before.
     Missing { party: Party },
+    /// The shard may be lost, and is not named; or it is named, and is not among those that may be lost.
+    Unnamed { shard: ShardId },
     /// The placement that was chosen is none.
     Placement(OpenFault),
     /// The chosen cells are not what may be settled.

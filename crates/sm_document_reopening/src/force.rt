@@ -76,7 +76,8 @@ impl DocumentReopening {
 
     /// Returns which of the document's servers did not answer, in the document's order.
     fn carried_marks(&self, alloc: Global) -> Result<Vec<bool>, AllocError>
-        ensures { IfOk result (λ marks. marks.items ≡ map (λ v. not (is_some ((net_reopening self.now.ongoing).told (Server v)))) self.now.servers) }
+        ensures { IfOk result (λ marks. marks.items
+            ≡ map (λ v. not (is_some ((net_reopening self.now.ongoing).told (Server v)))) self.now.servers) }
     {
         self.servers
             .iter()
@@ -84,10 +85,12 @@ impl DocumentReopening {
             .collect(alloc)
     }
 
-    /// Puts the settlement in force: opens the driver of the next epoch, in which servers and shards have the numbers of the document's order.
+    /// Puts the settlement in force: opens the driver of the next epoch, in which servers and shards have the numbers
+    /// of the document's order.
     pub fn put_in_force(self, alloc: Global) -> Result<Driver, AllocError>
         requires { is_some (net_reopening self.ongoing).settlement ≡ true }
-        ensures { IfOk result (λ driver. (s : Settlement) → (net_reopening self.ongoing).settlement ≡ Some s → IsInForce self s driver) }
+        ensures { IfOk result (λ driver. (s : Settlement) → (net_reopening self.ongoing).settlement ≡ Some s
+            → IsInForce self s driver) }
     {
         let permits = self.kept_permits(alloc)?;
         let carried = self.carried_marks(alloc)?;

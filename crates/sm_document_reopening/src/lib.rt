@@ -1,5 +1,5 @@
-//! A reopening under a document: who takes part in it by names, what is proposed and chosen, and the driver that comes of it. It reads and
-//! writes no text.
+//! A reopening under a document: who takes part in it by names, what is proposed and chosen, and the driver that
+//! comes of it. It reads and writes no text.
 #![tactic(auto)]
 
 mod answers;

@@ -45,7 +45,9 @@ pub(crate) fn members_of(
     document: &Config,
     lost: &[&str],
 ) -> Result<Vec<Membership>, AllocError>
-    ensures { IfOk result (λ members. members.items ≡ map (membership_at numbering.now document.now (map (λ n. n.now) lost.now)) (range_with_len 0 (length numbering.now.servers))) }
+    ensures { IfOk result (λ members. members.items
+        ≡ map (membership_at numbering.now document.now (map (λ n. n.now) lost.now))
+        (range_with_len 0 (length numbering.now.servers))) }
 {
     let mut members = Vec::new(alloc);
     for number in 0..numbering.server_count() {

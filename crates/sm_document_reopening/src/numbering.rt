@@ -1,5 +1,5 @@
-//! The numbers of servers and shards while a reopening is under way: those that are recorded keep theirs, and the new ones of a document
-//! follow in its order.
+//! The numbers of servers and shards while a reopening is under way: those that are recorded keep theirs, and the new
+//! ones of a document follow in its order.
 ghost use Rattle.std.specs.Prelude.{◌≡◌, ◌++◌, ◌∷◌, [], ℕ, ◌<◌, IfOk, OnOk, Some, length, slice_get};
 ghost use Rattle.sm_placement.specs.Config.{server_names, server_row, shard_names, shard_row, setup_of};
 ghost use Rattle.sm_placement.specs.Setup.{names_of_servers, names_of_shards};
@@ -62,7 +62,8 @@ fn documented_shard(document: &Config, shard: &Shard) -> Result<Shard, AllocErro
 
 /// Gives a server the next number.
 fn append_server(rows: &mut Vec<Server>, server: &Server) -> Result<(), AllocError>
-    ensures { OnOk result (server_names rows.new.items ≡ server_names rows.old.items ++ (server_row server.now).name ∷ []) }
+    ensures { OnOk result (server_names rows.new.items
+        ≡ server_names rows.old.items ++ (server_row server.now).name ∷ []) }
 {
     rows.push(server.clone()?)?;
     Ok(())
@@ -77,7 +78,8 @@ fn server_number(
 ) -> Result<ServerId, ReopenFault>
     requires { KeepsNames (names_of_servers recorded.now) (server_names rows.old.items) }
     ensures kept { OnOk result (KeepsNames (server_names rows.old.items) (server_names rows.new.items)) }
-    ensures number { IfOk result (λ number. slice_get (server_names rows.new.items) number ≡ Some (server_row server.now).name) }
+    ensures number { IfOk result (λ number. slice_get (server_names rows.new.items) number
+        ≡ Some (server_row server.now).name) }
 {
     if let Some(number) = recorded.server_named(&server.name) {
         return Ok(number);
@@ -115,7 +117,8 @@ fn shard_number(
 ) -> Result<ShardId, ReopenFault>
     requires { KeepsNames (names_of_shards recorded.now) (shard_names rows.old.items) }
     ensures kept { OnOk result (KeepsNames (shard_names rows.old.items) (shard_names rows.new.items)) }
-    ensures number { IfOk result (λ number. slice_get (shard_names rows.new.items) number ≡ Some (shard_row shard.now).name) }
+    ensures number { IfOk result (λ number. slice_get (shard_names rows.new.items) number
+        ≡ Some (shard_row shard.now).name) }
 {
     if let Some(number) = recorded.shard_named(&shard.name) {
         return Ok(number);
@@ -177,8 +180,10 @@ pub(crate) fn number_servers(
     recorded: &Config,
     document: &Config,
 ) -> Result<NumberedServers, ReopenFault>
-    ensures kept { IfOk result (λ numbered. KeepsNames (names_of_servers recorded.now) (server_names numbered.rows.items)) }
-    ensures numbered { IfOk result (λ numbered. AreNumbered (server_names numbered.rows.items) numbered.numbers.items (names_of_servers document.now)) }
+    ensures kept { IfOk result (λ numbered. KeepsNames (names_of_servers recorded.now)
+        (server_names numbered.rows.items)) }
+    ensures numbered { IfOk result (λ numbered. AreNumbered
+        (server_names numbered.rows.items) numbered.numbers.items (names_of_servers document.now)) }
 {
     let mut rows = recorded_servers(alloc, recorded, document)?;
     let mut numbers = Vec::new(alloc);
@@ -196,8 +201,10 @@ pub(crate) fn number_shards(
     recorded: &Config,
     document: &Config,
 ) -> Result<NumberedShards, ReopenFault>
-    ensures kept { IfOk result (λ numbered. KeepsNames (names_of_shards recorded.now) (shard_names numbered.rows.items)) }
-    ensures numbered { IfOk result (λ numbered. AreNumbered (shard_names numbered.rows.items) numbered.numbers.items (names_of_shards document.now)) }
+    ensures kept { IfOk result (λ numbered. KeepsNames (names_of_shards recorded.now)
+        (shard_names numbered.rows.items)) }
+    ensures numbered { IfOk result (λ numbered. AreNumbered (shard_names numbered.rows.items) numbered.numbers.items
+        (names_of_shards document.now)) }
 {
     let mut rows = recorded_shards(alloc, recorded, document)?;
     let mut numbers = Vec::new(alloc);

@@ -104,7 +104,8 @@ impl Roles {
 
 /// Returns which of the first `servers` servers are down.
 fn servers_down(alloc: Global, down: &[bool], servers: u32) -> Result<Vec<ServerId>, AllocError>
-    ensures down { IfOk result (λ list. (v : ℕ) → v < servers → list_any (λ x. x == v) list.items ≡ is_down_in down.now v) }
+    ensures down { IfOk result (λ list. (v : ℕ) → v < servers
+        → list_any (λ x. x == v) list.items ≡ is_down_in down.now v) }
     ensures few { IfOk result (λ list. length list.items ≤ servers) }
 {
     let mut list = Vec::new(alloc);
@@ -147,7 +148,8 @@ fn floored_shards(
 ) -> Result<Vec<Shard>, AllocError>
     ensures names { IfOk result (λ rows. shard_names rows.items ≡ names_of_shards config.now) }
     ensures good { IfOk result (λ rows. list_all is_good_shard (map shard_row rows.items) ≡ true) }
-    ensures eased { IfOk result (λ rows. AreEasedBelow (length config.now.shards) config.now.shards (map shard_row rows.items)) }
+    ensures eased { IfOk result (λ rows. AreEasedBelow (length config.now.shards) config.now.shards
+        (map shard_row rows.items)) }
 {
     let mut rows = Vec::new(alloc);
     for number in 0..config.shard_count() {
@@ -191,7 +193,8 @@ pub(crate) fn settled_placement(
     ensures shards { IfOk result (λ p. names_of_shards p.setup ≡ names_of_shards config.now) }
     ensures eased { IfOk result (λ p. IsEased config.now p.setup) }
     ensures cells { IfOk result (λ p. (s v : ℕ) → (place_of p).cells s v ≡ cell_by_role (role_at roles.now s v)) }
-    ensures down { IfOk result (λ p. (v : ℕ) → v < length config.now.servers → (place_of p).down v ≡ is_down_in down.now v) }
+    ensures down { IfOk result (λ p. (v : ℕ) → v < length config.now.servers
+        → (place_of p).down v ≡ is_down_in down.now v) }
 {
     let floored = floored_config(alloc, config, roles, down)?;
     let cells = roles.cells(alloc)?;

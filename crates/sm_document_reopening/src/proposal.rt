@@ -1,12 +1,40 @@
 //! Proposals, by the numbers of a reopening.
-ghost use Rattle.std.specs.Prelude.{◌≡◌, ◌<◌, ℕ, IfOk, false, length, slice_index_or};
-ghost use Rattle.sm_document_reopening.specs.Proposal.{document_shards, has_shard, proposed_primary};
+ghost use Rattle.std.specs.Prelude.{◌≡◌, ◌<◌, ◌++◌, ◌∷◌, ℕ, [], IfNone, IfOk, OnOk, Some, false, true, length};
+ghost use Rattle.std.specs.Prelude.{slice_index_or};
+ghost use Rattle.std.specs.List.{filter};
+ghost use Rattle.sm_reopening.specs.Losses.{is_named_lost};
+ghost use Rattle.sm_reopening.specs.Ongoing.{net_reopening};
+ghost use Rattle.sm_reopening.specs.Proposal.{proposed_cell};
+ghost use Rattle.sm_document_reopening.specs.Chosen.{proposed_role, role_by_proposal, roles_with};
+ghost use Rattle.sm_document_reopening.specs.Proposal.{NamesLost, document_shards, documented_roles, has_shard};
+ghost use Rattle.sm_document_reopening.specs.Proposal.{is_shard_among, lost_shards, proposed_primary};
+ghost use Rattle.sm_document_reopening.specs.RoleGrids.{role_at};
+ghost use Rattle.sm_document_reopening.specs.Roles.{role_by_cell};
 
 use crate::marks::{is_marked, mark};
 use crate::reopening::DocumentReopening;
 use crate::roles::{Roles, role_of};
 use sm_server::{Role, ServerId, ShardId};
 use std::alloc::{AllocError, Global};
+
+/// The first of shards that is not among others.
+fn first_beside(shards: &[ShardId], others: &[ShardId]) -> Option<ShardId>
+    ensures { IfNone result ((s : ℕ) → is_shard_among shards.now s ≡ true → is_shard_among others.now s ≡ true) }
+{
+    for shard in shards {
+        if !others.contains(shard) {
+            return Some(*shard);
+        }
+    }
+    None
+}
+
+/// The first of shards that is not among others, or otherwise the first of those that is not among these.
+fn first_apart(shards: &[ShardId], others: &[ShardId]) -> Option<ShardId>
+    ensures { IfNone result ((s : ℕ) → is_shard_among others.now s ≡ is_shard_among shards.now s) }
+{
+    first_beside(shards, others).or(first_beside(others, shards))
+}
 
 /// A shard that would have fewer live replicas than its floor.
 #[derive(Clone, Copy, Debug, PartialEq, Eq)]
@@ -20,7 +48,7 @@ pub struct ShortFloor {
 #[derive(Drop)]
 pub struct Proposal {
     pub(crate) roles: Roles,
-    /// The shards of the document of which no server is left that has all.
+    /// The shards of the document of which no server is left that has all, or that may lack acknowledged writes.
     pub lost: Vec<ShardId>,
     pub floors: Vec<ShortFloor>,
     /// The servers that have not answered, and stay as they are recorded.
@@ -48,7 +76,10 @@ impl DocumentReopening {
         shard: ShardId,
         primary: &Option<ServerId>,
         server: ServerId,
-    ) -> Option<Role> {
+    ) -> Option<Role>
+        ensures { result
+            ≡ role_by_cell (proposed_cell self.now.ongoing (documented_roles self.now) shard primary.now server) }
+    {
         let documented = self.documented.list.as_slice();
         let cell = self
             .ongoing
@@ -58,6 +89,10 @@ impl DocumentReopening {
 
     /// Proposes the replicas of a shard.
     fn propose_shard(&self, roles: &mut Roles, shard: ShardId)
+        requires { roles.old.servers ≡ (net_reopening self.now.ongoing).servers }
+        ensures roles { (s v : ℕ) → s < roles.old.shards → v < roles.old.servers
+            → role_at roles.new s v ≡ roles_with (role_at roles.old) (Some shard)
+            (role_by_proposal self.now shard) s v }
         ensures shards { roles.new.shards ≡ roles.old.shards }
         ensures servers { roles.new.servers ≡ roles.old.servers }
     {
@@ -72,6 +107,9 @@ impl DocumentReopening {
     pub(crate) fn proposed_roles(&self, alloc: Global) -> Result<Roles, AllocError>
         ensures shards { IfOk result (λ roles. roles.shards ≡ length self.now.numbering.shards) }
         ensures servers { IfOk result (λ roles. roles.servers ≡ length self.now.numbering.servers) }
+        ensures roles { IfOk result (λ roles. (s v : ℕ)
+            → s < length self.now.numbering.shards → v < length self.now.numbering.servers
+            → role_at roles s v ≡ proposed_role self.now s v) }
     {
         let (shards, servers) = (self.numbering.shard_count(), self.numbering.server_count());
         let mut roles = Roles::none(alloc, shards, servers)?;
@@ -83,7 +121,8 @@ impl DocumentReopening {
 
     /// Returns by number which shards the document has.
     fn shard_marks(&self, alloc: Global) -> Result<Vec<bool>, AllocError>
-        ensures { IfOk result (λ marks. (k : ℕ) → k < length self.now.numbering.shards → slice_index_or marks.items k false ≡ has_shard self.now k) }
+        ensures { IfOk result (λ marks. (k : ℕ) → k < length self.now.numbering.shards
+            → slice_index_or marks.items k false ≡ has_shard self.now k) }
     {
         let mut marks = vec![in alloc; false; self.numbering.shard_count() as usize]?;
         for shard in &self.shards {
@@ -106,15 +145,48 @@ impl DocumentReopening {
         Ok(shards)
     }
 
-    /// Returns the shards of the document of which no server is left that has all.
-    fn bare_shards(&self, alloc: Global, shards: &[ShardId]) -> Result<Vec<ShardId>, AllocError> {
-        let mut bare = Vec::new(alloc);
-        for shard in shards {
-            if self.ongoing.is_bare(&self.documented.list, *shard) {
-                bare.push(*shard)?;
-            }
+    /// Adds a shard if it is named as lost.
+    fn push_lost(&self, lost: &mut Vec<ShardId>, shard: ShardId) -> Result<(), AllocError>
+        ensures { OnOk result (lost.new.items
+            ≡ lost.old.items ++ filter (is_named_lost self.now.ongoing (documented_roles self.now)) (shard ∷ [])) }
+    {
+        if self.ongoing.is_named_lost(&self.documented.list, shard) {
+            lost.push(shard)?;
         }
-        Ok(bare)
+        Ok(())
+    }
+
+    /// The shards, of these, that are named as lost.
+    fn lost_among(&self, alloc: Global, shards: &[ShardId]) -> Result<Vec<ShardId>, AllocError>
+        ensures { IfOk result (λ lost.
+            lost.items ≡ filter (is_named_lost self.now.ongoing (documented_roles self.now)) shards.now) }
+    {
+        let mut lost = Vec::new(alloc);
+        for shard in shards {
+            self.push_lost(&mut lost, *shard)?;
+        }
+        Ok(lost)
+    }
+
+    /// The shards of the document that are named as lost, in the order of their numbers.
+    pub fn lost_shards(&self, alloc: Global) -> Result<Vec<ShardId>, AllocError>
+        ensures { IfOk result (λ lost. lost.items ≡ lost_shards self.now) }
+    {
+        let shards = self.shards_in_order(alloc)?;
+        self.lost_among(alloc, &shards)
+    }
+
+    /// Returns the first shard that the proposal names as lost and that is not named here, or otherwise that is named
+    /// here and not by the proposal.
+    pub(crate) fn first_unnamed(
+        &self,
+        alloc: Global,
+        named: &[ShardId],
+    ) -> Result<Option<ShardId>, AllocError>
+        ensures { IfOk result (λ found. IfNone found (NamesLost self.now named.now)) }
+    {
+        let lost = self.lost_shards(alloc)?;
+        Ok(first_apart(&lost, named))
     }
 
     /// Returns the shards that would have fewer live replicas than their floors.
@@ -162,10 +234,12 @@ impl DocumentReopening {
     }
 
     /// Proposes what may be confirmed.
-    pub fn proposal(&self, alloc: Global) -> Result<Proposal, AllocError> {
+    pub fn proposal(&self, alloc: Global) -> Result<Proposal, AllocError>
+        ensures lost { IfOk result (λ proposal. proposal.lost.items ≡ lost_shards self.now) }
+    {
         let shards = self.shards_in_order(alloc)?;
         let roles = self.proposed_roles(alloc)?;
-        let lost = self.bare_shards(alloc, &shards)?;
+        let lost = self.lost_shards(alloc)?;
         let floors = self.short_floors(alloc, &roles, &shards)?;
         let carried = self.silent_servers(alloc)?;
         Ok(Proposal {

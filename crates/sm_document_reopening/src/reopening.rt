@@ -132,8 +132,8 @@ impl DocumentReopening {
         }
     }
 
-    /// Begins a reopening under a document over what a driver has recorded. Its fences are to be sent. If it does not begin, the document comes
-    /// back.
+    /// Begins a reopening under a document over what a driver has recorded. Its fences are to be sent. If it does not
+    /// begin, the document comes back.
     pub fn begin(
         alloc: Global,
         driver: &Driver,
@@ -142,7 +142,10 @@ impl DocumentReopening {
         epoch: u32,
     ) -> Result<DocumentReopening, (Document, ReopenFault)>
         requires { driver.now.epoch < epoch }
-        ensures over { IfOk result (λ r. BeginsUnder (no_reopening (length driver.now.machine.placement.setup.servers)) driver.now.machine.placement.setup document.config r.numbering (map (λ n. n.now) lost.now) epoch r.ongoing) }
+        ensures over { IfOk result (λ r. BeginsUnder
+            (no_reopening (length driver.now.machine.placement.setup.servers))
+            driver.now.machine.placement.setup document.config r.numbering
+            (map (λ n. n.now) lost.now) epoch r.ongoing) }
         ensures place { IfOk result (λ r. recorded_place r.ongoing ≡ (record_of driver.now).place) }
         ensures permits { IfOk result (λ r. r.permits ≡ driver.now.permits) }
         ensures journal { IfOk result (λ r. r.journal ≡ driver.now.journal) }
@@ -159,8 +162,8 @@ impl DocumentReopening {
         }
     }
 
-    /// Begins the first reopening of a journal, over nothing that is recorded. Its fences are to be sent. If it does not begin, the document
-    /// comes back.
+    /// Begins the first reopening of a journal, over nothing that is recorded. Its fences are to be sent. If it does
+    /// not begin, the document comes back.
     pub fn begin_anew(
         alloc: Global,
         document: Document,
@@ -168,7 +171,8 @@ impl DocumentReopening {
         journal: u64,
         epoch: u32,
     ) -> Result<DocumentReopening, (Document, ReopenFault)>
-        ensures over { IfOk result (λ r. BeginsUnder (no_reopening 0) (setup_of [] []) document.config r.numbering (map (λ n. n.now) lost.now) epoch r.ongoing) }
+        ensures over { IfOk result (λ r. BeginsUnder (no_reopening 0) (setup_of [] []) document.config r.numbering
+            (map (λ n. n.now) lost.now) epoch r.ongoing) }
         ensures permits { IfOk result (λ r. r.permits ≡ []) }
         ensures journal { IfOk result (λ r. r.journal ≡ journal) }
         ensures epoch { IfOk result (λ r. r.epoch ≡ epoch) }
@@ -184,8 +188,8 @@ impl DocumentReopening {
         }
     }
 
-    /// Begins the reopening that replaces this one, over what is recorded here. Its fences are to be sent. If it does not begin, the document
-    /// comes back.
+    /// Begins the reopening that replaces this one, over what is recorded here. Its fences are to be sent. If it does
+    /// not begin, the document comes back.
     pub fn replace(
         &self,
         alloc: Global,
@@ -194,7 +198,9 @@ impl DocumentReopening {
         epoch: u32,
     ) -> Result<DocumentReopening, (Document, ReopenFault)>
         requires { self.now.epoch < epoch }
-        ensures over { IfOk result (λ r. BeginsUnder (net_reopening self.now.ongoing) self.now.numbering document.config r.numbering (map (λ n. n.now) lost.now) epoch r.ongoing) }
+        ensures over { IfOk result (λ r. BeginsUnder
+            (net_reopening self.now.ongoing) self.now.numbering document.config r.numbering
+            (map (λ n. n.now) lost.now) epoch r.ongoing) }
         ensures place { IfOk result (λ r. recorded_place r.ongoing ≡ recorded_place self.now.ongoing) }
         ensures permits { IfOk result (λ r. r.permits ≡ self.now.permits) }
         ensures journal { IfOk result (λ r. r.journal ≡ self.now.journal) }
@@ -220,7 +226,9 @@ impl DocumentReopening {
         epoch: u32,
     ) -> Result<(Begun, Vec<Option<u64>>), ReopenFault>
         ensures begun { IfOk result (λ b. IsBegun document.now.config epoch b.0) }
-        ensures over { IfOk result (λ b. BeginsUnder (net_reopening self.now.ongoing) self.now.numbering document.now.config b.0.ground.numbering (map (λ n. n.now) lost.now) epoch b.0.ongoing) }
+        ensures over { IfOk result (λ b. BeginsUnder
+            (net_reopening self.now.ongoing) self.now.numbering document.now.config b.0.ground.numbering
+            (map (λ n. n.now) lost.now) epoch b.0.ongoing) }
         ensures place { IfOk result (λ b. recorded_place b.0.ongoing ≡ recorded_place self.now.ongoing) }
         ensures permits { IfOk result (λ b. b.1.items ≡ self.now.permits) }
         ensures earlier { IfOk result (λ b. AreEarlierPermits (epoch_base self.now.epoch) b.1.items) }

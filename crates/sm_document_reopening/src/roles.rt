@@ -1,5 +1,5 @@
 //! The roles of servers for shards, shard after shard, with one for each number of a server.
-ghost use Rattle.std.specs.Prelude.{◌≡◌, ◌<◌, ◌*◌, IfOk, None, Some, length, slice_index_or};
+ghost use Rattle.std.specs.Prelude.{◌≡◌, ◌<◌, ◌*◌, ℕ, IfOk, None, Some, length, slice_get, slice_index_or};
 ghost use Rattle.sm_placement.specs.Sums.{put2};
 ghost use Rattle.sm_document_reopening.specs.Roles.{cell_by_role, role_by_cell};
 
@@ -38,12 +38,14 @@ pub(crate) struct Roles {
 }
 
 impl Roles {
+    ghost use Rattle.sm_document_reopening.specs.Chosen.{given_too, role_assigned, role_given, roles_with};
     ghost use Rattle.sm_document_reopening.specs.RoleGrids.{role_at};
 
     /// Returns no roles.
     pub fn none(alloc: Global, shards: u32, servers: u32) -> Result<Roles, AllocError>
         ensures shards { IfOk result (λ roles. roles.shards ≡ shards) }
         ensures servers { IfOk result (λ roles. roles.servers ≡ servers) }
+        ensures nothing { IfOk result (λ roles. (s v : ℕ) → role_at roles s v ≡ None) }
     {
         Ok(Roles {
             shards,
@@ -86,6 +88,8 @@ impl Roles {
 
     /// Gives a server a role for a shard, or none, if both have numbers.
     pub fn assign(&mut self, shard: ShardId, server: ServerId, role: Option<Role>)
+        ensures roles { (s v : ℕ) → s < self.old.shards → v < self.old.servers
+            → role_at self.new s v ≡ role_assigned (role_at self.old) shard server role s v }
         ensures shards { self.new.shards ≡ self.old.shards }
         ensures servers { self.new.servers ≡ self.old.servers }
     {
@@ -96,6 +100,8 @@ impl Roles {
 
     /// Takes all roles of a shard away.
     fn clear(&mut self, shard: ShardId)
+        ensures roles { (s v : ℕ) → s < self.old.shards → v < self.old.servers
+            → role_at self.new s v ≡ roles_with (role_at self.old) (Some shard) (λ v. None) s v }
         ensures shards { self.new.shards ≡ self.old.shards }
         ensures servers { self.new.servers ≡ self.old.servers }
     {
@@ -104,19 +110,41 @@ impl Roles {
         }
     }
 
-    /// Gives a shard of a document other replicas, whose servers and shards have these numbers.
-    pub fn choose(&mut self, choice: &Choice, shards: &[ShardId], servers: &[ServerId])
+    /// Gives a server, by a document's number, a role for a shard.
+    fn give(&mut self, shard: ShardId, servers: &[ServerId], server: ServerId, role: Role)
+        ensures roles { (s v : ℕ) → s < self.old.shards → v < self.old.servers
+            → role_at self.new s v ≡ given_too (role_at self.old) shard (slice_get servers.now server) role s v }
         ensures shards { self.new.shards ≡ self.old.shards }
         ensures servers { self.new.servers ≡ self.old.servers }
     {
-        let Some(shard) = shards.get(choice.shard.number() as usize) else {
-            return;
-        };
-        self.clear(*shard);
-        for (server, role) in &choice.replicas {
-            if let Some(number) = servers.get(server.number() as usize) {
-                self.assign(*shard, *number, Some(*role));
-            }
+        if let Some(number) = servers.get(server.number() as usize) {
+            self.assign(shard, *number, Some(role));
+        }
+    }
+
+    /// Gives a shard these replicas, by a document's numbers of servers.
+    fn fill(&mut self, shard: ShardId, servers: &[ServerId], replicas: &[(ServerId, Role)])
+        ensures roles { (s v : ℕ) → s < self.old.shards → v < self.old.servers → role_at self.new s v
+            ≡ roles_with (role_at self.old) (Some shard) (role_given servers.now replicas.now) s v }
+        ensures shards { self.new.shards ≡ self.old.shards }
+        ensures servers { self.new.servers ≡ self.old.servers }
+    {
+        self.clear(shard);
+        for (server, role) in replicas {
+            self.give(shard, servers, *server, *role);
+        }
+    }
+
+    /// Gives a shard of a document other replicas, whose servers and shards have these numbers.
+    pub fn choose(&mut self, choice: &Choice, shards: &[ShardId], servers: &[ServerId])
+        ensures roles { (s v : ℕ) → s < self.old.shards → v < self.old.servers → role_at self.new s v
+            ≡ roles_with (role_at self.old) (slice_get shards.now choice.now.shard)
+            (role_given servers.now choice.now.replicas.items) s v }
+        ensures shards { self.new.shards ≡ self.old.shards }
+        ensures servers { self.new.servers ≡ self.old.servers }
+    {
+        if let Some(shard) = shards.get(choice.shard.number() as usize) {
+            self.fill(*shard, servers, &choice.replicas);
         }
     }
 }

@@ -4,7 +4,8 @@ ghost use Rattle.std.specs.List.{filter};
 ghost use Rattle.sm_reopening.specs.Ongoing.{is_missing, net_reopening};
 ghost use Rattle.sm_reopening.specs.Proposal.{is_the};
 ghost use Rattle.sm_reopening.specs.Settles.{is_unsettled, net_party};
-ghost use Rattle.sm_document_reopening.specs.Proposal.{awaited_parties, has_silent_lead, is_silent_primary, parties_waited_for, silent_leaders};
+ghost use Rattle.sm_document_reopening.specs.Proposal.{awaited_parties, has_silent_lead, is_silent_primary};
+ghost use Rattle.sm_document_reopening.specs.Proposal.{parties_waited_for, silent_leaders};
 ghost use Rattle.sm_document_reopening.specs.Waiting.{is_unanswered, unanswered_parties, unsettled_parties};
 
 use crate::marks::{is_marked, mark};
@@ -105,7 +106,8 @@ impl DocumentReopening {
         }
     }
 
-    /// Returns by number which servers would be primaries of shards of the document, have not answered, and are not recorded so.
+    /// Returns by number which servers would be primaries of shards of the document, have not answered, and are not
+    /// recorded so.
     fn silent_marks(&self, alloc: Global) -> Result<Vec<bool>, AllocError>
         ensures { IfOk result (λ marks. (v : ℕ) → v < (net_reopening self.now.ongoing).servers
             → slice_index_or marks.items v false ≡ has_silent_lead self.now v) }
@@ -119,7 +121,8 @@ impl DocumentReopening {
         Ok(marks)
     }
 
-    /// Returns the servers, in their order, that would be primaries of shards of the document, have not answered, and are not recorded so.
+    /// Returns the servers, in their order, that would be primaries of shards of the document, have not answered, and
+    /// are not recorded so.
     fn silent_leaders(&self, alloc: Global) -> Result<Vec<Party>, AllocError>
         ensures { IfOk result (λ parties. parties.items ≡ silent_leaders self.now) }
     {

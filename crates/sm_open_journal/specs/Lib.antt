@@ -2,10 +2,16 @@ pub mod Begun
 pub mod Bits
 pub mod Calls
 pub mod Cells
+pub mod Copies
 pub mod Failed
 pub mod Given
+pub mod History
 pub mod Messages
 pub mod Notices
 pub mod Permits
+pub mod Published
 pub mod Replies
 pub mod Restores
+pub mod Unserved
+pub mod Told
+pub mod Since

@@ -1,14 +1,15 @@
 -- Permits of restarts in replies, and the reply to an opening, which has those of the servers that are down.
-use Rattle.std.specs.Prelude.{ℕ, Bool, false, List, [], ◌++◌, codes, length, if◌then◌else◌}
+use Rattle.std.specs.Prelude.{ℕ, List, [], ◌++◌, Option, Some, None, codes, length, option_and_then, if◌then◌else◌}
 use Rattle.std.specs.List.{flat_map, range_with_len}
 use Rattle.std.specs.Option.{option_map_or}
 use Rattle.json.specs.Token.{Token}
 use Rattle.sm_placement.specs.Setup.{server_named}
 use Rattle.sm_network.specs.Controller.{is_permitted}
-use Rattle.sm_driver.specs.Driver.{DriverModel}
+use Rattle.sm_driver.specs.Driver.{DriverModel, record_of}
 use Rattle.sm_driver.specs.Permits.{permit_of}
 use Rattle.sm_commands.specs.Members.{list_member, number_member, object, object_member, server_text, text_member}
 use Rattle.sm_open_journal.specs.Bits.{bits_member}
+use Rattle.sm_open_journal.specs.Unserved.{unserved_member}
 
 -- a permit of a server
 abbrev pub permit_members : List ℕ → ℕ → List Token
@@ -18,18 +19,27 @@ permit_members server permit = text_member (codes "server") server ++ number_mem
 abbrev pub permit_member : List ℕ → List ℕ → ℕ → List Token
 permit_member word server permit = object_member word (permit_members server permit)
 
--- the server of this name is down under this permit
-abbrev pub is_down_under : DriverModel → List ℕ → ℕ → Bool
-is_down_under d name permit =
-    option_map_or (λ v. is_permitted (permit_of d.permits v) permit) (server_named d.machine.placement.setup name) false
+-- a server whose restart is approved: its permit, and the shards that nobody serves meanwhile
+abbrev pub approved_members : DriverModel → ℕ → ℕ → List Token
+approved_members d v permit =
+    permit_members (server_text d.machine.placement.setup v) permit ++ unserved_member d.machine.placement.setup (record_of d).place v
 
--- the word for what came of a permit that was given to a server: the server is down under it, or its restart has ended
-abbrev pub word_of_permit : DriverModel → List ℕ → ℕ → List ℕ
-word_of_permit d server permit = if is_down_under d server permit then codes "approved" else codes "ended"
+-- the same as a member
+abbrev pub approved_member : DriverModel → ℕ → ℕ → List Token
+approved_member d v permit = object_member (codes "approved") (approved_members d v permit)
 
--- the permit under that word, as a member
+-- the server, if it is down under this permit
+abbrev pub if_under : DriverModel → ℕ → ℕ → Option ℕ
+if_under d permit v = if is_permitted (permit_of d.permits v) permit then Some v else None
+
+-- the server of this name, if it is down under this permit
+abbrev pub server_under : DriverModel → List ℕ → ℕ → Option ℕ
+server_under d name permit = option_and_then (if_under d permit) (server_named d.machine.placement.setup name)
+
+-- what came of a permit that was given to a server, as a member: it is down under it, or its restart has ended
 abbrev pub given_member : DriverModel → List ℕ → ℕ → List Token
-given_member d server permit = permit_member (word_of_permit d server permit) server permit
+given_member d server permit =
+    option_map_or (λ v. approved_member d v permit) (server_under d server permit) (permit_member (codes "ended") server permit)
 
 -- the permit under which a server is down, if it is
 abbrev pub permit_text : DriverModel → ℕ → List Token

@@ -1,6 +1,7 @@
 //! Calls in replies.
 ghost use Rattle.std.specs.Prelude.{◌≡◌, ◌++◌, OnOk};
-ghost use Rattle.sm_open_journal.specs.Calls.{call_members, word_of_call, change_members, handover_members, word_of_role};
+ghost use Rattle.sm_open_journal.specs.Calls.{call_members, word_of_call, change_members, handover_members};
+ghost use Rattle.sm_open_journal.specs.Calls.{word_of_role};
 
 use sm_commands::{Writer, server_name, write_number, write_text};
 use sm_placement::Config;

@@ -1,7 +1,8 @@
 //! Cells in replies.
 ghost use Rattle.std.specs.Prelude.{◌≡◌, ◌<◌, ◌++◌, OnOk, length, slice_get};
 ghost use Rattle.std.specs.List.{flat_map, range_with_len};
-ghost use Rattle.sm_open_journal.specs.Cells.{cell_members, party_members, slot_at, slot_members, slot_text, slots_member, word_of_cell};
+ghost use Rattle.sm_open_journal.specs.Cells.{cell_members, party_members, slot_at, slot_members, slot_text};
+ghost use Rattle.sm_open_journal.specs.Cells.{slots_member, word_of_cell};
 
 use crate::calls::write_handover;
 use sm_commands::{Writer, shard_name, write_number, write_text};
@@ -33,7 +34,8 @@ fn write_party(writer: &mut Writer, config: &Config, cell: &Cell) -> Result<(), 
     }
 }
 
-/// Writes a cell as members of an object: its word under this name, and in a handover the other server and the handover's number.
+/// Writes a cell as members of an object: its word under this name, and in a handover the other server and the
+/// handover's number.
 pub fn write_cell(
     writer: &mut Writer,
     config: &Config,

@@ -4,7 +4,8 @@ ghost use Rattle.std.specs.Option.{option_copied};
 ghost use Rattle.sm_commands.specs.Members.{object_member};
 ghost use Rattle.sm_driver.specs.Driver.{record_of};
 ghost use Rattle.sm_driver.specs.Orders.{net_message};
-ghost use Rattle.sm_open_journal.specs.Failed.{cause_members, failed_member, failure_members, nonce_above, nonce_for, nonce_members, nonce_now, unknown_members};
+ghost use Rattle.sm_open_journal.specs.Failed.{cause_members, failed_member, failure_members, nonce_above, nonce_for};
+ghost use Rattle.sm_open_journal.specs.Failed.{nonce_members, nonce_now, unknown_members};
 
 use crate::bits::write_bits;
 use crate::opened::Opened;
@@ -113,7 +114,8 @@ fn write_failure(
     answer: FailedAnswer,
     nonce: Option<u64>,
 ) -> Result<(), AllocError>
-    ensures { OnOk result (writer.new.tokens ≡ writer.old.tokens ++ object_member (codes "failed") (failure_members answer nonce)) }
+    ensures { OnOk result (writer.new.tokens ≡ writer.old.tokens
+        ++ object_member (codes "failed") (failure_members answer nonce)) }
 {
     writer.key("failed")?;
     writer.begin_object()?;

@@ -1,4 +1,6 @@
 //! The history: what happened at which place. A place counts the commands that changed something.
+ghost use Rattle.std.specs.Prelude.{◌≡◌, length, slice_index_or};
+ghost use Rattle.sm_open_journal.specs.History.{ended_at, ordered_at, published_at};
 
 use indexmap::IndexMap;
 use sm_reservation::StreamId;
@@ -31,6 +33,16 @@ pub struct History {
     /// The places where cells were recorded last that have changed since.
     recorded: IndexMap<CellAt, u64>,
     plans: Vec<PlanPlaces>,
+}
+
+/// The place at an index, 0 if there is none.
+fn place_at(places: &[u64], index: usize) -> u64
+    ensures { result ≡ slice_index_or places.now index 0 }
+{
+    match places.get(index) {
+        Some(place) => *place,
+        None => 0,
+    }
 }
 
 impl History {
@@ -101,25 +113,38 @@ impl History {
         Ok(())
     }
 
-    /// Returns where the present order of a stream came up, 0 if nothing is known of it.
-    pub fn ordered(&self, id: StreamId) -> u64 {
+    /// The place where a stream came to where it stands, 0 if nothing is known of it.
+    pub fn ordered(&self, id: StreamId) -> u64
+        ensures { result ≡ ordered_at self.now id }
+    {
         match self.plans.get(id.plan as usize) {
-            Some(plan) => plan.ordered.get(id.stream as usize).copied().unwrap_or(0),
+            Some(plan) => place_at(plan.ordered.as_slice(), id.stream as usize),
             None => 0,
         }
     }
 
-    /// Returns where a plan has ended, if it has.
-    pub fn ended(&self, number: u32) -> Option<u64> {
-        self.plans.get(number as usize)?.ended
+    /// The number of plans that have begun in the present epoch.
+    pub fn plan_count(&self) -> usize
+        ensures { result ≡ length self.now.plans.items }
+    {
+        self.plans.len()
     }
 
-    /// Returns where a shard's entry of the map changed last, 0 if nothing is known of it.
-    pub fn published(&self, shard: ShardId) -> u64 {
-        self.published
-            .get(shard.number() as usize)
-            .copied()
-            .unwrap_or(0)
+    /// The place where a plan has ended, if it has.
+    pub fn ended(&self, number: usize) -> Option<u64>
+        ensures { result ≡ ended_at self.now number }
+    {
+        match self.plans.get(number) {
+            Some(plan) => plan.ended,
+            None => None,
+        }
+    }
+
+    /// The place where a shard's entry of the map changed last, 0 if nothing is known of it.
+    pub fn published(&self, shard: ShardId) -> u64
+        ensures { result ≡ published_at self.now shard }
+    {
+        place_at(self.published.as_slice(), shard.number() as usize)
     }
 
     /// Returns where it was recorded last what a server has of a shard.

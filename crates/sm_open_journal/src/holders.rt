@@ -12,7 +12,8 @@ use sm_placement::{Config, Lead, Placement};
 use sm_server::{ServerId, ShardId};
 use std::alloc::AllocError;
 
-/// Returns the server that has a shard's data under a lead: in a handover the old owner until the new one has taken over.
+/// Returns the server that has a shard's data under a lead: in a handover the old owner until the new one has taken
+/// over.
 fn owner_under(lead: Option<Lead>) -> Option<ServerId>
     ensures { result ≡ owner_under lead }
 {
@@ -26,8 +27,9 @@ fn owner_under(lead: Option<Lead>) -> Option<ServerId>
 }
 
 /// Returns the server that has a shard's data: none if there is no such shard.
-fn owner_of(placement: &Placement, shard: ShardId) -> Option<ServerId>
-    ensures { result ≡ owner_under (lead_of (length placement.now.setup.servers) ((place_of placement.now).cells shard)) }
+pub fn owner_of(placement: &Placement, shard: ShardId) -> Option<ServerId>
+    ensures { result ≡ owner_under (lead_of (length placement.now.setup.servers)
+        ((place_of placement.now).cells shard)) }
 {
     if shard.number() >= placement.config().shard_count() {
         return None;
@@ -53,7 +55,8 @@ pub fn write_listed(
     name: &str,
     listed: Option<ServerId>,
 ) -> Result<(), AllocError>
-    ensures { OnOk result (writer.new.tokens ≡ writer.old.tokens ++ name_member name.now (option_map (server_text config.now) listed)) }
+    ensures { OnOk result (writer.new.tokens ≡ writer.old.tokens
+        ++ name_member name.now (option_map (server_text config.now) listed)) }
 {
     writer.key(name)?;
     match listed {
@@ -70,7 +73,8 @@ fn write_replica(
     server: ServerId,
 ) -> Result<(), AllocError>
     requires { server < length placement.now.setup.servers }
-    ensures { OnOk result (writer.new.tokens ≡ writer.old.tokens ++ replica_text placement.now.setup ((place_of placement.now).cells shard) server) }
+    ensures { OnOk result (writer.new.tokens ≡ writer.old.tokens
+        ++ replica_text placement.now.setup ((place_of placement.now).cells shard) server) }
 {
     if has_replica(placement, shard, server) {
         writer.string(server_name(placement.config(), server))?;
@@ -84,7 +88,9 @@ fn write_each_replica(
     placement: &Placement,
     shard: ShardId,
 ) -> Result<(), AllocError>
-    ensures { OnOk result (writer.new.tokens ≡ writer.old.tokens ++ flat_map (replica_text placement.now.setup ((place_of placement.now).cells shard)) (range_with_len 0 (length placement.now.setup.servers))) }
+    ensures { OnOk result (writer.new.tokens ≡ writer.old.tokens
+        ++ flat_map (replica_text placement.now.setup ((place_of placement.now).cells shard))
+        (range_with_len 0 (length placement.now.setup.servers))) }
 {
     for server in 0..placement.config().server_count() {
         write_replica(writer, placement, shard, ServerId::new(server))?;
@@ -98,7 +104,8 @@ fn write_replicas(
     placement: &Placement,
     shard: ShardId,
 ) -> Result<(), AllocError>
-    ensures { OnOk result (writer.new.tokens ≡ writer.old.tokens ++ replicas_member placement.now.setup ((place_of placement.now).cells shard)) }
+    ensures { OnOk result (writer.new.tokens ≡ writer.old.tokens
+        ++ replicas_member placement.now.setup ((place_of placement.now).cells shard)) }
 {
     writer.key("replicas")?;
     writer.begin_array()?;
@@ -113,7 +120,8 @@ pub fn write_holders(
     placement: &Placement,
     shard: ShardId,
 ) -> Result<(), AllocError>
-    ensures { OnOk result (writer.new.tokens ≡ writer.old.tokens ++ holder_members placement.now.setup ((place_of placement.now).cells shard)) }
+    ensures { OnOk result (writer.new.tokens ≡ writer.old.tokens
+        ++ holder_members placement.now.setup ((place_of placement.now).cells shard)) }
 {
     let owner = owner_of(placement, shard);
     write_listed(writer, placement.config(), "primary", owner)?;

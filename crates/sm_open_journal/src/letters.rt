@@ -5,7 +5,8 @@ ghost use Rattle.sm_placement.specs.Layout.{place_of};
 ghost use Rattle.sm_driver.specs.Driver.{record_of};
 ghost use Rattle.sm_driver.specs.Orders.{net_order, net_publication};
 ghost use Rattle.sm_open_journal.specs.Calls.{asked_members, published_members, size_members};
-ghost use Rattle.sm_open_journal.specs.Messages.{head_members, letter_by, letter_text, stream_message, notice_by, notice_text, outgoing_text};
+ghost use Rattle.sm_open_journal.specs.Messages.{head_members, letter_by, letter_text, stream_message, notice_by};
+ghost use Rattle.sm_open_journal.specs.Messages.{notice_text, outgoing_text};
 
 use crate::bits::write_bits;
 use crate::calls::{call_word, write_call};
@@ -52,7 +53,8 @@ fn write_asked(writer: &mut Writer, config: &Config, asked: &ServerCall) -> Resu
 
 /// Writes the load of an order's shard, and the room of its server.
 fn write_sizes(writer: &mut Writer, config: &Config, asked: &ServerCall) -> Result<(), AllocError>
-    ensures { OnOk result (writer.new.tokens ≡ writer.old.tokens ++ size_members ((sizes_of config.now).load asked.now.shard) ((sizes_of config.now).room asked.now.server)) }
+    ensures { OnOk result (writer.new.tokens ≡ writer.old.tokens
+        ++ size_members ((sizes_of config.now).load asked.now.shard) ((sizes_of config.now).room asked.now.server)) }
 {
     write_number(writer, "load", load_of(config, asked.shard))?;
     write_number(writer, "room", room_of(config, asked.server))?;
@@ -65,7 +67,8 @@ fn write_published(
     config: &Config,
     publication: &StreamPublication,
 ) -> Result<(), AllocError>
-    ensures { OnOk result (writer.new.tokens ≡ writer.old.tokens ++ published_members config.now publication.now.shard publication.now.entry) }
+    ensures { OnOk result (writer.new.tokens ≡ writer.old.tokens
+        ++ published_members config.now publication.now.shard publication.now.entry) }
 {
     write_name(writer, "server", None)?;
     write_text(writer, "call", "publish")?;
@@ -99,7 +102,9 @@ impl Messages<'_> {
         stream: StreamId,
         number: u64,
     ) -> Result<(), AllocError>
-        ensures { OnOk result (writer.new.tokens ≡ writer.old.tokens ++ head_members self.now.driver.now.journal self.now.driver.now.epoch self.now.driver.now.fence stream number) }
+        ensures { OnOk result (writer.new.tokens ≡ writer.old.tokens
+            ++ head_members self.now.driver.now.journal self.now.driver.now.epoch self.now.driver.now.fence stream
+            number) }
     {
         let epoch = self.driver.epoch();
         let fence = self.driver.fence();
@@ -114,7 +119,8 @@ impl Messages<'_> {
 
     /// Writes an order.
     fn write_order(&self, writer: &mut Writer, order: &StreamOrder) -> Result<(), AllocError>
-        ensures { OnOk result (writer.new.tokens ≡ writer.old.tokens ++ letter_text self.now.driver.now (letter_by self.now.driver.now (net_order order.now))) }
+        ensures { OnOk result (writer.new.tokens ≡ writer.old.tokens
+            ++ letter_text self.now.driver.now (letter_by self.now.driver.now (net_order order.now))) }
     {
         let config = self.config();
         writer.begin_object()?;
@@ -133,7 +139,8 @@ impl Messages<'_> {
         publication: &StreamPublication,
     ) -> Result<(), AllocError>
         ensures { OnOk result (writer.new.tokens ≡ writer.old.tokens
-            ++ notice_text self.now.driver.now (notice_by self.now.driver.now (net_publication publication.now)) publication.now.number) }
+            ++ notice_text self.now.driver.now (notice_by self.now.driver.now (net_publication publication.now))
+            publication.now.number) }
     {
         writer.begin_object()?;
         self.write_head(writer, publication.stream, publication.number)?;

@@ -58,7 +58,8 @@ fn push_if_new(
     ids: &mut Vec<StreamId>,
 ) -> Result<(), AllocError>
     requires { is_begun (state_of machine.now) id ≡ true }
-    ensures { OnOk result (ids.new.items ≡ ids.old.items ++ (if stands_else (state_of machine.now) id since then id ∷ [] else [])) }
+    ensures { OnOk result (ids.new.items ≡ ids.old.items
+        ++ (if stands_else (state_of machine.now) id since then id ∷ [] else [])) }
 {
     if stands_else(machine, id, since) {
         ids.push(id)?;
@@ -79,7 +80,8 @@ impl Messages<'_> {
         Ok(sinces)
     }
 
-    /// The streams of a plan that have come to where they stand since they stood so: all of them, where nothing is known.
+    /// The streams of a plan that have come to where they stand since they stood so: all of them, where nothing is
+    /// known.
     pub fn gone_on(&self, plan: u32, sinces: &[u32]) -> Result<Vec<StreamId>, AllocError>
         ensures { IfOk result (λ ids. ids.items ≡ gone_on (record_of self.now.driver.now) plan sinces.now) }
     {
@@ -94,7 +96,8 @@ impl Messages<'_> {
 
     /// Writes the messages of streams.
     fn write_each(&self, writer: &mut Writer, ids: &[StreamId]) -> Result<(), AllocError>
-        ensures { OnOk result (writer.new.tokens ≡ writer.old.tokens ++ flat_map (stream_message self.now.driver.now) ids.now) }
+        ensures { OnOk result (writer.new.tokens ≡ writer.old.tokens
+            ++ flat_map (stream_message self.now.driver.now) ids.now) }
     {
         for id in ids {
             self.write_of(writer, *id)?;
@@ -103,7 +106,7 @@ impl Messages<'_> {
     }
 
     /// Writes the member `orders`: the messages of streams.
-    fn write_orders(&self, writer: &mut Writer, ids: &[StreamId]) -> Result<(), AllocError>
+    pub fn write_orders(&self, writer: &mut Writer, ids: &[StreamId]) -> Result<(), AllocError>
         ensures { OnOk result (writer.new.tokens ≡ writer.old.tokens ++ orders_member self.now.driver.now ids.now) }
     {
         writer.key("orders")?;
@@ -115,7 +118,8 @@ impl Messages<'_> {
 
     /// Writes the member `orders`: all messages, by plan, then by stream.
     pub fn write_all(&self, writer: &mut Writer) -> Result<(), AllocError>
-        ensures { OnOk result (writer.new.tokens ≡ writer.old.tokens ++ orders_member self.now.driver.now (awaiting_of (record_of self.now.driver.now))) }
+        ensures { OnOk result (writer.new.tokens ≡ writer.old.tokens
+            ++ orders_member self.now.driver.now (awaiting_of (record_of self.now.driver.now))) }
     {
         let mut waiting = Vec::new(self.alloc);
         self.driver.awaiting(&mut waiting)?;
@@ -124,7 +128,8 @@ impl Messages<'_> {
 
     /// Writes the number of a plan, if it has ended.
     fn write_if_ended(&self, writer: &mut Writer, plan: u32) -> Result<(), AllocError>
-        ensures { OnOk result (writer.new.tokens ≡ writer.old.tokens ++ ended_text (record_of self.now.driver.now) plan) }
+        ensures { OnOk result (writer.new.tokens ≡ writer.old.tokens
+            ++ ended_text (record_of self.now.driver.now) plan) }
     {
         if !self.driver.machine().unfinished().contains(&plan) {
             writer.u64(u64::from(plan))?;
@@ -134,7 +139,8 @@ impl Messages<'_> {
 
     /// Writes, as a member, the plan if it has ended.
     fn write_ended(&self, writer: &mut Writer, plan: u32) -> Result<(), AllocError>
-        ensures { OnOk result (writer.new.tokens ≡ writer.old.tokens ++ ended_member (record_of self.now.driver.now) plan) }
+        ensures { OnOk result (writer.new.tokens ≡ writer.old.tokens
+            ++ ended_member (record_of self.now.driver.now) plan) }
     {
         writer.key("ended")?;
         writer.begin_array()?;

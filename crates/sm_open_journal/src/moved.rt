@@ -23,7 +23,8 @@ impl Messages<'_> {
 
     /// Writes which stream has made its step, and where it stands.
     fn write_step(&self, writer: &mut Writer, id: StreamId) -> Result<(), AllocError>
-        ensures { OnOk result (writer.new.tokens ≡ writer.old.tokens ++ step_members (record_of self.now.driver.now) id) }
+        ensures { OnOk result (writer.new.tokens ≡ writer.old.tokens
+            ++ step_members (record_of self.now.driver.now) id) }
     {
         let at = self.position(id);
         write_number(writer, "plan", u64::from(id.plan))?;
@@ -34,7 +35,8 @@ impl Messages<'_> {
 
     /// Writes the same, as a member.
     fn write_moved(&self, writer: &mut Writer, id: StreamId) -> Result<(), AllocError>
-        ensures { OnOk result (writer.new.tokens ≡ writer.old.tokens ++ moved_member (record_of self.now.driver.now) id) }
+        ensures { OnOk result (writer.new.tokens ≡ writer.old.tokens
+            ++ moved_member (record_of self.now.driver.now) id) }
     {
         writer.key("moved")?;
         writer.begin_object()?;
@@ -51,7 +53,8 @@ impl Messages<'_> {
         id: StreamId,
         gone_on: &[StreamId],
     ) -> Result<(), AllocError>
-        ensures { OnOk result (writer.new.tokens ≡ writer.old.tokens ++ moved_members self.now.driver.now id gone_on.now) }
+        ensures { OnOk result (writer.new.tokens ≡ writer.old.tokens
+            ++ moved_members self.now.driver.now id gone_on.now) }
     {
         self.write_moved(writer, id)?;
         self.write_plan(writer, id.plan, gone_on)?;

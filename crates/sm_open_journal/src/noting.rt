@@ -26,8 +26,8 @@ pub fn note_begun(
     Ok(())
 }
 
-/// Notes that a message was answered at a place: what it has changed, which streams of its plan have gone on, and whether
-/// the plan has ended.
+/// Notes that a message was answered at a place: what it has changed, which streams of its plan have gone on, and
+/// whether the plan has ended.
 pub fn note_answered(
     history: &mut History,
     driver: &Driver,

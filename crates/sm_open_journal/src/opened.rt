@@ -2,7 +2,8 @@
 ghost use Rattle.std.specs.Prelude.{◌≡◌, ◌++◌, [], IfOk, OnOk};
 ghost use Rattle.sm_commands.specs.Members.{list_member};
 ghost use Rattle.sm_open_journal.specs.Replies.{moved_members, plan_members};
-ghost use Rattle.sm_open_journal.specs.Begun.{begun_again_members, begun_member, begun_members, begun_plan, nothing_new, plan_members_again, size_of_plan};
+ghost use Rattle.sm_open_journal.specs.Begun.{begun_again_members, begun_member, begun_members, begun_plan};
+ghost use Rattle.sm_open_journal.specs.Begun.{nothing_new, plan_members_again, size_of_plan};
 
 use crate::begun_plan::BegunPlan;
 use crate::given_permits::{GivenAt, GivenPermits};
@@ -260,7 +261,8 @@ impl Opened {
         Ok(())
     }
 
-    /// Writes, as members of a reply, the orders that a plan has now, if it is one of the present epoch, and that goes on.
+    /// Writes, as members of a reply, the orders that a plan has now, if it is one of the present epoch, and that
+    /// goes on.
     fn write_plan_again(
         &self,
         alloc: Global,

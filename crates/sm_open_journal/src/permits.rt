@@ -3,10 +3,13 @@ ghost use Rattle.std.specs.Prelude.{◌≡◌, ◌++◌, OnOk, length};
 ghost use Rattle.std.specs.List.{flat_map, range_with_len};
 ghost use Rattle.sm_driver.specs.Permits.{permit_of};
 ghost use Rattle.sm_commands.specs.Members.{server_text};
-ghost use Rattle.sm_open_journal.specs.Permits.{given_member, is_down_under, opened_member, opened_members, permit_member, permit_members, permit_text, permits_member, word_of_permit};
+ghost use Rattle.sm_open_journal.specs.Permits.{approved_member, approved_members, given_member, opened_member};
+ghost use Rattle.sm_open_journal.specs.Permits.{opened_members, permit_member, permit_members, permit_text};
+ghost use Rattle.sm_open_journal.specs.Permits.{permits_member, server_under};
 
 use crate::bits::write_bits;
 use crate::opened::Opened;
+use crate::unserved::write_unserved;
 use sm_commands::{Writer, server_name, write_number, write_text};
 use sm_server::ServerId;
 use std::alloc::{AllocError, Global};
@@ -21,7 +24,7 @@ fn write_permit_members(writer: &mut Writer, server: &str, permit: u64) -> Resul
 }
 
 /// Writes a server's permit, as a member of a reply.
-pub fn write_permit(
+fn write_permit(
     writer: &mut Writer,
     word: &str,
     server: &str,
@@ -48,25 +51,47 @@ impl Opened {
             .flatten()
     }
 
-    /// Returns whether the server of a name is down under this permit.
-    fn is_down_under(&self, server: &str, permit: u64) -> bool
-        ensures { result ≡ is_down_under self.now.driver server.now permit }
+    /// The server of this name, if it is down under this permit.
+    fn server_under(&self, name: &str, permit: u64) -> Option<ServerId>
+        ensures { result ≡ server_under self.now.driver name.now permit }
     {
-        match self.driver.machine().config().server_named(server) {
-            Some(server) => self.permit_of(server) == Some(permit),
-            None => false,
+        let server = self.driver.machine().config().server_named(name)?;
+        if self.permit_of(server) == Some(permit) {
+            Some(server)
+        } else {
+            None
         }
     }
 
-    /// Returns the word for what came of a permit that was given to a server.
-    fn word_of_permit(&self, server: &str, permit: u64) -> &'static str
-        ensures { result.now ≡ word_of_permit self.now.driver server.now permit }
+    /// Writes the members of an approved restart.
+    fn write_approved_members(
+        &self,
+        writer: &mut Writer,
+        server: ServerId,
+        permit: u64,
+    ) -> Result<(), AllocError>
+        ensures { OnOk result (writer.new.tokens ≡ writer.old.tokens
+            ++ approved_members self.now.driver server permit) }
     {
-        if self.is_down_under(server, permit) {
-            "approved"
-        } else {
-            "ended"
-        }
+        write_permit_members(writer, self.name_of(server), permit)?;
+        write_unserved(writer, self.driver.machine().placement(), server)?;
+        Ok(())
+    }
+
+    /// Writes, as a member of a reply, that the restart of a server is approved.
+    pub fn write_approved(
+        &self,
+        writer: &mut Writer,
+        server: ServerId,
+        permit: u64,
+    ) -> Result<(), AllocError>
+        ensures { OnOk result (writer.new.tokens ≡ writer.old.tokens ++ approved_member self.now.driver server permit) }
+    {
+        writer.key("approved")?;
+        writer.begin_object()?;
+        self.write_approved_members(writer, server, permit)?;
+        writer.end_object()?;
+        Ok(())
     }
 
     /// Writes, as a member, a permit that was given to a server before, and what came of it.
@@ -76,9 +101,13 @@ impl Opened {
         server: &str,
         permit: u64,
     ) -> Result<(), AllocError>
-        ensures { OnOk result (writer.new.tokens ≡ writer.old.tokens ++ given_member self.now.driver server.now permit) }
+        ensures { OnOk result (writer.new.tokens ≡ writer.old.tokens
+            ++ given_member self.now.driver server.now permit) }
     {
-        write_permit(writer, self.word_of_permit(server, permit), server, permit)
+        match self.server_under(server, permit) {
+            Some(server) => self.write_approved(writer, server, permit),
+            None => write_permit(writer, "ended", server, permit),
+        }
     }
 
     /// Returns the name of a server.
@@ -103,7 +132,8 @@ impl Opened {
     /// Writes the permits under which servers are down.
     fn write_each_permit(&self, writer: &mut Writer) -> Result<(), AllocError>
         ensures { OnOk result (writer.new.tokens
-            ≡ writer.old.tokens ++ flat_map (permit_text self.now.driver) (range_with_len 0 (length self.now.driver.machine.placement.setup.servers))) }
+            ≡ writer.old.tokens ++ flat_map (permit_text self.now.driver)
+            (range_with_len 0 (length self.now.driver.machine.placement.setup.servers))) }
     {
         for number in 0..self.driver.machine().config().server_count() {
             self.write_permit_of(writer, ServerId::new(number))?;

@@ -1,8 +1,10 @@
 //! Restores in replies.
-ghost use Rattle.std.specs.Prelude.{◌≡◌, ◌<◌, ◌++◌, OnOk, true};
+ghost use Rattle.std.specs.Prelude.{◌≡◌, ◌<◌, ◌++◌, OnOk};
+ghost use Rattle.std.specs.Option.{option_copied};
+ghost use Rattle.sm_commands.specs.Members.{server_text};
 ghost use Rattle.sm_driver.specs.Driver.{record_of};
-ghost use Rattle.sm_driver.specs.Restores.{was_told};
-ghost use Rattle.sm_open_journal.specs.Restores.{TellsKept, restore_members, restore_object};
+ghost use Rattle.sm_open_journal.specs.Restores.{TellsAgain, TellsKept, is_told, restore_members, restore_object};
+ghost use Rattle.sm_open_journal.specs.Restores.{told_under};
 
 use crate::bits::write_bits;
 use crate::cells::write_slots;
@@ -12,6 +14,7 @@ use sm_commands::{Writer, server_name, write_number, write_text};
 use sm_driver::ServerRestore;
 use sm_server::ServerId;
 use std::alloc::{AllocError, Global};
+use std::marker::Model;
 
 /// Writes the members of the restore of a server that has lost all it had.
 fn write_restore_members(
@@ -57,6 +60,20 @@ pub struct ToldRestore {
     nonce: u64,
     /// The restore as it was told, in JSON.
     text: Vec<u8>,
+}
+
+impl Model for ToldRestore {
+    ghost use Rattle.std.specs.Prelude.{string_bytes};
+    ghost use Rattle.std.specs.Str.{IsUtf8};
+    ghost use Rattle.json.specs.Lex.{tokens};
+    ghost use Rattle.sm_open_journal.specs.Copies.{good_tokens};
+    ghost use Rattle.sm_open_journal.specs.Told.{ToldModel};
+
+    ghost Value = { ToldModel };
+
+    ghost view = { λ r. record { server = string_bytes r.server; nonce = r.nonce; restore = good_tokens (tokens r.text.items) } };
+
+    ghost invariant = { λ r. IsUtf8 r.text.items };
 }
 
 /// Returns a restore with its reply's text.
@@ -107,24 +124,28 @@ pub fn told_last(
     Ok(told)
 }
 
+/// Returns the restore that a server of this name was told under a nonce in an earlier epoch.
+fn told_under<'a>(told: &'a [ToldRestore], name: &str, nonce: u64) -> Option<&'a ToldRestore>
+    ensures { option_copied result ≡ told_under told.now name.now nonce }
+{
+    told.iter()
+        .find(|told| told.server.as_str() == name && told.nonce == nonce)
+}
+
 impl Opened {
-    /// Returns what a server was told last under this nonce, if that was in an earlier epoch.
+    /// Returns what a server was told under this nonce in an earlier epoch.
     fn told_before(&self, server: ServerId, nonce: u64) -> Option<&ToldRestore>
         requires { server < (record_of self.now.driver).sizes.servers }
+        ensures { option_copied result
+            ≡ told_under self.now.told.items (server_text self.now.driver.machine.placement.setup server) nonce }
     {
-        if self.driver.restored(server).is_some() {
-            return None;
-        }
-        let name = server_name(self.driver.machine().config(), server);
-        self.told
-            .iter()
-            .find(|told| told.server.as_str() == name && told.nonce == nonce)
+        told_under(self.told.as_slice(), self.name_of(server), nonce)
     }
 
     /// Returns whether a server was told under this nonce last.
     pub fn was_told(&self, server: ServerId, nonce: u64) -> bool
         requires { server < (record_of self.now.driver).sizes.servers }
-        ensures { was_told self.now.driver.restores server nonce ≡ true → result ≡ true }
+        ensures { result ≡ is_told self.now server nonce }
     {
         match self.driver.restored(server) {
             Some(restore) => restore.nonce() == nonce,
@@ -141,7 +162,8 @@ impl Opened {
         nonce: u64,
     ) -> Result<(), AllocError>
         requires { server < (record_of self.now.driver).sizes.servers }
-        ensures { OnOk result (TellsKept self.now.driver server writer.old.tokens writer.new.tokens) }
+        ensures kept { OnOk result (TellsKept self.now.driver server writer.old.tokens writer.new.tokens) }
+        ensures again { OnOk result (TellsAgain self.now server nonce writer.old.tokens writer.new.tokens) }
     {
         writer.key("restore")?;
         match self.driver.restored(server) {

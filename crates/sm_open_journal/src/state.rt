@@ -219,7 +219,8 @@ pub fn write_plan_of(
     writer.end_object()
 }
 
-/// Returns how many places of the log are neither used nor set aside: of plans that a reopening has broken off nothing is set aside.
+/// Returns how many places of the log are neither used nor set aside: of plans that a reopening has broken off
+/// nothing is set aside.
 fn free_places(opened: &Opened, is_reopening: bool) -> u64 {
     let machine = opened.driver.machine();
     if !is_reopening {

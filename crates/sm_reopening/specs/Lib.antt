@@ -4,3 +4,4 @@ pub mod Settles
 pub mod Survivors
 pub mod Proposal
 pub mod Faults
+pub mod Losses

@@ -4,6 +4,7 @@
 
 mod faults;
 mod fencing;
+mod losses;
 mod ongoing;
 mod party;
 mod proposal;

@@ -87,7 +87,7 @@ impl OngoingReopening {
     }
 
     /// Returns whether a settle was sent to a server, by this reopening or by one that it replaced.
-    fn was_sent(&self, server: ServerId) -> bool
+    pub(crate) fn was_sent(&self, server: ServerId) -> bool
         ensures { result ≡ (net_reopening self.now).promised server }
     {
         match self.servers.get(server.number() as usize) {

@@ -18,7 +18,7 @@ fn is_replica(cell: &Cell) -> bool
 }
 
 /// Returns whether a cell has a part in its shard's lead.
-fn has_part(cell: &Cell) -> bool
+pub(crate) fn has_part(cell: &Cell) -> bool
     ensures { result ≡ has_part cell.now }
 {
     !matches!(cell, Cell::Absent | Cell::Secondary)
@@ -198,7 +198,7 @@ impl OngoingReopening {
 
     /// Returns the lowest server that has all of a shard.
     #[tactic(auto, using(sm_placement::proofs::Searches::find_range_more))]
-    fn first_whole(&self, shard: ShardId) -> Option<ServerId>
+    pub(crate) fn first_whole(&self, shard: ShardId) -> Option<ServerId>
         ensures { result ≡ first_below (net_reopening self.now).servers (has_whole self.now shard) }
     {
         for number in 0..self.server_count() {
@@ -232,7 +232,7 @@ impl OngoingReopening {
     }
 
     /// Returns whether no server is left that has all of a shard, of which there was one.
-    pub fn is_bare(&self, documented: &[Option<Role>], shard: ShardId) -> bool
+    pub(crate) fn is_bare(&self, documented: &[Option<Role>], shard: ShardId) -> bool
         ensures { result ≡ is_bare self.now (grid_of (net_reopening self.now).servers None documented.now) shard }
     {
         self.first_whole(shard).is_none() && self.first_with_something(documented, shard).is_some()

@@ -1,6 +1,7 @@
 -- What comes of lines on a reopening: what has counted is what was asked for, and all else changes nothing.
 use Rattle.std.proofs.Common.{◌≡◌, ◌∙◌, ◌⊎◌, ◌↔◌, ℕ, Bool, true, false, Bor, List, Option, Some, None, ap, inl, inr, refl, subst, sym}
 use Rattle.std.specs.Prelude.{is_some}
+use Rattle.json_tree.specs.declared.tree.Tree.{Tree}
 use Rattle.sm_network.specs.Reopening.{Inventory, Party, Told, Took, entered, is_first}
 use Rattle.sm_network.specs.ReopeningLaws.{AllTook}
 use Rattle.sm_reopening.specs.Ongoing.{net_reopening}
@@ -69,9 +70,9 @@ module _ (server : Option (Bor (List ℕ))) (base : ℕ) (told : ToldText) (old 
 
 -- ---- confirmations
 
-module _ (base : ℕ) (old new : ReopeningModel) where
+module _ (base : ℕ) (lost : List Tree) (old new : ReopeningModel) where
   -- a line that has counted is a confirmation
-  pub confirm_is : (came : ReopeningOutcome) → DoesConfirm base old came new → has_counted came ≡ true → came ≡ outcome.Confirmed
+  pub confirm_is : (came : ReopeningOutcome) → DoesConfirm base lost old came new → has_counted came ≡ true → came ≡ outcome.Confirmed
   confirm_is outcome.Fenced does is = absurd does
   confirm_is outcome.Confirmed does is = refl
   confirm_is outcome.Settled does is = absurd does
@@ -81,11 +82,11 @@ module _ (base : ℕ) (old new : ReopeningModel) where
   confirm_is (outcome.Refused _) does is = absurd (let z = is in cc)
 
   -- it is that of the line's reopening
-  pub counts_confirm : (came : ReopeningOutcome) → DoesConfirm base old came new → has_counted came ≡ true → ConfirmsAt base old new
-  counts_confirm came does is = subst (λ (it : ReopeningOutcome). DoesConfirm base old it new) (confirm_is came does is) does
+  pub counts_confirm : (came : ReopeningOutcome) → DoesConfirm base lost old came new → has_counted came ≡ true → ConfirmsAt base lost old new
+  counts_confirm came does is = subst (λ (it : ReopeningOutcome). DoesConfirm base lost old it new) (confirm_is came does is) does
 
   -- all else changes nothing
-  pub keeps_confirm : (came : ReopeningOutcome) → DoesConfirm base old came new → has_counted came ≡ false → new ≡ old
+  pub keeps_confirm : (came : ReopeningOutcome) → DoesConfirm base lost old came new → has_counted came ≡ false → new ≡ old
   keeps_confirm outcome.Fenced does is = absurd does
   keeps_confirm outcome.Confirmed does is = absurd (let z = is in cc)
   keeps_confirm outcome.Settled does is = absurd does

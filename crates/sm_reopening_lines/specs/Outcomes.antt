@@ -2,6 +2,7 @@
 use Rattle.std.specs.Prelude.{◌≡◌, ℕ, Bool, false, true, List, ◌++◌, Option, Some, None, codes, is_some}
 use Rattle.std.specs.Borrow.{Bor}
 use Rattle.json.specs.Token.{Token}
+use Rattle.json_tree.specs.declared.tree.Tree.{Tree}
 use Rattle.sm_network.specs.Reopening.{Party, is_first}
 use Rattle.sm_network.specs.ReopeningLaws.{AllTook}
 use Rattle.sm_reopening.specs.Ongoing.{net_reopening}
@@ -39,14 +40,14 @@ DoesFencedOf base told party old (outcome.Bad _) new = new ≡ old
 DoesFencedOf base told party old _ new = ⊥
 
 -- A confirmation of the reopening with this base: what may be is confirmed; or it has another base, or is confirmed already; or the cells are
--- malformed; or they may not be confirmed.
-abbrev pub DoesConfirm : ℕ → ReopeningModel → ReopeningOutcome → ReopeningModel → Type 0
-DoesConfirm base old outcome.Confirmed new = ConfirmsAt base old new
-DoesConfirm base old outcome.Old new =
+-- malformed; or they may not be confirmed, or other shards may be lost than are named.
+abbrev pub DoesConfirm : ℕ → List Tree → ReopeningModel → ReopeningOutcome → ReopeningModel → Type 0
+DoesConfirm base lost old outcome.Confirmed new = ConfirmsAt base lost old new
+DoesConfirm base lost old outcome.Old new =
     (base ≡ (net_reopening old.ongoing).base → is_some (net_reopening old.ongoing).settlement ≡ true) × (new ≡ old)
-DoesConfirm base old (outcome.Bad _) new = new ≡ old
-DoesConfirm base old (outcome.Refused _) new = new ≡ old
-DoesConfirm base old _ new = ⊥
+DoesConfirm base lost old (outcome.Bad _) new = new ≡ old
+DoesConfirm base lost old (outcome.Refused _) new = new ≡ old
+DoesConfirm base lost old _ new = ⊥
 
 -- An answer of this party to its settle with this base: it has taken it, and others have not taken theirs, or all have; or no such answer is due.
 abbrev pub DoesSettledOf : ℕ → Party → ReopeningModel → ReopeningOutcome → ReopeningModel → Type 0

@@ -1,12 +1,15 @@
 -- The effects of lines on a reopening.
-use Rattle.std.specs.Prelude.{◌≡◌, ℕ, List, [], Option, Some, None, option_map, true}
+use Rattle.std.specs.Prelude.{◌≡◌, ℕ, List, [], Option, Some, None, map, option_and_then, option_map, true, unwrap_or}
 use Rattle.std.specs.Borrow.{Bor}
 use Rattle.json_tree.specs.declared.tree.Tree.{Tree}
-use Rattle.sm_placement.specs.Setup.{Setup, server_named}
+use Rattle.sm_placement.specs.Setup.{Setup, server_named, shard_named}
 use Rattle.sm_network.specs.Reopening.{Confirm, Entries, Inventory, MapOwner, Party, Server, Settlement, Slots, Told, Took, Unknown, entered, is_first}
 use Rattle.sm_reopening.specs.Faults.{MayConfirm}
 use Rattle.sm_reopening.specs.Ongoing.{net_reopening, told_positions}
 use Rattle.sm_reopening.specs.Settles.{is_due_settle}
+use Rattle.json_tree.specs.View.{view}
+use Rattle.serde_json.specs.Find.{as_str}
+use Rattle.sm_document_reopening.specs.Proposal.{NamesLost}
 use Rattle.sm_document_reopening.specs.Reopening.{IsUnder, ReopeningModel}
 use Rattle.sm_commands.specs.declared.command.ToldText.{ToldText}
 use Rattle.sm_commands.specs.declared.command.ToldText.TheVariants as told
@@ -72,9 +75,14 @@ TakesToldBy party base told old new = (inventory : Inventory) × IsInventoryOf p
 abbrev pub TakesFenced : Option (Bor (List ℕ)) → ℕ → ToldText → ReopeningModel → ReopeningModel → Type 0
 TakesFenced server base told old new = (party : Party) × (party_named old.numbering server ≡ Some party) × TakesToldBy party base told old new
 
--- a settlement is confirmed of the reopening with this base
-abbrev pub ConfirmsAt : ℕ → ReopeningModel → ReopeningModel → Type 0
-ConfirmsAt base old new = (base ≡ (net_reopening old.ongoing).base) × TakesConfirm old new
+-- the number of the shard that a value names, or one that no shard has
+abbrev pub shard_told : Setup → Tree → ℕ
+shard_told numbering value = unwrap_or (option_and_then (shard_named numbering) (as_str (view value))) 4294967295
+
+-- a settlement is confirmed of the reopening with this base, and these values name the shards that may be lost
+abbrev pub ConfirmsAt : ℕ → List Tree → ReopeningModel → ReopeningModel → Type 0
+ConfirmsAt base lost old new =
+    (base ≡ (net_reopening old.ongoing).base) × NamesLost old (map (shard_told old.numbering) lost) × TakesConfirm old new
 
 -- the party that a line names has taken its settle with this base
 abbrev pub TakesSettledBy : Option (Bor (List ℕ)) → ℕ → ReopeningModel → ReopeningModel → Type 0

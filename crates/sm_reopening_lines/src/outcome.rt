@@ -76,8 +76,8 @@ impl ReopeningOutcome<'_> {
         }
     }
 
-    /// Writes the reply, after the change, of a reopening of this journal. Nothing is written of the last settle: the next
-    /// epoch is open, and that is told.
+    /// Writes the reply, after the change, of a reopening of this journal. Nothing is written of the last settle: the
+    /// next epoch is open, and that is told.
     pub fn write(
         &self,
         reopening: &DocumentReopening,

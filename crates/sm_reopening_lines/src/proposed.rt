@@ -31,7 +31,8 @@ fn write_each_party(
     reopening: &DocumentReopening,
     parties: &[Party],
 ) -> Result<(), AllocError>
-    ensures { OnOk result (writer.new.tokens ≡ writer.old.tokens ++ flat_map (party_text reopening.now.numbering) parties.now) }
+    ensures { OnOk result (writer.new.tokens ≡ writer.old.tokens
+        ++ flat_map (party_text reopening.now.numbering) parties.now) }
 {
     for party in parties {
         write_party(writer, reopening, *party)?;
@@ -45,7 +46,8 @@ pub fn write_waiting(
     reopening: &DocumentReopening,
     parties: &[Party],
 ) -> Result<(), AllocError>
-    ensures { OnOk result (writer.new.tokens ≡ writer.old.tokens ++ waiting_member reopening.now.numbering parties.now) }
+    ensures { OnOk result (writer.new.tokens ≡ writer.old.tokens
+        ++ waiting_member reopening.now.numbering parties.now) }
 {
     writer.key("waiting")?;
     writer.begin_array()?;

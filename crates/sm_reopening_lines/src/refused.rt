@@ -133,6 +133,23 @@ fn refuse_stray(
     }
 }
 
+/// Writes that a shard may be lost and is not named, or is named and not among those.
+fn refuse_unnamed(
+    writer: &mut Writer,
+    alloc: Global,
+    reopening: &DocumentReopening,
+    shard: ShardId,
+) -> Result<(), AllocError>
+    ensures { OnOk result (TellsRefused writer.old.tokens writer.new.tokens) }
+{
+    let numbering = reopening.numbering();
+    if shard.number() >= numbering.shard_count() {
+        return refuse(writer, alloc, "Unnamed", &[]);
+    }
+    let shard = Field::Name("shard", shard_name(numbering, shard));
+    refuse(writer, alloc, "Unnamed", &[shard])
+}
+
 /// Writes why nothing is confirmed.
 pub fn refuse_confirm(
     writer: &mut Writer,
@@ -145,6 +162,7 @@ pub fn refuse_confirm(
     match refusal {
         ConfirmRefusal::NoMemory => Err(AllocError),
         ConfirmRefusal::Missing { party } => refuse_missing(writer, alloc, reopening, party),
+        ConfirmRefusal::Unnamed { shard } => refuse_unnamed(writer, alloc, reopening, shard),
         ConfirmRefusal::Placement(fault) => {
             refuse_open(writer, alloc, reopening.numbering(), fault)
         }

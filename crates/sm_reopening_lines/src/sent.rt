@@ -6,7 +6,9 @@ ghost use Rattle.sm_placement.specs.Layout.{place_of};
 ghost use Rattle.sm_commands.specs.Members.{name_member, object, server_text};
 ghost use Rattle.sm_document_reopening.specs.Roles.{role_by_cell};
 ghost use Rattle.sm_reopening_lines.specs.Parties.{addressed_members, fence_text, fences_member, party_name};
-ghost use Rattle.sm_reopening_lines.specs.Settles.{brought_members, entries_member, entry_members, is_brought, settle_to, settled_cell_text, settles_member, given_slot_members, given_slot_text, given_slots_member};
+ghost use Rattle.sm_reopening_lines.specs.Settles.{brought_members, entries_member, entry_members, is_brought};
+ghost use Rattle.sm_reopening_lines.specs.Settles.{settle_to, settled_cell_text, settles_member, given_slot_members};
+ghost use Rattle.sm_reopening_lines.specs.Settles.{given_slot_text, given_slots_member};
 
 use crate::proposed::role_word;
 use sm_commands::{Writer, server_name, shard_name, write_name, write_number, write_text};
@@ -63,7 +65,8 @@ fn write_each_fence(
     journal: &str,
     parties: &[Party],
 ) -> Result<(), AllocError>
-    ensures { OnOk result (writer.new.tokens ≡ writer.old.tokens ++ flat_map (fence_text journal.now reopening.now) parties.now) }
+    ensures { OnOk result (writer.new.tokens ≡ writer.old.tokens
+        ++ flat_map (fence_text journal.now reopening.now) parties.now) }
 {
     for party in parties {
         write_fence(writer, reopening, journal, *party)?;
@@ -184,7 +187,8 @@ fn write_each_slot(
     server: ServerId,
 ) -> Result<(), AllocError>
     ensures { OnOk result (writer.new.tokens ≡ writer.old.tokens
-        ++ flat_map (given_slot_text reopening.now settlement.now.setup (place_of settlement.now) server) (range_with_len 0 (length settlement.now.setup.shards))) }
+        ++ flat_map (given_slot_text reopening.now settlement.now.setup (place_of settlement.now) server)
+        (range_with_len 0 (length settlement.now.setup.shards))) }
 {
     for number in 0..settlement.config().shard_count() {
         write_slot(writer, reopening, settlement, server, ShardId::new(number))?;
@@ -199,7 +203,8 @@ fn write_slots(
     settlement: &Placement,
     server: ServerId,
 ) -> Result<(), AllocError>
-    ensures { OnOk result (writer.new.tokens ≡ writer.old.tokens ++ given_slots_member reopening.now settlement.now.setup (place_of settlement.now) server) }
+    ensures { OnOk result (writer.new.tokens ≡ writer.old.tokens
+        ++ given_slots_member reopening.now settlement.now.setup (place_of settlement.now) server) }
 {
     writer.key("slots")?;
     writer.begin_array()?;
@@ -227,7 +232,8 @@ fn listed(settlement: &Placement, shard: ShardId) -> Option<ServerId>
 
 /// Returns the name of the server that the map lists for a shard, if it lists one.
 fn listed_name<'s>(settlement: &'s Placement, shard: ShardId) -> Option<&'s str>
-    ensures { option_map (λ name. name.now) result ≡ option_map (server_text settlement.now.setup) ((place_of settlement.now).listed shard) }
+    ensures { option_map (λ name. name.now) result
+        ≡ option_map (server_text settlement.now.setup) ((place_of settlement.now).listed shard) }
 {
     match listed(settlement, shard) {
         Some(server) => Some(server_name(settlement.config(), server)),
@@ -242,7 +248,8 @@ fn write_entry_members(
     version: u64,
     shard: ShardId,
 ) -> Result<(), AllocError>
-    ensures { OnOk result (writer.new.tokens ≡ writer.old.tokens ++ entry_members settlement.now.setup (place_of settlement.now) version shard) }
+    ensures { OnOk result (writer.new.tokens ≡ writer.old.tokens
+        ++ entry_members settlement.now.setup (place_of settlement.now) version shard) }
 {
     write_text(writer, "shard", shard_name(settlement.config(), shard))?;
     write_name(writer, "to", listed_name(settlement, shard))?;
@@ -257,7 +264,8 @@ fn write_entry(
     version: u64,
     shard: ShardId,
 ) -> Result<(), AllocError>
-    ensures { OnOk result (writer.new.tokens ≡ writer.old.tokens ++ object (entry_members settlement.now.setup (place_of settlement.now) version shard)) }
+    ensures { OnOk result (writer.new.tokens ≡ writer.old.tokens
+        ++ object (entry_members settlement.now.setup (place_of settlement.now) version shard)) }
 {
     writer.begin_object()?;
     write_entry_members(writer, settlement, version, shard)?;
@@ -288,7 +296,8 @@ fn write_entries(
     reopening: &DocumentReopening,
     settlement: &Placement,
 ) -> Result<(), AllocError>
-    ensures { OnOk result (writer.new.tokens ≡ writer.old.tokens ++ entries_member reopening.now settlement.now.setup (place_of settlement.now)) }
+    ensures { OnOk result (writer.new.tokens ≡ writer.old.tokens
+        ++ entries_member reopening.now settlement.now.setup (place_of settlement.now)) }
 {
     let shards = reopening.shards_in_order(alloc)?;
     writer.key("entries")?;
@@ -300,7 +309,8 @@ fn write_entries(
 
 /// Writes a nonce, or that there is none.
 fn write_nonce(writer: &mut Writer, alloc: Global, nonce: Option<u64>) -> Result<(), AllocError>
-    ensures { OnOk result (writer.new.tokens ≡ writer.old.tokens ++ name_member (codes "nonce") (option_map (digits 16 false) nonce)) }
+    ensures { OnOk result (writer.new.tokens ≡ writer.old.tokens
+        ++ name_member (codes "nonce") (option_map (digits 16 false) nonce)) }
 {
     match nonce {
         Some(nonce) => {
@@ -311,7 +321,8 @@ fn write_nonce(writer: &mut Writer, alloc: Global, nonce: Option<u64>) -> Result
     }
 }
 
-/// Writes what a settle brings to a party: to the map's owner all entries, to a server its slots, for the nonce that its answer had.
+/// Writes what a settle brings to a party: to the map's owner all entries, to a server its slots, for the nonce that
+/// its answer had.
 fn write_brought(
     writer: &mut Writer,
     alloc: Global,
@@ -343,7 +354,8 @@ fn write_settle(
     party: &Party,
     settle: &Settle,
 ) -> Result<(), AllocError>
-    ensures { OnOk result (writer.new.tokens ≡ writer.old.tokens ++ object (addressed_members journal.now reopening.now party.now
+    ensures { OnOk result (writer.new.tokens ≡ writer.old.tokens
+        ++ object (addressed_members journal.now reopening.now party.now
         ++ brought_members reopening.now settlement.now.setup (place_of settlement.now) party.now settle.now.nonce)) }
 {
     writer.begin_object()?;
@@ -382,7 +394,8 @@ fn write_each_settle(
     journal: &str,
     parties: &[Party],
 ) -> Result<(), AllocError>
-    ensures { OnOk result (writer.new.tokens ≡ writer.old.tokens ++ flat_map (settle_to journal.now reopening.now) parties.now) }
+    ensures { OnOk result (writer.new.tokens ≡ writer.old.tokens
+        ++ flat_map (settle_to journal.now reopening.now) parties.now) }
 {
     for party in parties {
         write_settle_to(writer, alloc, reopening, journal, *party)?;

@@ -1,20 +1,21 @@
 //! The lines that a reopening takes once it has begun.
-ghost use Rattle.std.specs.Prelude.{◌≡◌, IfOk, Some, option_map, true};
+ghost use Rattle.std.specs.Prelude.{◌≡◌, IfOk, Some, map, option_map, true};
 ghost use Rattle.sm_commands.specs.declared.command.ToldText.{ToldText};
 ghost use Rattle.sm_network.specs.Reopening.{MapOwner, Server};
 ghost use Rattle.sm_reopening.specs.States.{fits_told, net_inventory, told_position};
 ghost use Rattle.sm_reopening.specs.Ongoing.{net_reopening, shards_of};
 ghost use Rattle.sm_reopening.specs.Settles.{net_party};
 ghost use Rattle.sm_reopening_lines.specs.Outcomes.{DoesConfirm, DoesFenced, DoesFencedOf, DoesSettled, DoesSettledOf};
-ghost use Rattle.sm_reopening_lines.specs.Taken.{IsToldAs, party_named};
+ghost use Rattle.sm_reopening_lines.specs.Taken.{IsToldAs, party_named, shard_told};
 
 use crate::outcome::ReopeningOutcome;
 use crate::told::{Told, told_by_slots, told_unknown};
 use json_tree::Tree;
 use sm_commands::{BadLine, ShardChoice, SlotNeeds, ToldText, read_choices, read_slots};
 use sm_document_reopening::{Choice, ConfirmRefusal, DocumentReopening};
+use sm_placement::Config;
 use sm_reopening::{FencedEffect, Party, SettledEffect};
-use sm_server::ServerId;
+use sm_server::{ServerId, ShardId};
 use std::alloc::{AllocError, Global};
 
 /// The party that a line names, if it has a number.
@@ -148,37 +149,66 @@ fn choices_of(alloc: Global, shards: &[ShardChoice]) -> Result<Vec<Choice>, Allo
     Ok(choices)
 }
 
+/// The number of the shard that a value names: one that no shard has for a name that nobody knows.
+fn shard_told(numbering: &Config, name: &Tree<'_>) -> ShardId
+    ensures { result ≡ shard_told numbering.now name.now }
+{
+    let unknown = ShardId::new(u32::MAX);
+    match name.as_str() {
+        Some(name) => numbering.shard_named(name).unwrap_or(unknown),
+        None => unknown,
+    }
+}
+
+/// The numbers of the shards that values name.
+fn shards_told(
+    alloc: Global,
+    numbering: &Config,
+    names: &[Tree<'_>],
+) -> Result<Vec<ShardId>, AllocError>
+    ensures { IfOk result (λ shards. shards.items ≡ map (shard_told numbering.now) names.now) }
+{
+    let mut shards = Vec::new(alloc);
+    for name in names {
+        shards.push(shard_told(numbering, name))?;
+    }
+    Ok(shards)
+}
+
 /// Confirms what was chosen.
 fn confirm(
     reopening: &mut DocumentReopening,
     alloc: Global,
     shards: &[ShardChoice],
+    lost: &[Tree<'_>],
 ) -> Result<ReopeningOutcome<'static>, AllocError>
     ensures { IfOk result (λ came.
-        DoesConfirm (net_reopening reopening.old.ongoing).base reopening.old came reopening.new) }
+        DoesConfirm (net_reopening reopening.old.ongoing).base lost.now reopening.old came reopening.new) }
 {
     let chosen = choices_of(alloc, shards)?;
-    match reopening.confirm(alloc, chosen.as_slice()) {
+    let named = shards_told(alloc, reopening.numbering(), lost)?;
+    match reopening.confirm(alloc, chosen.as_slice(), named.as_slice()) {
         Ok(()) => Ok(ReopeningOutcome::Confirmed),
         Err(ConfirmRefusal::NoMemory) => Err(AllocError),
         Err(refusal) => Ok(ReopeningOutcome::Refused(refusal)),
     }
 }
 
-/// Confirms what is proposed, but for the shards whose cells are given.
+/// Confirms what is proposed, but for the shards whose cells are given. The shards that may be lost are named.
 pub fn take_confirm<'a>(
     reopening: &mut DocumentReopening,
     alloc: Global,
     base: u64,
     cells: &[Tree<'a>],
+    lost: &[Tree<'a>],
 ) -> Result<ReopeningOutcome<'a>, AllocError>
-    ensures { IfOk result (λ came. DoesConfirm base reopening.old came reopening.new) }
+    ensures { IfOk result (λ came. DoesConfirm base lost.now reopening.old came reopening.new) }
 {
     if base != reopening.base() || reopening.is_confirmed() {
         return Ok(ReopeningOutcome::Old);
     }
     match read_choices(alloc, reopening.documented(), cells)? {
-        Ok(shards) => confirm(reopening, alloc, shards.as_slice()),
+        Ok(shards) => confirm(reopening, alloc, shards.as_slice(), lost),
         Err(bad) => Ok(ReopeningOutcome::Bad(bad)),
     }
 }

@@ -88,7 +88,8 @@ fn put_slot(found: &mut Vec<FoundSlot>, shard: ShardId, slot: FoundSlot)
     }
 }
 
-/// Takes a slot: of a shard that has a number as it is told, and of any other the name, if the server has something of it.
+/// Takes a slot: of a shard that has a number as it is told, and of any other the name, if the server has something
+/// of it.
 fn take_slot(
     alloc: Global,
     numbering: &Config,
@@ -99,7 +100,8 @@ fn take_slot(
     requires { length found.old.items ≡ length numbering.now.shards }
     ensures count { OnOk result (length found.new.items ≡ length found.old.items) }
     ensures slots { OnOk result ((s : ℕ) → slot_in found.new.items s
-        ≡ (if is_text_of numbering.now s slot.now then slot_told numbering.now slot.now else slot_in found.old.items s)) }
+        ≡ (if is_text_of numbering.now s slot.now then slot_told numbering.now slot.now else slot_in found.old.items
+        s)) }
 {
     match numbering.shard_named(slot.shard) {
         Some(shard) => put_slot(found, shard, slot_told(numbering, slot)),

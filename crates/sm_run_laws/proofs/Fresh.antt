@@ -125,7 +125,7 @@ opens_over (line.Open document journal epoch) s new h = (view document.now, jour
 opens_over (line.Driver command) s new h = absurd h
 opens_over (line.Reopening (reopening.Reopen document lost journal epoch)) s new h = absurd h.0
 opens_over (line.Reopening (reopening.Fenced server base told)) s new h = absurd h
-opens_over (line.Reopening (reopening.Confirm base cells)) s new h = absurd h
+opens_over (line.Reopening (reopening.Confirm base cells lost)) s new h = absurd h
 opens_over (line.Reopening (reopening.Settled server base)) s new h = elim h [ inl stays ↦ absurd stays | inr comes ↦ absurd comes.1 ]
 opens_over (line.Question question) s new h = absurd h
 

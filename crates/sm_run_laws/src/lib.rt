@@ -1,4 +1,5 @@
-//! Laws of `smpland`'s lines over the fleet that they are about: if each line is true when it comes, all laws of the fleet hold.
+//! Laws of `smpland`'s lines over the fleet that they are about: if each line is true when it comes, all laws of the
+//! fleet hold.
 #![tactic(auto)]
 
 mod law;

@@ -1,5 +1,5 @@
 -- The outcome of a command, and the reply that tells it, say what became of the session: of one exchange.
-use Rattle.std.proofs.Common.{◌≡◌, ◌∙◌, ◌++◌, ◌∷◌, [], Bool, true, false, List, Option, Some, None, ap, refl, subst, sym}
+use Rattle.std.proofs.Common.{◌≡◌, ◌∙◌, ◌++◌, ◌∷◌, [], ℕ, Bool, true, false, List, Option, Some, None, ap, refl, subst, sym}
 use Rattle.std.specs.Prelude.{IfSome, codes, is_some}
 use Rattle.json.specs.Token.{Token}
 use Rattle.json_tree.specs.View.{view}
@@ -8,12 +8,12 @@ use Rattle.sm_reopening.specs.Ongoing.{net_reopening}
 use Rattle.sm_document_reopening.specs.Proposal.{parties_waited_for}
 use Rattle.sm_document_reopening.specs.Waiting.{unsettled_parties}
 use Rattle.sm_commands.specs.Members.{text_member}
+use Rattle.sm_commands.specs.Refusals.{own_refusal, refused_member}
 use Rattle.sm_commands.specs.declared.command.DriverCommand.{DriverCommand}
 use Rattle.sm_commands.specs.declared.command.DriverCommand.TheVariants as driver
 use Rattle.sm_commands.specs.declared.command.LineCommand.{LineCommand}
 use Rattle.sm_commands.specs.declared.command.LineCommand.TheVariants as line
 use Rattle.sm_commands.specs.declared.command.Question.{Question}
-use Rattle.sm_commands.specs.declared.command.Question.TheVariants as question
 use Rattle.sm_commands.specs.declared.command.ReopeningCommand.TheVariants as reopening
 use Rattle.sm_open_journal.specs.Bits.{hexadecimal}
 use Rattle.sm_open_journal.specs.Permits.{opened_member}
@@ -30,8 +30,8 @@ use Rattle.sm_session.specs.Changes.{Drives, Follows as GoesOn, HasChanged, Reop
 use Rattle.sm_session.specs.Declines.{Declines, DriverDeclines, Ignored, Refused, SessionDeclines}
 use Rattle.sm_session.specs.Exchanges.{ComesTo, KnowsAll, TakesOnOpen, TellsExchange, TellsClosed, is_change}
 use Rattle.sm_session.specs.Outcomes.{HasOutcome, KnowsServers, TellsOutcome, has_changed}
-use Rattle.sm_session.specs.Questions.{TellsAnswer, all_orders, orders_reply}
-use Rattle.sm_session.specs.Reopenings.{TellsUnderWay}
+use Rattle.sm_session.specs.Questions.{TellsAnswer}
+use Rattle.sm_session.specs.Reopenings.{TellsNotUnderWay, TellsUnderWay}
 use Rattle.sm_session.specs.Replies.{Follows, Reopens, TellsChanges}
 use Rattle.sm_session.specs.declared.closed.Closed.{Closed}
 use Rattle.sm_session.specs.declared.closed.Closed.TheVariants as closed
@@ -135,8 +135,8 @@ comes_changes (line.Reopening (reopening.Reopen document lost journal epoch)) op
     absurd (let z = is in cc)
 comes_changes (line.Reopening (reopening.Fenced server base told)) opened under (came.Reopening it) new after_it comes is =
     GoesOn comes.0 (fenced_taken server base told under after_it it comes.1 is)
-comes_changes (line.Reopening (reopening.Confirm base cells)) opened under (came.Reopening it) new after_it comes is =
-    GoesOn comes.0 (confirm_taken base under after_it it comes.1 is)
+comes_changes (line.Reopening (reopening.Confirm base cells lost)) opened under (came.Reopening it) new after_it comes is =
+    GoesOn comes.0 (confirm_taken base lost.now under after_it it comes.1 is)
 comes_changes (line.Reopening (reopening.Settled server base)) opened under (came.Reopening it) new after_it comes is =
     settled_changes server base opened under new after_it it comes is
 comes_changes (line.Question asked) opened under (came.Answered it) new after_it comes is = absurd (let z = is in cc)
@@ -154,8 +154,8 @@ comes_as_asked (line.Reopening (reopening.Reopen document lost journal epoch)) o
     absurd (let z = is in cc)
 comes_as_asked (line.Reopening (reopening.Fenced server base told)) opened under (came.Reopening it) new after_it comes is =
     fenced_asked server base told under after_it it comes.1 is
-comes_as_asked (line.Reopening (reopening.Confirm base cells)) opened under (came.Reopening it) new after_it comes is =
-    confirm_asked base under after_it it comes.1 is
+comes_as_asked (line.Reopening (reopening.Confirm base cells lost)) opened under (came.Reopening it) new after_it comes is =
+    confirm_asked base lost.now under after_it it comes.1 is
 comes_as_asked (line.Reopening (reopening.Settled server base)) opened under (came.Reopening it) new after_it comes is =
     settled_asked server base opened under new after_it it comes is
 comes_as_asked (line.Question asked) opened under (came.Answered it) new after_it comes is = absurd (let z = is in cc)
@@ -175,8 +175,8 @@ comes_keeps (line.Reopening (reopening.Reopen document lost journal epoch)) open
     (comes.0, comes.1)
 comes_keeps (line.Reopening (reopening.Fenced server base told)) opened under (came.Reopening it) new after_it comes is =
     (comes.0, fenced_keeps server base told under after_it it comes.1 is)
-comes_keeps (line.Reopening (reopening.Confirm base cells)) opened under (came.Reopening it) new after_it comes is =
-    (comes.0, confirm_keeps base under after_it it comes.1 is)
+comes_keeps (line.Reopening (reopening.Confirm base cells lost)) opened under (came.Reopening it) new after_it comes is =
+    (comes.0, confirm_keeps base lost.now under after_it it comes.1 is)
 comes_keeps (line.Reopening (reopening.Settled server base)) opened under (came.Reopening it) new after_it comes is =
     settled_keeps server base opened under new after_it it comes is
 comes_keeps (line.Question asked) opened under (came.Answered it) new after_it comes is = (comes.0, comes.1)
@@ -189,7 +189,7 @@ comes_knows (line.Driver command) opened under (came.Driver it) s comes = drive_
 comes_knows (line.Open document journal epoch) opened under (came.Driver it) s comes = absurd comes
 comes_knows (line.Reopening (reopening.Reopen document lost journal epoch)) opened under (came.Driver it) s comes = absurd comes
 comes_knows (line.Reopening (reopening.Fenced server base told)) opened under (came.Driver it) s comes = absurd comes
-comes_knows (line.Reopening (reopening.Confirm base cells)) opened under (came.Driver it) s comes = absurd comes
+comes_knows (line.Reopening (reopening.Confirm base cells lost)) opened under (came.Driver it) s comes = absurd comes
 comes_knows (line.Reopening (reopening.Settled server base)) opened under (came.Driver it) s comes = absurd comes
 comes_knows (line.Question asked) opened under (came.Driver it) s comes = absurd comes
 comes_knows _ opened under (came.Bad fault) s comes = tt
@@ -198,6 +198,17 @@ comes_knows _ opened under (came.Closed why) s comes = tt
 comes_knows _ opened under (came.Reopen it) s comes = tt
 comes_knows _ opened under (came.Reopening it) s comes = tt
 comes_knows _ opened under (came.Answered it) s comes = tt
+
+-- a session of these parts
+abbrev session_of : Option Opened → Option UnderWay → ℕ → Session
+session_of opened under place = record { opened = opened; under_way = under; place = place }
+
+-- sessions of the same parts are one
+pub same_session : (s n : Session) → n.opened ≡ s.opened → n.under_way ≡ s.under_way → n.place ≡ s.place → n ≡ s
+same_session s n opened under place =
+    ap (λ (x : Option Opened). session_of x n.under_way n.place) opened
+    ∙ ap (λ (x : Option UnderWay). session_of s.opened x n.place) under
+    ∙ ap (λ (x : ℕ). session_of s.opened s.under_way x) place
 
 module _ (s : Session) (before after : List Token) where
   -- the reply tells what has changed
@@ -218,31 +229,25 @@ module _ (s : Session) (before after : List Token) where
       absurd (let z = is in cc)
   comes_tells (line.Reopening (reopening.Fenced server base told)) opened under (came.Reopening it) comes is tells =
       Follows (fenced_tells server base told under s.under_way it s.opened before after comes.1 is tells)
-  comes_tells (line.Reopening (reopening.Confirm base cells)) opened under (came.Reopening it) comes is tells =
-      Follows (confirm_tells base under s.under_way it s.opened before after comes.1 is tells)
+  comes_tells (line.Reopening (reopening.Confirm base cells lost)) opened under (came.Reopening it) comes is tells =
+      Follows (confirm_tells base lost.now under s.under_way it s.opened before after comes.1 is tells)
   comes_tells (line.Reopening (reopening.Settled server base)) opened under (came.Reopening it) comes is tells =
       settled_tells server base opened under s.opened s.under_way it comes before after is tells
   comes_tells (line.Question asked) opened under (came.Answered it) comes is told = absurd (let z = is in cc)
   comes_tells _ opened under _ comes is told = absurd comes
 
-  -- it answers a command that comes again, and a question
+  -- it answers a command that comes again, and a question, which changes nothing
   pub comes_answers : (command : LineCommand) (old : Session) (it : Outcome) → ComesTo command old.opened old.under_way it s.opened s.under_way →
-      TellsExchange s it before after → Answers command old before after
-  comes_answers (line.Question question.Orders) old (came.Answered it) comes told = λ none.
-      subst (λ (q : Question). TellsAnswer q s before after) comes.2 told
-      ∙ ap (λ (u : Option UnderWay). before ++ all_orders s.opened u) (comes.1 ∙ none)
-      ∙ ap (λ (o : Option Opened). before ++ orders_reply o) comes.0
-  comes_answers (line.Driver command) old (came.Driver it) comes told =
+      (is_change it ≡ false → s.place ≡ old.place) → TellsExchange s it before after → Answers command old before after
+  comes_answers (line.Question asked) old (came.Answered it) comes place told =
+      subst (λ (t : Session). TellsAnswer asked t before after) (same_session old s comes.0 comes.1 (place refl))
+      (subst (λ (q : Question). TellsAnswer q s before after) comes.2 told)
+  comes_answers (line.Driver command) old (came.Driver it) comes place told =
       drive_answers command old.under_way s.under_way it comes.0 before after old.opened s.opened comes.1 told
-  comes_answers (line.Driver command) old (came.Closed why) comes told = rw comes.1 tt
-  comes_answers (line.Open document journal epoch) old it comes told = tt
-  comes_answers (line.Reopening command) old it comes told = tt
-  comes_answers (line.Question question.Hello) old it comes told = tt
-  comes_answers (line.Question (question.State _)) old it comes told = tt
-  comes_answers (line.Question question.Map) old it comes told = tt
-  comes_answers (line.Question (question.Since _)) old it comes told = tt
-  comes_answers (line.Question (question.InForce _)) old it comes told = tt
-  comes_answers _ old _ comes told = absurd comes
+  comes_answers (line.Driver command) old (came.Closed why) comes place told = rw comes.1 tt
+  comes_answers (line.Open document journal epoch) old it comes place told = tt
+  comes_answers (line.Reopening command) old it comes place told = tt
+  comes_answers _ old _ comes place told = absurd comes
 
   -- it declines a command that changes nothing
   pub comes_declines : (command : LineCommand) (old : Session) (it : Outcome) → ComesTo command old.opened old.under_way it s.opened s.under_way →
@@ -277,6 +282,10 @@ module _ (front : List Token) where
   told_driven (Some o) it is = told_by front o it is
   told_driven None it is = (front, tt)
 
+  told_not_under_way : (o : Option Opened) → (members : List Token) × TellsNotUnderWay o front members
+  told_not_under_way (Some o) = (front ++ text_member (codes "ignored") (codes "old"), refl)
+  told_not_under_way None = (front ++ refused_member (own_refusal (codes "NotOpened") []), (own_refusal (codes "NotOpened") [], refl))
+
   told_under_way : (o : Option Opened) (u : Option UnderWay) (it : ReopeningOutcome) → has_counted it ≡ true →
       (members : List Token) × TellsUnderWay o u it front members
   told_under_way o u outcome.Complete is = told_open o
@@ -284,9 +293,9 @@ module _ (front : List Token) where
   told_under_way o (Some u) outcome.Confirmed is = (front ++ settles_member (hexadecimal u.reopening.journal) u.reopening, refl)
   told_under_way o (Some u) outcome.Settled is =
       (front ++ waiting_member u.reopening.numbering (unsettled_parties (net_reopening u.reopening.ongoing)), refl)
-  told_under_way o None outcome.Fenced is = (front ++ text_member (codes "ignored") (codes "old"), refl)
-  told_under_way o None outcome.Confirmed is = (front ++ text_member (codes "ignored") (codes "old"), refl)
-  told_under_way o None outcome.Settled is = (front ++ text_member (codes "ignored") (codes "old"), refl)
+  told_under_way o None outcome.Fenced is = told_not_under_way o
+  told_under_way o None outcome.Confirmed is = told_not_under_way o
+  told_under_way o None outcome.Settled is = told_not_under_way o
   told_under_way o u outcome.Old is = absurd (let z = is in cc)
   told_under_way o u (outcome.Bad _) is = absurd (let z = is in cc)
   told_under_way o u (outcome.Refused _) is = absurd (let z = is in cc)

@@ -1,6 +1,6 @@
 -- What holds of what was found, by its name.
 use Rattle.std.proofs.Common.{◌≡◌, ◌∙◌, ◌++◌, Bool, false, true, List, Option, None, Some, Result, Ok, Err, IfOk, OnOk, refl, subst, sym}
-use Rattle.std.specs.Prelude.{IfSome, is_some}
+use Rattle.std.specs.Prelude.{IfErr, IfSome, is_some}
 use Rattle.json.specs.Token.{Token}
 use Rattle.sm_commands.specs.BadLines.{told_bad}
 use Rattle.sm_commands.specs.declared.bad_line.BadLine.{BadLine}
@@ -13,6 +13,10 @@ found_is P found x is holds = subst (λ o. IfSome o P) is holds
 -- so it is with what was read
 pub read_is : {A E : Type 0} (P : A → Type 0) (r : Result A E) (x : A) → r ≡ Ok x → IfOk r P → P x
 read_is P r x is holds = subst (λ (it : Result _ _). IfOk it P) is holds
+
+-- and with what could not be read
+pub not_read_is : {A E : Type 0} (P : E → Type 0) (r : Result A E) (x : E) → r ≡ Err x → IfErr r P → P x
+not_read_is P r x is holds = subst (λ (it : Result _ _). IfErr it P) is holds
 
 -- what follows from what holds of a result holds of it
 pub on_ok : {A E : Type 0} (P Q : A → Type 0) (r : Result A E) → ((x : A) → P x → Q x) → IfOk r P → IfOk r Q

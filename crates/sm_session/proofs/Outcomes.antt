@@ -1,6 +1,6 @@
 -- An outcome of a command, and the reply that tells it, say what was asked, what has changed and what is told: of one and the same thing.
 use Rattle.std.proofs.Common.{◌≡◌, ◌∙◌, ◌++◌, ◌∷◌, ◌⊎◌, [], Bool, true, false, ℕ, List, Option, Some, None, Result, Ok, Err, IfOk, ap, inl, inr, not, refl, string_bytes, subst, sym}
-use Rattle.std.specs.Prelude.{IfSome, bytes_eq, codes, if◌then◌else◌}
+use Rattle.std.specs.Prelude.{IfSome, bytes_eq, codes, if◌then◌else◌, is_some}
 use Rattle.std.proofs.lemmas.Bool.{and_parts}
 use Rattle.std.proofs.lemmas.Slice.Eq.{bytes_eq-Decides}
 use Rattle.json.specs.Token.{Token, key}
@@ -13,12 +13,15 @@ use Rattle.sm_plan_code.specs.Plan.{PlanModel}
 use Rattle.sm_verifier.specs.Plan.{IsCheckedPlan}
 use Rattle.sm_names.specs.Names.{value_of}
 use Rattle.sm_driver.specs.Driver.{DriverModel, HasBegunPlan, HasTakenStep, answer_effect, is_due, is_past, record_of}
-use Rattle.sm_driver.specs.Restores.{RestoreModel, restore_at, was_told}
+use Rattle.sm_driver.specs.Restores.{RestoreModel, restore_at}
 use Rattle.sm_driver.specs.declared.driver.AnswerEffect.{AnswerEffect}
 use Rattle.sm_driver.specs.declared.driver.AnswerEffect.TheVariants as effect
 use Rattle.sm_driver.proofs.Effects.{moved_is_due}
 use Rattle.sm_commands.specs.Members.{server_text, text_member}
-use Rattle.sm_commands.specs.Refusals.{TellsRefused}
+use Rattle.sm_refusals.specs.Plans.{check_refusal}
+use Rattle.sm_commands.specs.Refusals.{TellsRefused, shared_refusal}
+use Rattle.sm_commands.specs.declared.bad_line.BadLine.TheVariants as bad
+use Rattle.sm_commands.specs.declared.command_member.CommandMember.TheVariants.{Plan as PlanMember}
 use Rattle.sm_commands.specs.declared.command.DriverCommand.{DriverCommand}
 use Rattle.sm_commands.specs.declared.command.DriverCommand.TheVariants as driver
 use Rattle.sm_open_journal.specs.declared.begun_plan.BegunPlan.{BegunPlan}
@@ -26,9 +29,9 @@ use Rattle.sm_open_journal.specs.declared.given_permits.GivenPermit.{GivenPermit
 use Rattle.sm_open_journal.specs.declared.opened.Opened.{Opened}
 use Rattle.sm_open_journal.specs.Begun.{begun_again_members, begun_members, begun_plan}
 use Rattle.sm_open_journal.specs.Given.{given_at}
-use Rattle.sm_open_journal.specs.Permits.{given_member, opened_member, permit_member}
+use Rattle.sm_open_journal.specs.Permits.{approved_member, given_member, opened_member}
 use Rattle.sm_open_journal.specs.Replies.{gone_on, moved_members, sinces_of}
-use Rattle.sm_open_journal.specs.Restores.{TellsKept, restore_object}
+use Rattle.sm_open_journal.specs.Restores.{TellsAgain, TellsKept, is_told, restore_object, told_again}
 use Rattle.sm_session.specs.declared.decline.Decline.{Decline}
 use Rattle.sm_session.specs.declared.decline.Decline.TheVariants as decline
 use Rattle.sm_session.specs.declared.decline.Ignored.TheVariants as ignored
@@ -37,7 +40,7 @@ use Rattle.sm_session.specs.declared.driver_outcome.DriverOutcome.TheVariants as
 use Rattle.sm_session.specs.Answers.{AnswersAgain, TellsGiven}
 use Rattle.sm_session.specs.Asked.{DoesToDriver, SaysPlan}
 use Rattle.sm_session.specs.Changes.{Approves, Begins, Changes, Ends, OpensEpoch, Restores, Takes}
-use Rattle.sm_session.specs.Declines.{Declines, DriverDeclines, Ignored, Refused}
+use Rattle.sm_session.specs.Declines.{Bad, Declines, DriverDeclines, Ignored, Refused}
 use Rattle.sm_session.specs.Outcomes.{AnsweredOutcome, BeginOutcome, HasMovedWith, HasOutcome, KnowsServers, StartOutcome, TellsDecline, TellsOutcome, has_changed, ignored_word}
 use Rattle.sm_session.specs.Replies.{TellsChange}
 
@@ -109,6 +112,8 @@ Did Asked Tells is_reopening old o new =
 -- a reply that tells why nothing has come of a command declines it
 declines_by : (why : Decline) (before after : List Token) → TellsDecline why before after → Declines before after
 declines_by (decline.Ignored why) before after told = Ignored (ignored_word why, told)
+declines_by (decline.NoPlan fault) before after told = Bad (bad.Within PlanMember fault, told)
+declines_by (decline.Unchecked fault) before after told = Refused (shared_refusal (check_refusal fault), told)
 declines_by (decline.OtherServer at) before after told = Refused told
 declines_by _ before after told = told
 
@@ -134,10 +139,16 @@ given_to_other d server (Some given) before after is told = record {
 }
 
 -- a server that was told nothing is told nothing again
-untold : (d : DriverModel) (nonce : ℕ) (found : Option ℕ) (before after : List Token) → IfSome found (λ v. was_told d.restores v nonce ≡ false) →
-    IfSome found (λ v. was_told d.restores v nonce ≡ true → TellsKept d v before after)
-untold d nonce None before after is = tt
-untold d nonce (Some v) before after is = λ was. absurd (let z : true ≡ false = sym was ∙ is in cc)
+nothing_told : (found : Option (List Token)) (before after : List Token) → is_some found ≡ false →
+    IfSome found (λ restore. after ≡ before ++ key (codes "restore") ∷ restore)
+nothing_told None before after is = tt
+nothing_told (Some restore) before after is = absurd (let z : true ≡ false = is in cc)
+
+-- so it is with the server of a name, if there is one
+untold : (o : Opened) (nonce : ℕ) (found : Option ℕ) (before after : List Token) → IfSome found (λ v. is_told o v nonce ≡ false) →
+    IfSome found (λ v. TellsAgain o v nonce before after)
+untold o nonce None before after is = tt
+untold o nonce (Some v) before after is = nothing_told (told_again o v nonce) before after is
 
 -- a command that changed something
 pub did : (command : DriverCommand) (r : Bool) (old new : Opened) (o : DriverOutcome) → HasOutcome command r old o new → has_changed o ≡ true →
@@ -192,7 +203,7 @@ kept (driver.Approve name by) r old new (outcome.ApprovedBefore at) h is = h.2
 kept (driver.Approve name by) r old new (outcome.Declined (decline.OtherServer at)) h is = h.2
 kept (driver.Approve name by) r old new (outcome.Declined why) h is = h.1
 kept (driver.Restarted permit base) r old new (outcome.Declined why) h is = h
-kept (driver.Restore name nonce) r old new (outcome.RestoredBefore server under) h is = h.3
+kept (driver.Restore name nonce) r old new (outcome.RestoredBefore server under) h is = h.4
 kept (driver.Restore name nonce) r old new (outcome.Declined why) h is = h.1
 kept driver.NewEpoch r old new (outcome.Declined why) h is = h
 kept _ r old new _ h is = absurd h
@@ -200,7 +211,7 @@ kept _ r old new _ h is = absurd h
 -- a server that is told its cells is known
 pub names_known : (command : DriverCommand) (r : Bool) (old new : Opened) (o : DriverOutcome) → HasOutcome command r old o new → KnowsServers new.driver o
 names_known (driver.Restore name nonce) r old new (outcome.Restored server under) h = h.5
-names_known (driver.Restore name nonce) r old new (outcome.RestoredBefore server under) h = h.2
+names_known (driver.Restore name nonce) r old new (outcome.RestoredBefore server under) h = h.3
 names_known _ r old new (outcome.Restored server under) h = absurd h
 names_known _ r old new (outcome.RestoredBefore server under) h = absurd h
 names_known _ r old new _ h = tt
@@ -226,11 +237,11 @@ module _ (before after : List Token) where
   again (driver.Approve name by) r old new (outcome.Declined why) h told = rw h.0 tt
   again (driver.Restarted permit base) r old new o h told = tt
   again (driver.Restore name nonce) r old new (outcome.Restored server under) h told =
-      rw h.1 (λ was. absurd (let z : true ≡ false = sym was ∙ h.2 in cc))
+      rw h.1 (nothing_told (told_again old server nonce) before after h.2)
   again (driver.Restore name nonce) r old new (outcome.RestoredBefore server under) h told =
-      rw h.0 (λ was. subst (λ (o : Opened). TellsKept o.driver server before after) h.3 told)
+      rw h.0 (subst (λ (o : Opened). TellsAgain o server nonce before after) h.4 (subst (λ (n : ℕ). TellsAgain new server n before after) h.2 told))
   again (driver.Restore name nonce) r old new (outcome.Declined why) h told =
-      untold old.driver nonce (server_named old.driver.machine.placement.setup name.now) before after h.0
+      untold old nonce (server_named old.driver.machine.placement.setup name.now) before after h.0
   again driver.NewEpoch r old new o h told = tt
   again _ r old new _ h told = absurd h
 
@@ -269,8 +280,7 @@ module _ (front : List Token) where
   told_by new (outcome.Begun begun) is = (front ++ begun_members new.driver begun, refl)
   told_by new (outcome.BegunBefore begun goes_on) is = absurd (let z = is in cc)
   told_by new (outcome.Moved id gone) is = (front ++ moved_members new.driver id gone.items, refl)
-  told_by new (outcome.Approved server permit) is =
-      (front ++ permit_member (codes "approved") (server_text new.driver.machine.placement.setup server) permit, refl)
+  told_by new (outcome.Approved server permit) is = (front ++ approved_member new.driver server permit, refl)
   told_by new (outcome.ApprovedBefore at) is = absurd (let z = is in cc)
   told_by new (outcome.Up server) is = (front ++ text_member (codes "up") (server_text new.driver.machine.placement.setup server), refl)
   told_by new (outcome.Restored server nonce) is = kept_told new.driver server

@@ -1,6 +1,7 @@
 -- What comes of lines of a reopening to a session: what has counted is what was asked for, and its reply tells it.
 use Rattle.std.proofs.Common.{◌≡◌, ◌∙◌, ◌++◌, ◌⊎◌, ℕ, Bool, true, false, Bor, List, Option, Some, None, ap, inl, inr, refl, subst, sym}
 use Rattle.json.specs.Token.{Token}
+use Rattle.json_tree.specs.declared.tree.Tree.{Tree}
 use Rattle.sm_driver.specs.Driver.{DriverModel}
 use Rattle.sm_commands.specs.declared.command.ToldText.{ToldText}
 use Rattle.sm_open_journal.specs.declared.opened.Opened.{Opened}
@@ -83,25 +84,25 @@ module _ (server : Option (Bor (List ℕ))) (base : ℕ) (told : ToldText) (old 
 
 -- ---- confirmations
 
-module _ (base : ℕ) (old new : Option UnderWay) (came : ReopeningOutcome) where
+module _ (base : ℕ) (lost : List Tree) (old new : Option UnderWay) (came : ReopeningOutcome) where
   -- it is the line's
-  pub confirm_asked : DoesUnderWay (DoesConfirm base) old came new → has_counted came ≡ true → StaysUnderWay (ConfirmsAt base) old new
-  confirm_asked = stays (DoesConfirm base) came (ConfirmsAt base) old new (λ o n. counts_confirm base o n came)
+  pub confirm_asked : DoesUnderWay (DoesConfirm base lost) old came new → has_counted came ≡ true → StaysUnderWay (ConfirmsAt base lost) old new
+  confirm_asked = stays (DoesConfirm base lost) came (ConfirmsAt base lost) old new (λ o n. counts_confirm base lost o n came)
 
   -- the reopening has gone on
-  pub confirm_taken : DoesUnderWay (DoesConfirm base) old came new → has_counted came ≡ true → HasGoneOn old new
-  confirm_taken does is = goes_on (ConfirmsAt base) old new (λ o n taken. inr (inl taken.1)) (confirm_asked does is)
+  pub confirm_taken : DoesUnderWay (DoesConfirm base lost) old came new → has_counted came ≡ true → HasGoneOn old new
+  confirm_taken does is = goes_on (ConfirmsAt base lost) old new (λ o n taken. inr (inl taken.2)) (confirm_asked does is)
 
   -- or nothing has changed
-  pub confirm_keeps : DoesUnderWay (DoesConfirm base) old came new → has_counted came ≡ false → new ≡ old
-  confirm_keeps = keeps (DoesConfirm base) came old new (λ o n. keeps_confirm base o n came)
+  pub confirm_keeps : DoesUnderWay (DoesConfirm base lost) old came new → has_counted came ≡ false → new ≡ old
+  confirm_keeps = keeps (DoesConfirm base lost) came old new (λ o n. keeps_confirm base lost o n came)
 
   -- and what has is told
-  pub confirm_tells : (opened : Option Opened) (before after : List Token) → DoesUnderWay (DoesConfirm base) old came new →
+  pub confirm_tells : (opened : Option Opened) (before after : List Token) → DoesUnderWay (DoesConfirm base lost) old came new →
       has_counted came ≡ true → TellsUnderWay opened new came before after → TellsGoneOn old new before after
-  confirm_tells opened before after = tells (DoesConfirm base) came opened old new before after (λ o n does is tells.
-      Confirmed (counts_confirm base o.reopening n.reopening came does is).1
-      (subst (λ (it : ReopeningOutcome). TellsUnderWay opened (Some n) it before after) (confirm_is base o.reopening n.reopening came does is) tells))
+  confirm_tells opened before after = tells (DoesConfirm base lost) came opened old new before after (λ o n does is tells.
+      Confirmed (counts_confirm base lost o.reopening n.reopening came does is).2
+      (subst (λ (it : ReopeningOutcome). TellsUnderWay opened (Some n) it before after) (confirm_is base lost o.reopening n.reopening came does is) tells))
 
 -- ---- answers to settles
 

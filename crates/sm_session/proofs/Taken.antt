@@ -17,9 +17,9 @@ use Rattle.sm_commands.specs.declared.command.LineCommand.{LineCommand}
 use Rattle.sm_open_journal.specs.declared.opened.Opened.{Opened}
 use Rattle.sm_session.specs.Answers.{AnswersLine, AnswersObject, IsBad, IsCommand, NoObject as HasNoObject, NotJson as IsNotJson, Object, TooLong as IsTooLong}
 use Rattle.sm_session.specs.Asked.{DoesAsSaid, DoesAsTold, IsKnownOver, setup_in_force}
-use Rattle.sm_session.specs.Changes.{SessionChanges}
+use Rattle.sm_session.specs.Changes.{SessionChanges, count_after}
 use Rattle.sm_session.specs.Declines.{DeclinesBy, DeclinesLine, DeclinesValue}
-use Rattle.sm_session.specs.Exchanges.{Comes, ComesTo, Exchanges, IsNoObject, KnowsAll, NoObject, NotJson, Replies, Takes, TakesBad, TakesCommand, TellsExchange, TooLong, effect_if, is_change}
+use Rattle.sm_session.specs.Exchanges.{Comes, ComesTo, Exchanges, IsNoObject, KnowsAll, NoObject, NotJson, OfValue, Replies, Takes, TakesAgain, TakesBad, TakesCommand, TellsExchange, TooLong, effect_if, is_change}
 use Rattle.sm_session.specs.Replies.{IsLineReply, RepliesTo, TellsValue}
 use Rattle.sm_session.specs.declared.outcome.Outcome.{Outcome}
 use Rattle.sm_session.specs.declared.outcome.Outcome.TheVariants as came
@@ -27,29 +27,18 @@ use Rattle.sm_session.specs.declared.session.LineEffect.{LineEffect}
 use Rattle.sm_session.specs.declared.session.LineEffect.TheVariants.{Changed, Unchanged}
 use Rattle.sm_session.specs.declared.session.Session.{Session}
 use Rattle.sm_session.specs.declared.under_way.UnderWay.{UnderWay}
-use Rattle.sm_session.proofs.Exchanged.{comes_answers, comes_as_asked, comes_changes, comes_declines, comes_keeps, comes_knows, comes_tells, told_if_made}
-
--- a session of these parts
-abbrev session_of : Option Opened → Option UnderWay → ℕ → Session
-session_of opened under place = record { opened = opened; under_way = under; place = place }
-
--- sessions of the same parts are one
-same_session : (s n : Session) → n.opened ≡ s.opened → n.under_way ≡ s.under_way → n.place ≡ s.place → n ≡ s
-same_session s n opened under place =
-    ap (λ (x : Option Opened). session_of x n.under_way n.place) opened
-    ∙ ap (λ (x : Option UnderWay). session_of s.opened x n.place) under
-    ∙ ap (λ (x : ℕ). session_of s.opened s.under_way x) place
+use Rattle.sm_session.proofs.Exchanged.{comes_answers, comes_as_asked, comes_changes, comes_declines, comes_keeps, comes_knows, comes_tells, same_session, told_if_made}
 
 -- ---- changes
 
 -- a command that has come to its outcome is counted if something has changed
 pub counted : (command : LineCommand) (old mid new : Session) (it : Outcome) →
     ComesTo command old.opened old.under_way it mid.opened mid.under_way → mid.place ≡ old.place → new.opened ≡ mid.opened →
-    new.under_way ≡ mid.under_way → (is_change it ≡ false → new.place ≡ mid.place) → Comes command old it new
+    new.under_way ≡ mid.under_way → new.place ≡ count_after (is_change it) mid.place → Comes command old it new
 counted command old mid new it comes still opened under place = (
   subst (λ (o : Option Opened). ComesTo command old.opened old.under_way it o new.under_way) (sym opened)
       (subst (λ (u : Option UnderWay). ComesTo command old.opened old.under_way it mid.opened u) (sym under) comes),
-  λ none. place none ∙ still,
+  place ∙ ap (count_after (is_change it)) still,
 )
 
 module _ (value : Data) (old : Session) (it : Outcome) (new : Session) where
@@ -70,7 +59,7 @@ module _ (value : Data) (old : Session) (it : Outcome) (new : Session) where
   takes_keeps (TakesBad fault e same) is = same
   takes_keeps (TakesCommand command says known comes) is =
       let still = comes_keeps command old.opened old.under_way it new.opened new.under_way comes.0 is in
-      same_session old new still.0 still.1 (comes.1 is)
+      same_session old new still.0 still.1 (comes.1 ∙ ap (λ (b : Bool). count_after b old.place) is)
 
   -- the servers that are told their cells are known
   pub takes_knows : Takes value old it new → KnowsAll new it
@@ -95,7 +84,7 @@ module _ (value : Data) (old : Session) (it : Outcome) (new : Session) where
     pub value_answered : Takes value old it new → TellsExchange new it (line_id value) members → AnswersObject value old (line_id value) members
     value_answered (TakesBad fault e same) told = IsBad fault (subst (λ (o : Outcome). TellsExchange new o (line_id value) members) e told)
     value_answered (TakesCommand command says known comes) told =
-        IsCommand command says known (comes_answers new (line_id value) members command old it comes.0 told)
+        IsCommand command says known (comes_answers new (line_id value) members command old it comes.0 (λ is. comes.1 ∙ ap (λ (b : Bool). count_after b old.place) is) told)
 
     -- it declines a value that changes nothing
     pub value_declined : Takes value old it new → TellsExchange new it (line_id value) members → is_change it ≡ false →
@@ -194,6 +183,12 @@ module _ {E : Type 0} (text : List ℕ) (value : Data) (old new : Session) (befo
       IfOk r (λ effect. effect ≡ Changed → DoesAsSaid text old new)
   apply_asks (Ok effect) e = exchange_asks text value old new before after is effect e
   apply_asks (Err _) e = tt
+
+  -- and could be taken again
+  pub apply_takes : (r : Result LineEffect E) → IfOk r (λ effect. Exchanges value old effect new before after) →
+      IfOk r (λ effect. effect ≡ Changed → TakesAgain text old Changed new)
+  apply_takes (Ok effect) e = λ did. subst (λ (x : LineEffect). TakesAgain text old x new) did (OfValue value is e.outcome e.takes e.is)
+  apply_takes (Err _) e = tt
 
   -- or it is as it was
   pub apply_keeps : (r : Result LineEffect E) → IfOk r (λ effect. Exchanges value old effect new before after) →

@@ -1,5 +1,5 @@
 -- Answers to lines, whether they change something or not: a command that comes again is told what it was told, an answer that no stream waits for is
--- ignored, `orders` tells all orders, and a line that is no command is told as bad.
+-- ignored, a question is told what it asks, and a line that is no command is told as bad.
 use Rattle.std.specs.Prelude.{◌≡◌, ◌<◌, ◌⊎◌, ℕ, Bool, true, false, List, ◌++◌, Some, None, IfSome, bytes_eq, codes, is_some, length, not, string_bytes}
 use Rattle.json.specs.Token.{Token}
 use Rattle.serde_json.specs.Data.{Data}
@@ -10,7 +10,6 @@ use Rattle.sm_reservation.specs.declared.stream_id.StreamId.{StreamId}
 use Rattle.sm_plan_text.specs.Reading.{data_of}
 use Rattle.sm_names.specs.Names.{value_of}
 use Rattle.sm_driver.specs.Driver.{DriverModel}
-use Rattle.sm_driver.specs.Restores.{was_told}
 use Rattle.sm_commands.specs.BadLines.{told_bad}
 use Rattle.sm_commands.specs.Ids.{line_id}
 use Rattle.sm_commands.specs.Lines.{Says}
@@ -22,7 +21,6 @@ use Rattle.sm_commands.specs.declared.command.LineCommand.{LineCommand}
 use Rattle.sm_commands.specs.declared.command.LineCommand.TheVariants as line
 use Rattle.sm_commands.specs.declared.command.DriverCommand.{DriverCommand}
 use Rattle.sm_commands.specs.declared.command.DriverCommand.TheVariants as driver
-use Rattle.sm_commands.specs.declared.command.Question.TheVariants as question
 use Rattle.sm_commands.specs.declared.line_part.LinePart.TheVariants.{Line}
 use Rattle.sm_open_journal.specs.declared.given_permits.GivenAt.{GivenAt}
 use Rattle.sm_open_journal.specs.declared.given_permits.GivenPermit.{GivenPermit}
@@ -30,10 +28,10 @@ use Rattle.sm_open_journal.specs.declared.opened.Opened.{Opened}
 use Rattle.sm_open_journal.specs.Begun.{begun_again_members}
 use Rattle.sm_open_journal.specs.Given.{given_at}
 use Rattle.sm_open_journal.specs.Permits.{given_member}
-use Rattle.sm_open_journal.specs.Restores.{TellsKept}
+use Rattle.sm_open_journal.specs.Restores.{TellsAgain}
 use Rattle.sm_session.specs.Asked.{IsKnownOver, setup_in_force}
 use Rattle.sm_session.specs.Outcomes.{ignored_word, is_expected, why_ignored}
-use Rattle.sm_session.specs.Questions.{orders_reply}
+use Rattle.sm_session.specs.Questions.{TellsAnswer}
 use Rattle.sm_session.specs.declared.session.Session.{Session}
 use Rattle.sm_session.specs.declared.reading.TheConstants.{MOST_BYTES}
 
@@ -60,8 +58,7 @@ TellsApprovedAgain o server by before after = IfSome (value_of o.approvals by) (
 -- the server of this name was told something under this nonce: the same is told again
 abbrev pub TellsRestoredAgain : Opened → List ℕ → ℕ → List Token → List Token → Type 0
 TellsRestoredAgain o name nonce before after =
-    IfSome (server_named o.driver.machine.placement.setup name)
-    (λ server. was_told o.driver.restores server nonce ≡ true → TellsKept o.driver server before after)
+    IfSome (server_named o.driver.machine.placement.setup name) (λ server. TellsAgain o server nonce before after)
 
 -- ---- answers that tell nothing new
 
@@ -81,9 +78,9 @@ AnswersAgain (driver.Answered plan stream number) o is_reopening before after =
     TellsIgnored o.driver is_reopening (record { plan = plan; stream = stream }) number before after
 AnswersAgain _ o is_reopening before after = Unit {0}
 
--- So is a command to a session. As long as no reopening is under way, `orders` is told all orders and notices. Of other commands nothing is said.
+-- So is a command to a session, and a question is told what it asks. Of other commands nothing is said.
 abbrev pub Answers : LineCommand → Session → List Token → List Token → Type 0
-Answers (line.Question question.Orders) s before after = s.under_way ≡ None → after ≡ before ++ orders_reply s.opened
+Answers (line.Question asked) s before after = TellsAnswer asked s before after
 Answers (line.Driver command) s before after = IfSome s.opened (λ o. AnswersAgain command o (is_some s.under_way) before after)
 Answers _ s before after = Unit {0}
 

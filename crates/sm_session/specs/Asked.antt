@@ -118,7 +118,7 @@ Does (line.Open document journal epoch) opened under new after = OpensOver (view
 Does (line.Reopening (reopening.Reopen document lost journal epoch)) opened under new after =
     ReopensWithout (texts_among lost.now) opened under after × IsUnderDocument (view document.now) after × OpensAsNamed journal epoch opened under after
 Does (line.Reopening (reopening.Fenced server base told)) opened under new after = StaysUnderWay (TakesFenced server base told) under after
-Does (line.Reopening (reopening.Confirm base _)) opened under new after = StaysUnderWay (ConfirmsAt base) under after
+Does (line.Reopening (reopening.Confirm base _ lost)) opened under new after = StaysUnderWay (ConfirmsAt base lost.now) under after
 Does (line.Reopening (reopening.Settled server base)) opened under new after =
     StaysUnderWay (TakesSettledBy server base) under after ⊎ ComesInForceBy (TakesSettledBy server base) under after new
 Does (line.Driver command) opened under new after = StaysOpen (DoesToDriver command) opened new

@@ -1,5 +1,5 @@
 -- The effects on a driver of the commands that change something.
-use Rattle.std.specs.Prelude.{◌≡◌, ◌<◌, ◌⊎◌, ℕ, true, List, [], Option, Some, None, length, option_map}
+use Rattle.std.specs.Prelude.{◌≡◌, ◌<◌, ◌⊎◌, ◌+◌, ◌-◌, ◌^◌, ℕ, Bool, true, false, List, [], Option, Some, None, length, min, option_map}
 use Rattle.sm_reservation.specs.declared.stream_id.StreamId.{StreamId}
 use Rattle.sm_placement.specs.Setup.{Setup, Sizes}
 use Rattle.sm_placement.specs.Config.{setup_of}
@@ -81,10 +81,10 @@ reopening_under_way = option_map (λ (u : UnderWay). u.reopening)
 abbrev pub IsBegunOver : Reopening → Setup → List (List ℕ) → ReopeningModel → Type 0
 IsBegunOver before numbered lost r = BeginsUnder before numbered r.document.config r.numbering lost r.epoch r.ongoing
 
--- it is of this journal, in a later epoch than this one, over this recorded placement and with these permits of servers that are down
+-- it is of this journal, in the epoch behind this one, over this recorded placement and with these permits of servers that are down
 pub record KeepsRecord (journal epoch : ℕ) (place : Place) (permits : List (Option ℕ)) (r : ReopeningModel) : Type 0 where
   pub same_journal : r.journal ≡ journal
-  pub later : epoch < r.epoch
+  pub next : r.epoch ≡ epoch + 1
   pub same_place : recorded_place r.ongoing ≡ place
   pub same_permits : r.permits ≡ permits
 
@@ -153,6 +153,11 @@ pub data HasChanged (opened : Option Opened) (under : Option UnderWay) (new : Op
   Reopens : new ≡ opened → HasReopened opened under after → HasChanged opened under new after
   Follows : new ≡ opened → HasGoneOn under after → HasChanged opened under new after
   Opens : ComesInForce under after new → HasChanged opened under new after
+
+-- the number of commands that have changed something, after one that has, or has not; it ends at 2^64 - 1
+abbrev pub count_after : Bool → ℕ → ℕ
+count_after true place = min (place + 1) (2 ^ 64 - 1)
+count_after false place = place
 
 -- nothing is open or under way in a session, and no line has changed anything
 abbrev pub IsNew : Session → Type 0

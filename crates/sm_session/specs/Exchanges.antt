@@ -1,5 +1,6 @@
 -- What comes of a line to a session, and the reply that tells it: command, outcome, change and reply are of one exchange.
--- All of these are internal: you need not read them for the public contracts.
+-- `IsNoObject`, `ReadsObject`, `TellsClosed`, `TellsExchange`, `KnowsAll`, `Replies` and `Exchanges` are internal: you need not read them for the
+-- public contracts.
 use Rattle.std.specs.Prelude.{◌≡◌, ◌<◌, ◌⊎◌, ℕ, Bool, true, false, List, [], ◌++◌, IfSome, Ok, Err, Option, Some, None, Result, codes, if◌then◌else◌, is_some, length}
 use Rattle.json.specs.Token.{Token}
 use Rattle.json.specs.Print.{print}
@@ -26,6 +27,7 @@ use Rattle.sm_commands.specs.declared.line_part.LinePart.TheVariants.{Line}
 use Rattle.sm_open_journal.specs.declared.opened.Opened.{Opened}
 use Rattle.sm_reopening_lines.specs.Outcomes.{DoesConfirm, DoesFenced, has_counted}
 use Rattle.sm_session.specs.Asked.{IsKnownOver, setup_in_force}
+use Rattle.sm_session.specs.Changes.{count_after}
 use Rattle.sm_session.specs.Openings.{DoesOpen, TellsOpen, has_opened}
 use Rattle.sm_session.specs.Outcomes.{HasOutcome, KnowsServers, TellsOutcome, has_changed}
 use Rattle.sm_session.specs.Questions.{TellsAnswer}
@@ -56,9 +58,9 @@ ReadsObject text (Err fault) = IsNoObject text fault
 
 -- ---- changes
 
--- why nothing comes of a command on a journal, as long as none is open: what ends or answers something of an earlier epoch is old
+-- why nothing comes of a command on a journal, as long as none is open: what ends or answers something of an epoch before a reopening is old
 abbrev pub why_closed : DriverCommand → Bool → Closed
-why_closed (driver.Restarted _ _) is_reopening = closed.Old
+why_closed (driver.Restarted _ _) is_reopening = if is_reopening then closed.Old else closed.NotOpened
 why_closed (driver.Answered _ _ _) is_reopening = if is_reopening then closed.Old else closed.NotOpened
 why_closed _ is_reopening = if is_reopening then closed.Reopening else closed.NotOpened
 
@@ -93,16 +95,16 @@ ComesTo (line.Reopening (reopening.Reopen document lost journal epoch)) opened u
     (new ≡ opened) × DoesReopen (record { document = document; lost = lost; journal = journal; epoch = epoch }) opened under it after
 ComesTo (line.Reopening (reopening.Fenced server base told)) opened under (came.Reopening it) new after =
     (new ≡ opened) × DoesUnderWay (DoesFenced server base told) under it after
-ComesTo (line.Reopening (reopening.Confirm base _)) opened under (came.Reopening it) new after =
-    (new ≡ opened) × DoesUnderWay (DoesConfirm base) under it after
+ComesTo (line.Reopening (reopening.Confirm base _ lost)) opened under (came.Reopening it) new after =
+    (new ≡ opened) × DoesUnderWay (DoesConfirm base lost.now) under it after
 ComesTo (line.Reopening (reopening.Settled server base)) opened under (came.Reopening it) new after = DoesSettle server base opened under it new after
 ComesTo (line.Question asked) opened under (came.Answered it) new after = (new ≡ opened) × (after ≡ under) × (it ≡ asked)
 ComesTo _ opened under _ new after = ⊥
 
--- So does a command to a session, which counts it only if something has changed.
+-- So does a command to a session, which counts it if something has changed.
 abbrev pub Comes : LineCommand → Session → Outcome → Session → Type 0
 Comes command old it new =
-    ComesTo command old.opened old.under_way it new.opened new.under_way × (is_change it ≡ false → new.place ≡ old.place)
+    ComesTo command old.opened old.under_way it new.opened new.under_way × (new.place ≡ count_after (is_change it) old.place)
 
 -- A session takes the value of a line: its command comes to an outcome; or it is bad, and nothing changes.
 pub data Takes (value : Data) (old : Session) (it : Outcome) (new : Session) : Type 0 where
@@ -145,3 +147,9 @@ pub record Exchanges (value : Data) (old : Session) (effect : LineEffect) (new :
   pub takes : Takes value old outcome new
   pub replies : Replies new outcome (line_id value) before after
   pub is : effect ≡ effect_if (is_change outcome)
+
+-- A session takes a text, whatever the reply: its value comes to an outcome; or it has none, and nothing changes.
+pub data TakesAgain (text : List ℕ) (old : Session) (effect : LineEffect) (new : Session) : Type 0 where
+  OfValue : (value : Data) → data_of text ≡ Some value → (it : Outcome) → Takes value old it new → effect ≡ effect_if (is_change it)
+      → TakesAgain text old effect new
+  OfNoValue : data_of text ≡ None → effect ≡ Unchanged → new ≡ old → TakesAgain text old effect new

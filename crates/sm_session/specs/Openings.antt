@@ -1,5 +1,5 @@
 -- The outcomes of lines that open a journal, and the replies that tell them.
--- `has_opened`, `DoesOpen`, `TellsNotOpened` and `TellsOpen` are internal: you need not read them for the public contracts.
+-- `TellsNotOpened` and `TellsOpen` are internal: you need not read them for the public contracts.
 use Rattle.std.specs.Prelude.{◌≡◌, Bool, true, false, List, ◌++◌, IfSome, Option}
 use Rattle.json.specs.Token.{Token}
 use Rattle.json_tree.specs.View.{view}

@@ -1,6 +1,5 @@
 -- The outcomes of commands on an open journal, and the replies that tell them.
--- `TellsDecline`, `TellsOutcome`, `KnowsServers`, `has_changed`, `StartOutcome`, `BeginsPlanAs`, `BeginOutcome`, `HasMovedWith`, `AnsweredOutcome`,
--- `AgainOutcome`, `ApproveOutcome`, `RestartedOutcome`, `RestoreOutcome`, `EpochOutcome` and `HasOutcome` are internal: you need not read them for the public contracts.
+-- `TellsDecline`, `TellsOutcome`, `KnowsServers`, `StartOutcome` and `HasMovedWith` are internal: you need not read them for the public contracts.
 use Rattle.std.specs.Prelude.{◌≡◌, ◌<◌, ℕ, ◌&&◌, ◌||◌, Bool, true, false, List, ◌++◌, Option, Some, None, IfSome, bytes_eq, codes, if◌then◌else◌, not, string_bytes}
 use Rattle.json.specs.Token.{Token}
 use Rattle.serde_json.specs.Data.{Data}
@@ -12,8 +11,12 @@ use Rattle.sm_verifier.specs.Plan.{IsCheckedPlan}
 use Rattle.sm_names.specs.Names.{value_of}
 use Rattle.sm_driver.specs.Driver.{DriverModel, HasApproved, HasBegunPlan, HasEndedRestart, HasRestored, HasTakenStep, is_due, is_past, record_of}
 use Rattle.sm_driver.specs.Restores.{was_told}
+use Rattle.sm_refusals.specs.Plans.{check_refusal}
+use Rattle.sm_commands.specs.BadLines.{told_bad}
 use Rattle.sm_commands.specs.Members.{server_text, text_member}
-use Rattle.sm_commands.specs.Refusals.{TellsRefused}
+use Rattle.sm_commands.specs.Refusals.{TellsRefused, refused_member, shared_refusal}
+use Rattle.sm_commands.specs.declared.bad_line.BadLine.TheVariants as bad
+use Rattle.sm_commands.specs.declared.command_member.CommandMember.TheVariants.{Plan as PlanMember}
 use Rattle.sm_commands.specs.declared.command.DriverCommand.{DriverCommand}
 use Rattle.sm_commands.specs.declared.command.DriverCommand.TheVariants as driver
 use Rattle.sm_open_journal.specs.declared.begun_plan.BegunPlan.{BegunPlan}
@@ -22,9 +25,9 @@ use Rattle.sm_open_journal.specs.declared.given_permits.GivenPermit.{GivenPermit
 use Rattle.sm_open_journal.specs.declared.opened.Opened.{Opened}
 use Rattle.sm_open_journal.specs.Begun.{begun_again_members, begun_members, begun_plan}
 use Rattle.sm_open_journal.specs.Given.{given_at}
-use Rattle.sm_open_journal.specs.Permits.{given_member, opened_member, permit_member}
+use Rattle.sm_open_journal.specs.Permits.{approved_member, given_member, opened_member}
 use Rattle.sm_open_journal.specs.Replies.{gone_on, moved_members, sinces_of}
-use Rattle.sm_open_journal.specs.Restores.{TellsKept}
+use Rattle.sm_open_journal.specs.Restores.{TellsAgain, TellsKept, is_told}
 use Rattle.sm_session.specs.Asked.{SaysPlan}
 use Rattle.sm_session.specs.Changes.{OpensNext}
 use Rattle.sm_session.specs.Declines.{Declines}
@@ -45,6 +48,8 @@ ignored_word ignored.Unknown = codes "unknown"
 -- behind what was written is told why nothing has come of a command
 abbrev pub TellsDecline : Decline → List Token → List Token → Type 0
 TellsDecline (decline.Ignored why) before after = after ≡ before ++ text_member (codes "ignored") (ignored_word why)
+TellsDecline (decline.NoPlan fault) before after = after ≡ before ++ told_bad (bad.Within PlanMember fault)
+TellsDecline (decline.Unchecked fault) before after = after ≡ before ++ refused_member (shared_refusal (check_refusal fault))
 TellsDecline (decline.OtherServer at) before after = TellsRefused before after
 TellsDecline _ before after = Declines before after
 
@@ -54,12 +59,12 @@ TellsOutcome o (outcome.Begun plan) before after = after ≡ before ++ begun_mem
 TellsOutcome o (outcome.BegunBefore plan goes_on) before after = after ≡ before ++ begun_again_members o.driver plan goes_on
 TellsOutcome o (outcome.Moved id gone) before after = after ≡ before ++ moved_members o.driver id gone.items
 TellsOutcome o (outcome.Approved server permit) before after =
-    after ≡ before ++ permit_member (codes "approved") (server_text o.driver.machine.placement.setup server) permit
+    after ≡ before ++ approved_member o.driver server permit
 TellsOutcome o (outcome.ApprovedBefore at) before after =
     IfSome (given_at o.permits at) (λ given. after ≡ before ++ given_member o.driver (string_bytes given.server) given.permit)
 TellsOutcome o (outcome.Up server) before after = after ≡ before ++ text_member (codes "up") (server_text o.driver.machine.placement.setup server)
 TellsOutcome o (outcome.Restored server nonce) before after = TellsKept o.driver server before after
-TellsOutcome o (outcome.RestoredBefore server nonce) before after = TellsKept o.driver server before after
+TellsOutcome o (outcome.RestoredBefore server nonce) before after = TellsAgain o server nonce before after
 TellsOutcome o outcome.NextEpoch before after = after ≡ before ++ opened_member o.driver
 TellsOutcome o (outcome.Declined why) before after = TellsDecline why before after
 
@@ -161,15 +166,16 @@ RestartedOutcome permit base is_reopening old _ new = ⊥
 
 -- ---- restores
 
--- the server with this name is restored; it was told under this nonce before; or it was not, and is not
+-- the server with this name is restored; it was told under this nonce last; or it was not, and is not
 abbrev pub RestoreOutcome : List ℕ → ℕ → Bool → Opened → DriverOutcome → Opened → Type 0
 RestoreOutcome name nonce is_reopening old (outcome.Restored server under) new =
-    (is_reopening ≡ false) × (server_named old.driver.machine.placement.setup name ≡ Some server) × (was_told old.driver.restores server nonce ≡ false)
+    (is_reopening ≡ false) × (server_named old.driver.machine.placement.setup name ≡ Some server) × (is_told old server nonce ≡ false)
     × HasRestored server nonce old.driver new.driver × (under ≡ nonce) × (server < (record_of new.driver).sizes.servers)
 RestoreOutcome name nonce is_reopening old (outcome.RestoredBefore server under) new =
-    (server_named old.driver.machine.placement.setup name ≡ Some server) × (under ≡ nonce) × (server < (record_of new.driver).sizes.servers) × (new ≡ old)
+    (server_named old.driver.machine.placement.setup name ≡ Some server) × (is_told old server nonce ≡ true) × (under ≡ nonce)
+    × (server < (record_of new.driver).sizes.servers) × (new ≡ old)
 RestoreOutcome name nonce is_reopening old (outcome.Declined why) new =
-    IfSome (server_named old.driver.machine.placement.setup name) (λ server. was_told old.driver.restores server nonce ≡ false) × (new ≡ old)
+    IfSome (server_named old.driver.machine.placement.setup name) (λ server. is_told old server nonce ≡ false) × (new ≡ old)
 RestoreOutcome name nonce is_reopening old _ new = ⊥
 
 -- ---- epochs

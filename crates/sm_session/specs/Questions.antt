@@ -1,21 +1,28 @@
 -- Replies to questions.
--- `fences_left`, `orders_during`, `all_orders`, `present_journal`, `journal_member`, `epoch_member`, `place_members`, `hello_members` and `TellsAnswer` are
--- internal: you need not read them for the public contracts.
 use Rattle.std.specs.Prelude.{◌≡◌, ℕ, List, [], ◌++◌, Option, Some, None, codes, if◌then◌else◌, is_some}
 use Rattle.json.specs.Token.{Token}
+use Rattle.json_tree.specs.View.{view}
+use Rattle.sm_reservation.specs.declared.stream_id.StreamId.{StreamId}
 use Rattle.sm_driver.specs.Driver.{record_of}
 use Rattle.sm_driver.specs.Orders.{awaiting_of}
 use Rattle.sm_reopening.specs.Ongoing.{net_reopening}
 use Rattle.sm_document_reopening.specs.Reopening.{ReopeningModel}
 use Rattle.sm_commands.specs.Members.{list_member, name_member, number_member, object_member, text_member}
+use Rattle.sm_commands.specs.Refusals.{TellsRefused}
+use Rattle.sm_commands.specs.declared.command.FailedAnswer.{FailedAnswer}
+use Rattle.sm_commands.specs.declared.command.PlanQuestion.TheVariants as plans
 use Rattle.sm_commands.specs.declared.command.Question.{Question}
 use Rattle.sm_commands.specs.declared.command.Question.TheVariants as question
 use Rattle.sm_open_journal.specs.declared.opened.Opened.{Opened}
 use Rattle.sm_open_journal.specs.Bits.{bits_member, hexadecimal}
+use Rattle.sm_open_journal.specs.Failed.{failed_member}
 use Rattle.sm_open_journal.specs.Messages.{orders_member}
 use Rattle.sm_open_journal.specs.Notices.{carried_member}
+use Rattle.sm_open_journal.specs.Published.{map_member}
+use Rattle.sm_open_journal.specs.Since.{since_member}
 use Rattle.sm_reopening_lines.specs.Parties.{fences_member}
 use Rattle.sm_reopening_lines.specs.Settles.{settles_member}
+use Rattle.sm_session.specs.Checks.{TellsCheck}
 use Rattle.sm_session.specs.declared.session.Session.{Session}
 use Rattle.sm_session.specs.declared.telling.TheConstants.{FORMAT}
 use Rattle.sm_session.specs.declared.under_way.UnderWay.{UnderWay}
@@ -78,14 +85,39 @@ place_members s = journal_member (present_journal s.opened s.under_way) ++ epoch
 abbrev pub hello_members : Session → List Token
 hello_members s = text_member (codes "program") (codes "smpland") ++ number_member (codes "format") FORMAT ++ place_members s
 
+-- ---- journals
+
+-- the journal in force: the one that is open, as long as no reopening is under way
+abbrev pub journal_in_force : Session → Option Opened
+journal_in_force s = if is_some s.under_way then None else s.opened
+
+-- what is told of a journal: the question is refused if there is none
+abbrev pub TellsOf : Option Opened → (Opened → List Token → List Token → Type 0) → List Token → List Token → Type 0
+TellsOf (Some o) Tells before after = Tells o before after
+TellsOf None Tells before after = TellsRefused before after
+
+-- the reply to `failed`: what to do about the stream's order under this number; while a reopening is under way it is old
+abbrev pub TellsFailed : StreamId → ℕ → FailedAnswer → Option Opened → Option UnderWay → List Token → List Token → Type 0
+TellsFailed id number answer opened (Some _) before after = after ≡ before ++ text_member (codes "ignored") (codes "old")
+TellsFailed id number answer (Some o) None before after = after ≡ before ++ failed_member o.driver id number answer
+TellsFailed id number answer None None before after = TellsRefused before after
+
 -- ---- questions
 
--- The reply to a question. What `map`, `state` and `since` tell of the record is tested, since the functions that write it promise no text; so is
--- what questions about plans and slots are told.
+-- The reply to a question. What `document`, `state`, `audit`, `moves` and `drain` are told is tested alone: the functions of sm_open_journal that write
+-- documents, states and audits promise no text, and a plan that is made is written by way of its text.
 abbrev pub TellsAnswer : Question → Session → List Token → List Token → Type 0
 TellsAnswer question.Hello s before after = after ≡ before ++ object_member (codes "hello") (hello_members s)
 TellsAnswer question.Orders s before after = after ≡ before ++ all_orders s.opened s.under_way
+TellsAnswer question.Map s before after = TellsOf s.opened (λ o before after. after ≡ before ++ map_member o.driver) before after
+TellsAnswer (question.Since place) s before after =
+    TellsOf s.opened (λ o before after. after ≡ before ++ since_member o (is_some s.under_way) s.place place) before after
 TellsAnswer (question.State _) s before after = Unit {0}
-TellsAnswer question.Map s before after = Unit {0}
-TellsAnswer (question.Since _) s before after = Unit {0}
-TellsAnswer (question.InForce _) s before after = Unit {0}
+TellsAnswer question.Document s before after = Unit {0}
+TellsAnswer (question.InForce (plans.Check plan)) s before after =
+    TellsOf (journal_in_force s) (λ o. TellsCheck o.driver.machine (view plan.now)) before after
+TellsAnswer (question.InForce (plans.Failed plan stream number answer)) s before after =
+    TellsFailed (record { plan = plan; stream = stream }) number answer s.opened s.under_way before after
+TellsAnswer (question.InForce (plans.Moves _)) s before after = Unit {0}
+TellsAnswer (question.InForce (plans.Drain _)) s before after = Unit {0}
+TellsAnswer (question.InForce (plans.Audit _ _ _)) s before after = Unit {0}

@@ -1,6 +1,5 @@
 -- What comes of lines of a reopening to a session, and the replies that tell it.
--- `has_begun`, `DoesReopen`, `DoesUnderWay`, `DoesSettle`, `TellsNotBegun`, `TellsReopen` and `TellsUnderWay` are internal: you need not read
--- them for the public contracts.
+-- `TellsNotBegun`, `TellsReopen`, `TellsNotUnderWay` and `TellsUnderWay` are internal: you need not read them for the public contracts.
 use Rattle.std.specs.Prelude.{◌≡◌, ℕ, Bool, true, false, List, ◌++◌, IfSome, Option, Some, None, codes}
 use Rattle.std.specs.Borrow.{Bor}
 use Rattle.json.specs.Token.{Token}
@@ -66,8 +65,13 @@ TellsReopen after_it reopen.Begun before after =
     IfSome after_it (λ (u : UnderWay). after ≡ before ++ fences_member (hexadecimal u.reopening.journal) u.reopening)
 TellsReopen after_it (reopen.NotBegun why) before after = TellsNotBegun why before after
 
+-- the reply to a line on a reopening, as long as none is under way: it is old, and refused if nothing was opened
+abbrev pub TellsNotUnderWay : Option Opened → List Token → List Token → Type 0
+TellsNotUnderWay (Some o) before after = after ≡ before ++ text_member (codes "ignored") (codes "old")
+TellsNotUnderWay None before after = TellsRefused before after
+
 -- The reply to a line on the reopening under way: with the last settle that the next epoch is open, and otherwise what has come of the line.
 abbrev pub TellsUnderWay : Option Opened → Option UnderWay → ReopeningOutcome → List Token → List Token → Type 0
 TellsUnderWay opened under outcome.Complete before after = IfSome opened (λ (o : Opened). after ≡ before ++ opened_member o.driver)
 TellsUnderWay opened (Some u) came before after = TellsTaken (hexadecimal u.reopening.journal) u.reopening came before after
-TellsUnderWay opened None came before after = after ≡ before ++ text_member (codes "ignored") (codes "old")
+TellsUnderWay opened None came before after = TellsNotUnderWay opened before after

@@ -20,7 +20,7 @@ use Rattle.sm_commands.specs.Writer.{HasNoLineFeed}
 use Rattle.sm_open_journal.specs.declared.opened.Opened.{Opened}
 use Rattle.sm_open_journal.specs.Begun.{begun_members, begun_plan}
 use Rattle.sm_open_journal.specs.Bits.{hexadecimal}
-use Rattle.sm_open_journal.specs.Permits.{opened_member, permit_member}
+use Rattle.sm_open_journal.specs.Permits.{approved_member, opened_member}
 use Rattle.sm_open_journal.specs.Replies.{sinces_of, taken_members}
 use Rattle.sm_open_journal.specs.Restores.{TellsKept}
 use Rattle.sm_reopening.specs.Ongoing.{net_reopening}
@@ -52,11 +52,11 @@ abbrev pub TellsMoved : StreamId → ℕ → DriverModel → DriverModel → Lis
 TellsMoved id number old new before after =
     TakesAnswerOf id number old new × (after ≡ before ++ taken_members new id (sinces_of (record_of old) id.plan))
 
--- the restart of a server was approved, and its permit is told
+-- the restart of a server was approved, and its permit is told, with the shards that nobody serves meanwhile
 abbrev pub TellsPermit : ℕ → DriverModel → DriverModel → List Token → List Token → Type 0
 TellsPermit server old new before after =
     (permit : ℕ) × HasApproved server permit old new
-    × (after ≡ before ++ permit_member (codes "approved") (server_text new.machine.placement.setup server) permit)
+    × (after ≡ before ++ approved_member new server permit)
 
 -- the same of the server with this name
 abbrev pub TellsApproved : List ℕ → DriverModel → DriverModel → List Token → List Token → Type 0

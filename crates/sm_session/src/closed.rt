@@ -8,7 +8,7 @@ use std::alloc::{AllocError, Global};
 
 /// The reason why nothing comes of a command on a journal, as long as none is open.
 #[derive(Clone, Copy, Debug, PartialEq, Eq)]
-pub(crate) enum Closed {
+pub enum Closed {
     /// No journal was opened.
     NotOpened,
     /// The journal opens with the reopening that is under way.
@@ -23,11 +23,13 @@ impl Closed {
         ensures { result ≡ why_closed command.entry is_reopening }
     {
         match command {
-            DriverCommand::Restarted { .. } => Closed::Old,
-            DriverCommand::Answered { .. } if is_reopening => Closed::Old,
+            DriverCommand::Restarted { .. } | DriverCommand::Answered { .. } if is_reopening => {
+                Closed::Old
+            }
             DriverCommand::Begin { .. }
             | DriverCommand::Answered { .. }
             | DriverCommand::Approve { .. }
+            | DriverCommand::Restarted { .. }
             | DriverCommand::Restore { .. }
             | DriverCommand::NewEpoch => {
                 if is_reopening {

@@ -143,7 +143,7 @@ impl Decline {
         let config = opened.driver.machine().config();
         match self {
             Decline::NoPlan(fault) => {
-                tell_bad(writer, alloc, BadLine::Within(CommandMember::Plan, *fault))
+                write_bad(writer, alloc, BadLine::Within(CommandMember::Plan, *fault))
             }
             Decline::Unchecked(fault) => refuse_check(writer, alloc, fault),
             Decline::NotBegun(fault) => refuse_begin(writer, alloc, config, *fault),

@@ -6,7 +6,7 @@ ghost use Rattle.sm_session.specs.Outcomes.{KnowsServers, TellsOutcome, has_chan
 
 use crate::decline::Decline;
 use sm_commands::{Writer, write_text};
-use sm_open_journal::{BegunPlan, GivenAt, Opened, write_permit};
+use sm_open_journal::{BegunPlan, GivenAt, Opened};
 use sm_reservation::StreamId;
 use sm_server::ServerId;
 use std::alloc::{AllocError, Global};
@@ -104,7 +104,7 @@ impl DriverOutcome {
                 opened.write_taken(alloc, writer, *stream, gone_on.as_slice())
             }
             DriverOutcome::Approved { server, permit } => {
-                write_permit(writer, "approved", opened.name_of(*server), *permit)
+                opened.write_approved(writer, *server, *permit)
             }
             DriverOutcome::ApprovedBefore(at) => write_approved_before(opened, writer, *at),
             DriverOutcome::Up(server) => write_text(writer, "up", opened.name_of(*server)),

@@ -31,7 +31,7 @@ struct FirstDriver {
 
 /// The reason why no journal has opened.
 #[derive(Drop)]
-pub(crate) enum NotOpened {
+pub enum NotOpened {
     NoMemory,
     /// A journal is open, or a reopening is under way.
     AlreadyOpened,
@@ -45,7 +45,7 @@ pub(crate) enum NotOpened {
 
 /// The outcome of a line that opens a journal.
 #[derive(Drop)]
-pub(crate) enum OpenOutcome {
+pub enum OpenOutcome {
     Opened,
     NotOpened(NotOpened),
 }

@@ -11,7 +11,7 @@ use sm_reopening_lines::ReopeningOutcome;
 
 /// The outcome of a line.
 #[derive(Drop)]
-pub(crate) enum Outcome<'t, 'a> {
+pub enum Outcome<'t, 'a> {
     /// The line is no command.
     Bad(BadLine<'a>),
     /// The line opens a journal.

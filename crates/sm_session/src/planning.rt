@@ -1,11 +1,12 @@
 //! Plans that are not begun: whether one would begin now, and plans that are made.
-ghost use Rattle.std.specs.Prelude.{◌≡◌, ◌++◌, IfOk, OnOk, count_by, length, sum_by};
-ghost use Rattle.sm_plan_code.specs.Instr.{is_call};
+ghost use Rattle.std.specs.Prelude.{◌≡◌, ◌++◌, IfErr, IfOk, OnOk, count_by, length, sum_by};
 ghost use Rattle.json_tree.specs.View.{view};
-ghost use Rattle.sm_machine.specs.State.{state_of};
+ghost use Rattle.sm_placement.specs.Setup.{sizes_of};
+ghost use Rattle.sm_plan_code.specs.Instr.{is_call};
 ghost use Rattle.sm_plan_code.specs.Plan.{IsKnownPlan};
+ghost use Rattle.sm_verifier.specs.Plan.{IsSound};
 ghost use Rattle.sm_session.specs.Asked.{SaysPlan};
-ghost use Rattle.sm_session.specs.Checks.{TellsVerdict, accepted_member, accepted_members};
+ghost use Rattle.sm_session.specs.Checks.{IsUnchecked, TellsCheck, TellsVerdict, accepted_member, accepted_members};
 
 use crate::decline::Decline;
 use json_tree::Tree;
@@ -32,6 +33,10 @@ pub fn check_plan(
         checked.setup ≡ opened.now.driver.machine.placement.setup)) }
     ensures said { IfOk result (λ found. IfOk found (λ checked.
         SaysPlan opened.now.driver.machine.placement.setup (view value.now) checked.plan)) }
+    ensures sound { IfOk result (λ found. IfOk found (λ checked.
+        IsSound (sizes_of opened.now.driver.machine.placement.setup) checked.plan)) }
+    ensures unchecked { IfOk result (λ found. IfErr found
+        (IsUnchecked opened.now.driver.machine.placement.setup (view value.now))) }
 {
     let config = opened.driver.machine().config();
     let plan = match read_plan_value(alloc, config, value) {
@@ -156,7 +161,7 @@ fn write_verdict(
     checked: &Checked,
 ) -> Result<(), AllocError>
     requires { checked.now.setup ≡ machine.now.placement.setup }
-    ensures { OnOk result (TellsVerdict (state_of machine.now) checked.now.plan writer.old.tokens writer.new.tokens) }
+    ensures { OnOk result (TellsVerdict machine.now checked.now.plan writer.old.tokens writer.new.tokens) }
 {
     match machine.begin_fault(checked) {
         Some(fault) => refuse_begin(writer, alloc, machine.config(), fault),
@@ -170,7 +175,9 @@ pub fn write_check(
     alloc: Global,
     writer: &mut Writer,
     value: &Tree<'_>,
-) -> Result<(), AllocError> {
+) -> Result<(), AllocError>
+    ensures { OnOk result (TellsCheck opened.now.driver.machine (view value.now) writer.old.tokens writer.new.tokens) }
+{
     match check_plan(opened, alloc, value)? {
         Ok(checked) => write_verdict(opened.driver.machine(), alloc, writer, &checked),
         Err(why) => why.write(opened, alloc, writer),

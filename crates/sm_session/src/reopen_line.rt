@@ -1,5 +1,5 @@
 //! The line that asks for a reopening.
-ghost use Rattle.std.specs.Prelude.{◌≡◌, ◌<◌, IfOk, IfSome, Ok, Some, None, is_some, map, true};
+ghost use Rattle.std.specs.Prelude.{◌≡◌, ◌+◌, IfOk, IfSome, Ok, Some, None, is_some, map, true};
 ghost use Rattle.std.specs.Option.{ForSome};
 ghost use Rattle.json_tree.specs.View.{view};
 ghost use Rattle.sm_plan_text.specs.Reading.{read_data, rows_of};
@@ -59,7 +59,7 @@ fn next_epoch(
     journal: Option<u64>,
     epoch: Option<u32>,
 ) -> Result<NextEpoch, NotBegun>
-    ensures later { IfOk result (λ next. ForSome last (λ l. l.epoch < next.epoch)) }
+    ensures next { IfOk result (λ next. ForSome last (λ l. next.epoch ≡ l.epoch + 1)) }
     ensures named { last ≡ None → IfOk result (λ next. (journal ≡ Some next.journal) × (epoch ≡ Some next.epoch)) }
 {
     match (last, journal, epoch) {
@@ -106,7 +106,7 @@ fn begun_over(
     lost: &[&str],
     next: NextEpoch,
 ) -> Result<DocumentReopening, (Document, ReopenFault)>
-    requires { IfSome opened.now (λ o. o.driver.epoch < next.epoch) }
+    requires { IfSome opened.now (λ o. next.epoch ≡ o.driver.epoch + 1) }
     ensures begun { IfOk result (λ r.
         BeginsReopening (map (λ name. name.now) lost.now) (driver_of opened.now) None (Some r)) }
     ensures under { IfOk result (λ r. r.document ≡ document) }
@@ -130,8 +130,8 @@ fn begun_under(
     lost: &[&str],
     next: NextEpoch,
 ) -> Result<DocumentReopening, (Document, ReopenFault)>
-    requires replaced { IfSome under_way.now (λ u. u.reopening.epoch < next.epoch) }
-    requires recorded { under_way.now ≡ None → IfSome opened.now (λ o. o.driver.epoch < next.epoch) }
+    requires replaced { IfSome under_way.now (λ u. next.epoch ≡ u.reopening.epoch + 1) }
+    requires recorded { under_way.now ≡ None → IfSome opened.now (λ o. next.epoch ≡ o.driver.epoch + 1) }
     ensures begun { IfOk result (λ r.
         BeginsReopening (map (λ name. name.now) lost.now) (driver_of opened.now) (reopening_under_way under_way.now) (Some r)) }
     ensures under { IfOk result (λ r. r.document ≡ document) }

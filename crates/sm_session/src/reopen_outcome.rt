@@ -11,7 +11,7 @@ use std::alloc::{AllocError, Global};
 
 /// The reason why no reopening has begun.
 #[derive(Drop)]
-pub(crate) enum NotBegun {
+pub enum NotBegun {
     NoMemory,
     /// Nothing is recorded, and the line does not name a journal and its epoch.
     NotOpened,
@@ -27,7 +27,7 @@ pub(crate) enum NotBegun {
 
 /// The outcome of a line that asks for a reopening.
 #[derive(Drop)]
-pub(crate) enum ReopenOutcome {
+pub enum ReopenOutcome {
     Begun,
     NotBegun(NotBegun),
 }

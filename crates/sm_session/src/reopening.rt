@@ -30,17 +30,18 @@ pub(crate) fn take_answer<'a>(
     }
 }
 
-/// Confirms what is proposed, or what is chosen.
+/// Confirms what is proposed, or what is chosen. The shards that may be lost are named.
 pub(crate) fn confirm_cells<'a>(
     under_way: &mut Option<UnderWay>,
     alloc: Global,
     base: u64,
     cells: &[Tree<'a>],
+    lost: &[Tree<'a>],
 ) -> Result<ReopeningOutcome<'a>, AllocError>
-    ensures { IfOk result (λ came. DoesUnderWay (DoesConfirm base) under_way.old came under_way.new) }
+    ensures { IfOk result (λ came. DoesUnderWay (DoesConfirm base lost.now) under_way.old came under_way.new) }
 {
     match under_way {
-        Some(current) => take_confirm(&mut current.reopening, alloc, base, cells),
+        Some(current) => take_confirm(&mut current.reopening, alloc, base, cells, lost),
         None => Ok(ReopeningOutcome::Old),
     }
 }

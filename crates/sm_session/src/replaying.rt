@@ -4,6 +4,7 @@ ghost use Rattle.journal_lines.specs.Objects.{IsObject};
 ghost use Rattle.sm_session.specs.declared.session.LineEffect.TheVariants as did;
 ghost use Rattle.sm_session.specs.Asked.{DoesAsSaid};
 ghost use Rattle.sm_session.specs.Changes.{SessionChanges};
+ghost use Rattle.sm_session.specs.Exchanges.{TakesAgain};
 ghost use Rattle.sm_session.specs.Replies.{RepliesTo};
 
 use crate::session::{LineEffect, Session};
@@ -16,6 +17,7 @@ impl Session {
     /// session is to end.
     pub fn replay(&mut self, alloc: Global, entry: &[u8]) -> Result<LineEffect, AllocError>
         requires { IsObject entry.now }
+        ensures taken { IfOk result (λ applied. TakesAgain entry.now self.old applied self.new) }
         ensures changed { IfOk result (λ applied. applied ≡ did.Changed → SessionChanges self.old self.new) }
         ensures asked { IfOk result (λ applied. applied ≡ did.Changed → DoesAsSaid entry.now self.old self.new) }
         ensures unchanged { IfOk result (λ applied. applied ≡ did.Unchanged → self.new ≡ self.old) }

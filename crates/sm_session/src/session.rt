@@ -1,6 +1,7 @@
 //! Sessions.
 ghost use Rattle.std.specs.Prelude.{◌≡◌, ℕ, List, ◌∷◌, ◌++◌, [], IfOk, OnOk};
 ghost use Rattle.journal_lines.specs.Objects.{IsObject};
+ghost use Rattle.sm_session.specs.Changes.{count_after};
 ghost use Rattle.sm_session.specs.declared.session.LineEffect.TheVariants as did;
 
 use crate::changing::change;
@@ -44,6 +45,17 @@ impl LineEffect {
     }
 }
 
+/// The number of commands that have changed something, after one that has, or has not.
+fn count_after(has_changed: bool, place: u64) -> u64
+    ensures { result ≡ count_after has_changed place }
+{
+    if has_changed {
+        place.saturating_add(1)
+    } else {
+        place
+    }
+}
+
 /// Adds these members, in braces, behind what is there.
 fn push_object(out: &mut Vec<u8>, members: &[u8]) -> Result<(), AllocError>
     ensures { OnOk result (out.new.items ≡ out.old.items ++ 123 ∷ (members.now ++ 125 ∷ [])) }
@@ -71,7 +83,8 @@ impl Session {
     ghost use Rattle.sm_session.specs.Asked.{DoesAsSaid, setup_in_force};
     ghost use Rattle.sm_session.specs.Changes.{IsNew, SessionChanges};
     ghost use Rattle.sm_session.specs.Declines.{DeclinesBy};
-    ghost use Rattle.sm_session.specs.Exchanges.{Comes, ComesTo, Exchanges, KnowsAll, Replies, Takes, TellsExchange, is_change};
+    ghost use Rattle.sm_session.specs.Exchanges.{Comes, ComesTo, Exchanges, KnowsAll, Replies, Takes, TakesAgain};
+    ghost use Rattle.sm_session.specs.Exchanges.{TellsExchange, is_change};
     ghost use Rattle.sm_session.specs.Replies.{IsLineReply};
 
     /// A session before its first line.
@@ -106,6 +119,8 @@ impl Session {
         line: &[u8],
         reply: &mut Vec<u8>,
     ) -> Result<LineEffect, AllocError>
+        ensures taken { IfOk result (λ applied. applied ≡ did.Changed
+            → TakesAgain line.now self.old did.Changed self.new) }
         ensures changed { IfOk result (λ applied. applied ≡ did.Changed → SessionChanges self.old self.new) }
         ensures asked { IfOk result (λ applied. applied ≡ did.Changed → DoesAsSaid line.now self.old self.new) }
         ensures unchanged { IfOk result (λ applied. applied ≡ did.Unchanged → self.new ≡ self.old) }
@@ -183,11 +198,9 @@ impl Session {
     fn count(&mut self, came: &Outcome<'_, '_>)
         ensures opened { self.new.opened ≡ self.old.opened }
         ensures under_way { self.new.under_way ≡ self.old.under_way }
-        ensures place { is_change came.now ≡ false → self.new.place ≡ self.old.place }
+        ensures place { self.new.place ≡ count_after (is_change came.now) self.old.place }
     {
-        if came.has_changed() {
-            self.place = self.place.saturating_add(1);
-        }
+        self.place = count_after(came.has_changed(), self.place);
     }
 
     /// The servers and shards of the document in force, if there is one.
@@ -291,8 +304,8 @@ impl Session {
                     Err(error) => Err(error),
                 }
             }
-            ReopeningCommand::Confirm { base, cells } => {
-                match confirm_cells(&mut self.under_way, alloc, base, cells) {
+            ReopeningCommand::Confirm { base, cells, lost } => {
+                match confirm_cells(&mut self.under_way, alloc, base, cells, lost) {
                     Ok(came) => Ok(Outcome::Reopening(came)),
                     Err(error) => Err(error),
                 }

@@ -1,19 +1,26 @@
 //! Replies to questions.
-ghost use Rattle.std.specs.Prelude.{◌≡◌, ◌++◌, OnOk, codes};
+ghost use Rattle.std.specs.Prelude.{◌≡◌, ◌++◌, OnOk, codes, option_map};
+ghost use Rattle.json_tree.specs.View.{view};
 ghost use Rattle.sm_commands.specs.Members.{object_member};
-ghost use Rattle.sm_session.specs.Questions.{TellsAnswer, all_orders, orders_reply, present_notices, present_orders};
-ghost use Rattle.sm_session.specs.Questions.{epoch_member, hello_members, journal_member, present_journal, place_members};
+ghost use Rattle.sm_commands.specs.Refusals.{TellsRefused};
+ghost use Rattle.sm_commands.specs.declared.command.Question.TheVariants as asked;
+ghost use Rattle.sm_session.specs.Checks.{TellsCheck};
+ghost use Rattle.sm_session.specs.Questions.{TellsAnswer, TellsFailed, TellsOf, journal_in_force};
+ghost use Rattle.sm_session.specs.Questions.{all_orders, orders_reply, present_notices, present_orders};
+ghost use Rattle.sm_session.specs.Questions.{epoch_member, hello_members, journal_member, present_journal};
+ghost use Rattle.sm_session.specs.Questions.{place_members};
 
 use crate::answering::write_ignored;
 use crate::planning::{write_check, write_drain, write_moves};
 use crate::session::Session;
+use json_tree::Tree;
 use sm_commands::{
-    PlanQuestion, Question, SlotNeeds, StateOf, Writer, read_slots, refuse, write_bad, write_name,
-    write_number, write_text,
+    FailedAnswer, PlanQuestion, Question, SlotNeeds, StateOf, Writer, read_slots, refuse,
+    write_bad, write_name, write_number, write_text,
 };
 use sm_open_journal::{
-    Opened, write_audit, write_audited, write_bits, write_failed, write_map, write_no_list,
-    write_notices, write_plan_of, write_recorded, write_shard_of, write_since,
+    Opened, write_audit, write_audited, write_bits, write_document, write_failed, write_map,
+    write_no_list, write_notices, write_plan_of, write_recorded, write_shard_of, write_since,
 };
 use sm_reservation::StreamId;
 use std::alloc::{AllocError, Global};
@@ -35,27 +42,58 @@ impl Session {
             Question::Hello => self.write_hello(alloc, writer),
             Question::Orders => self.write_orders(alloc, writer),
             Question::State { of } => self.tell_state(alloc, of, writer),
-            Question::Map => match self.recorded(alloc, writer)? {
-                Some(opened) => write_map(opened, writer),
-                None => Ok(()),
-            },
-            Question::Since { place } => match self.recorded(alloc, writer)? {
-                Some(opened) => {
-                    let is_reopening = self.standing().is_reopening;
-                    write_since(opened, is_reopening, alloc, writer, self.place, place)
-                }
-                None => Ok(()),
-            },
+            Question::Map => self.tell_map(alloc, writer),
+            Question::Document => self.tell_document(alloc, writer),
+            Question::Since { place } => self.tell_since(alloc, place, writer),
             Question::InForce(question) => self.tell_in_force(alloc, question, writer),
         }
     }
 
-    /// The journal, if one was opened. If none was, writes that.
-    fn recorded(&self, alloc: Global, writer: &mut Writer) -> Result<Option<&Opened>, AllocError> {
-        if self.opened.is_none() {
-            refuse(writer, alloc, self.standing().closed_word(), &[])?;
+    /// The journal in force: the one that is open, as long as no reopening is under way.
+    fn in_force(&self) -> Option<&Opened>
+        ensures { option_map (λ opened. opened.now) result ≡ journal_in_force self.now }
+    {
+        match (&self.opened, &self.under_way) {
+            (_, Some(_)) => None,
+            (Some(opened), None) => Some(opened),
+            (None, None) => None,
         }
-        Ok(self.opened.as_ref())
+    }
+
+    /// Writes that there is no journal to tell of.
+    fn refuse_closed(&self, alloc: Global, writer: &mut Writer) -> Result<(), AllocError>
+        ensures { OnOk result (TellsRefused writer.old.tokens writer.new.tokens) }
+    {
+        refuse(writer, alloc, self.standing().closed_word(), &[])
+    }
+
+    /// Writes the published map.
+    fn tell_map(&self, alloc: Global, writer: &mut Writer) -> Result<(), AllocError>
+        ensures { OnOk result (TellsAnswer asked.Map self.now writer.old.tokens writer.new.tokens) }
+    {
+        match &self.opened {
+            Some(opened) => write_map(opened, writer),
+            None => self.refuse_closed(alloc, writer),
+        }
+    }
+
+    /// Writes the service as a document.
+    fn tell_document(&self, alloc: Global, writer: &mut Writer) -> Result<(), AllocError> {
+        match &self.opened {
+            Some(opened) => write_document(opened, writer),
+            None => self.refuse_closed(alloc, writer),
+        }
+    }
+
+    /// Writes what came up after a place.
+    fn tell_since(&self, alloc: Global, place: u64, writer: &mut Writer) -> Result<(), AllocError>
+        ensures { OnOk result (TellsAnswer (asked.Since place) self.now writer.old.tokens writer.new.tokens) }
+    {
+        let is_reopening = self.under_way.is_some();
+        match &self.opened {
+            Some(opened) => write_since(opened, is_reopening, alloc, writer, self.place, place),
+            None => self.refuse_closed(alloc, writer),
+        }
     }
 
     /// Writes what is recorded of a part of the state.
@@ -65,19 +103,69 @@ impl Session {
         of: StateOf<'_>,
         writer: &mut Writer,
     ) -> Result<(), AllocError> {
-        match of {
-            StateOf::Whole => self.write_state(alloc, writer),
-            StateOf::Shard(name) => match self.recorded(alloc, writer)? {
-                Some(opened) => write_shard_of(opened, alloc, writer, name),
-                None => Ok(()),
-            },
-            StateOf::Plan(number) => match self.recorded(alloc, writer)? {
-                Some(opened) => {
-                    let is_reopening = self.standing().is_reopening;
-                    write_plan_of(opened, is_reopening, alloc, writer, number)
-                }
-                None => Ok(()),
-            },
+        match (of, &self.opened) {
+            (StateOf::Whole, _) => self.write_state(alloc, writer),
+            (StateOf::Shard(name), Some(opened)) => write_shard_of(opened, alloc, writer, name),
+            (StateOf::Plan(number), Some(opened)) => {
+                write_plan_of(opened, self.under_way.is_some(), alloc, writer, number)
+            }
+            (_, None) => self.refuse_closed(alloc, writer),
+        }
+    }
+
+    /// Writes whether a plan would begin now.
+    fn tell_check(
+        &self,
+        alloc: Global,
+        plan: &Tree<'_>,
+        writer: &mut Writer,
+    ) -> Result<(), AllocError>
+        ensures { OnOk result (TellsOf (journal_in_force self.now) (λ o. TellsCheck o.driver.machine (view plan.now))
+            writer.old.tokens writer.new.tokens) }
+    {
+        match self.in_force() {
+            Some(opened) => write_check(opened, alloc, writer, plan),
+            None => self.refuse_closed(alloc, writer),
+        }
+    }
+
+    /// Writes what to do about an order that has failed.
+    fn tell_failed(
+        &self,
+        alloc: Global,
+        id: StreamId,
+        number: u64,
+        answer: FailedAnswer,
+        writer: &mut Writer,
+    ) -> Result<(), AllocError>
+        ensures { OnOk result (TellsFailed id number answer self.now.opened self.now.under_way
+            writer.old.tokens writer.new.tokens) }
+    {
+        match (&self.opened, &self.under_way) {
+            (_, Some(_)) => write_ignored(writer, "old"),
+            (Some(opened), None) => write_failed(opened, alloc, writer, id, number, answer),
+            (None, None) => self.refuse_closed(alloc, writer),
+        }
+    }
+
+    /// Writes whether the slots of a server, read at a place, are as recorded.
+    fn tell_audit(
+        &self,
+        alloc: Global,
+        server: &str,
+        place: u64,
+        slots: &[Tree<'_>],
+        writer: &mut Writer,
+    ) -> Result<(), AllocError> {
+        if place > self.place {
+            return write_audited(writer, server, "later");
+        }
+        let Some(opened) = self.in_force() else {
+            return self.refuse_closed(alloc, writer);
+        };
+        match read_slots(alloc, slots, SlotNeeds::Audit)? {
+            Ok(slots) => write_audit(opened, alloc, writer, server, place, slots.as_slice()),
+            Err(bad) => write_bad(writer, alloc, bad),
         }
     }
 
@@ -87,25 +175,31 @@ impl Session {
         alloc: Global,
         question: PlanQuestion<'_, '_>,
         writer: &mut Writer,
-    ) -> Result<(), AllocError> {
+    ) -> Result<(), AllocError>
+        ensures { OnOk result (TellsAnswer (asked.InForce question.entry) self.now
+            writer.old.tokens writer.new.tokens) }
+    {
         match question {
-            PlanQuestion::Audit { server, place, .. } if place > self.place => {
-                return write_audited(writer, server, "later");
-            }
-            PlanQuestion::Failed { .. } if self.under_way.is_some() => {
-                return write_ignored(writer, "old");
-            }
-            PlanQuestion::Check { .. }
-            | PlanQuestion::Moves { .. }
-            | PlanQuestion::Drain { .. }
-            | PlanQuestion::Audit { .. }
-            | PlanQuestion::Failed { .. } => {}
-        }
-        match &self.opened {
-            Some(opened) if self.under_way.is_none() => {
-                tell_planned(opened, alloc, question, writer)
-            }
-            _ => refuse(writer, alloc, self.standing().closed_word(), &[]),
+            PlanQuestion::Check { plan } => self.tell_check(alloc, plan, writer),
+            PlanQuestion::Moves { moves } => match self.in_force() {
+                Some(opened) => write_moves(opened, alloc, writer, moves),
+                None => self.refuse_closed(alloc, writer),
+            },
+            PlanQuestion::Drain { server } => match self.in_force() {
+                Some(opened) => write_drain(opened, alloc, writer, server),
+                None => self.refuse_closed(alloc, writer),
+            },
+            PlanQuestion::Failed {
+                plan,
+                stream,
+                number,
+                answer,
+            } => self.tell_failed(alloc, StreamId { plan, stream }, number, answer, writer),
+            PlanQuestion::Audit {
+                server,
+                place,
+                slots,
+            } => self.tell_audit(alloc, server, place, slots, writer),
         }
     }
 
@@ -202,7 +296,8 @@ impl Session {
         writer.end_object()
     }
 
-    /// Writes all present orders, and the servers that are to be told that they were carried over, as long as no reopening is under way.
+    /// Writes all present orders, and the servers that are to be told that they were carried over, as long as no
+    /// reopening is under way.
     fn write_orders_in_force(&self, alloc: Global, writer: &mut Writer) -> Result<(), AllocError>
         ensures { OnOk result (writer.new.tokens ≡ writer.old.tokens ++ orders_reply self.now.opened) }
     {
@@ -213,7 +308,8 @@ impl Session {
         Ok(())
     }
 
-    /// Writes all present orders, what a reopening waits for, and the servers that are to be told that they were carried over.
+    /// Writes all present orders, what a reopening waits for, and the servers that are to be told that they were
+    /// carried over.
     fn write_orders(&self, alloc: Global, writer: &mut Writer) -> Result<(), AllocError>
         ensures { OnOk result (writer.new.tokens ≡ writer.old.tokens ++ all_orders self.now.opened self.now.under_way) }
     {
@@ -249,36 +345,5 @@ fn write_present_notices(
     match opened {
         Some(opened) => write_notices(opened, alloc, writer),
         None => write_no_list(writer, "notice"),
-    }
-}
-
-/// Writes the reply to a question about plans and slots, as long as no reopening is under way.
-fn tell_planned(
-    opened: &Opened,
-    alloc: Global,
-    question: PlanQuestion<'_, '_>,
-    writer: &mut Writer,
-) -> Result<(), AllocError> {
-    match question {
-        PlanQuestion::Check { plan } => write_check(opened, alloc, writer, plan),
-        PlanQuestion::Moves { moves } => write_moves(opened, alloc, writer, moves),
-        PlanQuestion::Drain { server } => write_drain(opened, alloc, writer, server),
-        PlanQuestion::Failed {
-            plan,
-            stream,
-            number,
-            answer,
-        } => {
-            let id = StreamId { plan, stream };
-            write_failed(opened, alloc, writer, id, number, answer)
-        }
-        PlanQuestion::Audit {
-            server,
-            place,
-            slots,
-        } => match read_slots(alloc, slots, SlotNeeds::Audit)? {
-            Ok(slots) => write_audit(opened, alloc, writer, server, place, slots.as_slice()),
-            Err(bad) => write_bad(writer, alloc, bad),
-        },
     }
 }

@@ -5,10 +5,10 @@ ghost use Rattle.sm_reopening_lines.specs.Outcomes.{TellsTaken};
 ghost use Rattle.sm_reopening_lines.specs.Parties.{fences_member};
 ghost use Rattle.sm_reopening_lines.specs.Settles.{settles_member};
 ghost use Rattle.sm_session.specs.Questions.{fences_left, orders_during};
-ghost use Rattle.sm_session.specs.Reopenings.{TellsUnderWay};
+ghost use Rattle.sm_session.specs.Reopenings.{TellsNotUnderWay, TellsUnderWay};
 
 use crate::answering::write_ignored;
-use sm_commands::Writer;
+use sm_commands::{Writer, refuse};
 use sm_document_reopening::DocumentReopening;
 use sm_open_journal::{Opened, hexadecimal, write_no_list};
 use sm_reopening_lines::{ReopeningOutcome, write_fences, write_settles, write_state};
@@ -88,6 +88,20 @@ impl UnderWay {
     }
 }
 
+/// Writes the reply to a line on a reopening, as long as none is under way.
+fn write_not_under_way(
+    opened: &Option<Opened>,
+    alloc: Global,
+    writer: &mut Writer,
+) -> Result<(), AllocError>
+    ensures { OnOk result (TellsNotUnderWay opened.now writer.old.tokens writer.new.tokens) }
+{
+    match opened {
+        Some(_) => write_ignored(writer, "old"),
+        None => refuse(writer, alloc, "NotOpened", &[]),
+    }
+}
+
 /// Writes the reply to a line on the reopening under way, after the change.
 pub(crate) fn write_outcome(
     came: &ReopeningOutcome<'_>,
@@ -110,7 +124,7 @@ pub(crate) fn write_outcome(
         | ReopeningOutcome::Bad(_)
         | ReopeningOutcome::Refused(_) => match under_way {
             Some(current) => current.write_outcome(came, alloc, writer),
-            None => write_ignored(writer, "old"),
+            None => write_not_under_way(opened, alloc, writer),
         },
     }
 }

@@ -1,5 +1,5 @@
-//! Laws that join the lines of a session to the laws of the network: what a line changes is what a command of the driver
-//! does. Laws of replays: the same lines make sessions that are alike.
+//! Laws that join the lines of a session to the laws of the network: what a line changes is what a command of the
+//! driver does. Laws of replays: the same lines make sessions that are alike.
 #![tactic(auto)]
 
 mod law;

@@ -1,7 +1,8 @@
 //! Sessions that take the same entries.
 ghost use Rattle.sm_session_laws.specs.Alike.{AreSessionsAlike, EachSessionAlike, IsEquivalence};
 ghost use Rattle.sm_session_laws.specs.Plays.{NextEpochIsAnEntry};
-ghost use Rattle.sm_session_laws.specs.Replays.{EachReopeningAlike, EntriesGoAlike, ReopeningsGoAlike, ReplaysAgree, ReplaysStayAlike};
+ghost use Rattle.sm_session_laws.specs.Replays.{EachReopeningAlike, EntriesGoAlike, ReopeningsGoAlike, ReplaysAgree};
+ghost use Rattle.sm_session_laws.specs.Replays.{ReplaysStayAlike};
 
 use sm_driver::drivers_go_alike;
 
@@ -10,8 +11,8 @@ pub fn alike_is_equivalence()
     ensures { IsEquivalence AreSessionsAlike }
 {}
 
-/// States that if two sessions are alike, and take the same entry that opens a journal or is for the driver of one, they
-/// are alike again.
+/// States that if two sessions are alike, and take the same entry that opens a journal or is for the driver of one,
+/// they are alike again.
 pub fn entries_go_alike()
     ensures { EachSessionAlike EntriesGoAlike }
 {
@@ -37,8 +38,8 @@ pub fn reopenings_go_alike()
     ensures { EachReopeningAlike ReopeningsGoAlike }
 {}
 
-/// States that the premises of these laws can be met: whenever a driver can open the next epoch, the line that asks for it
-/// can be an entry.
+/// States that the premises of these laws can be met: whenever a driver can open the next epoch, the line that asks
+/// for it can be an entry.
 pub fn next_epoch_is_an_entry()
     ensures { NextEpochIsAnEntry }
 {}

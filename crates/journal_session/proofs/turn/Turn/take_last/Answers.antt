@@ -1,7 +1,7 @@
 use Rattle.std.proofs.Common.{◌≡◌, [], ◌∷◌, List, ℕ, length, map, refl, sym, ◌∙◌, ap}
 use Rattle.std.proofs.lemmas.Bool.{eqb-true, eqb-false}
 use Rattle.journal_session.specs.Pieces.{IsOneLine}
-use Rattle.journal_session.specs.Turn.{kept_line, lines_taken}
+use Rattle.journal_session.specs.Turn.{bare_line, kept_line, lines_taken, taken_line}
 use Rattle.journal_session.proofs.Lines.{kept_none, lines_open}
 use Rattle.journal_session.proofs.Turns.{took_none, leads_one}
 use Rattle.journal_session.proofs.turn.Turn.take_last.Goals as goal
@@ -9,9 +9,9 @@ use Rattle.journal_session.proofs.turn.Turn.take_last.Goals as goal
 taken_none : (raw text : List ℕ) → text ≡ kept_line raw → length text ≡ 0 → lines_taken raw ≡ []
 taken_none raw text is none = ap lines_taken (kept_none raw (ap length (sym is) ∙ none))
 
-taken_open : (raw text : List ℕ) → IsOneLine raw → text ≡ kept_line raw → (length text ≡ 0 → ⊥) → lines_taken raw ≡ text ∷ []
+taken_open : (raw text : List ℕ) → IsOneLine raw → text ≡ kept_line raw → (length text ≡ 0 → ⊥) → lines_taken raw ≡ bare_line text ∷ []
 taken_open raw text one_line is some =
-    ap (map kept_line) (lines_open raw one_line (λ none. some (ap length (is ∙ ap kept_line none)))) ∙ ap (λ (l : List ℕ). l ∷ []) (sym is)
+    ap (map taken_line) (lines_open raw one_line (λ none. some (ap length (is ∙ ap kept_line none)))) ∙ ap (λ (l : List ℕ). bare_line l ∷ []) (sym is)
 
 pub returns-then-is_empty : goal.returns-then-is_empty
 returns-then-is_empty g c raw one_line is =

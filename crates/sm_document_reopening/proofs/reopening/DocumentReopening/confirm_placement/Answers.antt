@@ -1,5 +1,5 @@
 -- A settlement that is confirmed is kept under both orders.
-use Rattle.std.proofs.Common.{◌∙◌, ap, arith, subst, sym}
+use Rattle.std.proofs.Common.{◌∙◌, ap, arith, refl, subst, sym}
 use Rattle.sm_placement.specs.Layout.{place_of}
 use Rattle.sm_network.specs.Reopening.{Confirm, Settlement, entered}
 use Rattle.sm_reopening.specs.Faults.{MayConfirm}
@@ -22,4 +22,4 @@ invariant_of-self c =
 pub returns-in-Ok-clause-confirmed : goal.returns-in-Ok-clause-confirmed
 returns-in-Ok-clause-confirmed c =
     let s : Settlement = record { setup = c.args.settlement.setup; place = place_of c.args.settlement; room = c.self.inside.document.log } in
-    (s, subst (λ (r : ReopeningModel). MayConfirm r.ongoing s) c.self.view_is c.in-Ok.ensures.may, c.in-Ok.ensures.reopening ∙ ap (λ (r : ReopeningModel). entered (Confirm s) (net_reopening r.ongoing)) c.self.view_is)
+    (s, subst (λ (r : ReopeningModel). MayConfirm r.ongoing s) c.self.view_is c.in-Ok.ensures.may, c.in-Ok.ensures.reopening ∙ ap (λ (r : ReopeningModel). entered (Confirm s) (net_reopening r.ongoing)) c.self.view_is, refl)

@@ -1,6 +1,13 @@
-use Rattle.std.proofs.Common.{◌≡◌}
+use Rattle.std.proofs.Common.{◌≡◌, ◌<◌, ℕ, None}
+use Rattle.sm_document_reopening.specs.RoleGrids.{role_at}
+use Rattle.sm_document_reopening.proofs.Chosen.{filled}
 use Rattle.sm_document_reopening.proofs.roles.Roles.clear.Given as goal
 
--- there are as many
+-- the servers so far have none, and there are as many
 abbrev pub invariant-loop-number : goal.invariant-loop-number
-invariant-loop-number l = record { shards : l.self.shards ≡ l.initial.self.shards; servers : l.self.servers ≡ l.initial.self.servers }
+invariant-loop-number l = record {
+  shards : l.self.shards ≡ l.initial.self.shards;
+  servers : l.self.servers ≡ l.initial.self.servers;
+  roles : (s v : ℕ) → s < l.initial.self.shards → v < l.initial.self.servers
+      → role_at l.self s v ≡ filled (role_at l.initial.self) l.shard (λ u. None) l.number s v;
+}

@@ -1,7 +1,7 @@
 use Rattle.std.proofs.Common.{subst}
 use Rattle.json_tree.specs.View.{view}
 use Rattle.sm_session.specs.Exchanges.{ReadsObject}
-use Rattle.sm_session.proofs.Taken.{apply_asks, apply_behind, apply_changes, apply_declines, apply_keeps, apply_object, apply_tells, bad_tells}
+use Rattle.sm_session.proofs.Taken.{apply_asks, apply_behind, apply_changes, apply_declines, apply_keeps, apply_object, apply_takes, apply_tells, bad_tells}
 use Rattle.sm_session.proofs.session.Session.apply.Goals as goal
 
 pub returns-in-Ok-clause-changed : goal.returns-in-Ok-clause-changed
@@ -44,3 +44,8 @@ pub returns-clause-told : goal.returns-clause-told
 returns-clause-told c =
     bad_tells c.args.line.now c.in-Err.bad c.args.self.now c.args.reply.now.items c.write_reply.new.reply.items
     (subst (ReadsObject c.args.line.now) c.in-Err.is c.in_ok-read.ensures) c.in_ok-write_reply-in-Err.ensures
+
+pub returns-in-Ok-clause-taken : goal.returns-in-Ok-clause-taken
+returns-in-Ok-clause-taken c =
+    apply_takes c.args.line.now (view c.in-Ok.tree) c.args.self.now c.answer.new.self c.args.reply.now.items c.answer.new.reply.items
+    (subst (ReadsObject c.args.line.now) c.in-Ok.is c.in_ok-read.ensures).0 c.answer.result c.answer.ensures

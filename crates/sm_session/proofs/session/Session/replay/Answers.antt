@@ -1,7 +1,7 @@
-use Rattle.std.proofs.Common.{◌≡◌, ◌∙◌, Some, ap}
+use Rattle.std.proofs.Common.{◌≡◌, ◌∙◌, Some, ap, refl}
 use Rattle.json_tree.specs.View.{view}
 use Rattle.sm_plan_text.specs.Reading.{data_of}
-use Rattle.sm_session.specs.Exchanges.{effect_if}
+use Rattle.sm_session.specs.Exchanges.{OfNoValue, OfValue, effect_if}
 use Rattle.sm_session.proofs.Found.{found_is}
 use Rattle.sm_session.proofs.Taken.{entry_asks, entry_changes, entry_keeps, some_reply, unchanged_reply}
 use Rattle.sm_session.proofs.session.Session.replay.Goals as goal
@@ -32,3 +32,12 @@ returns-in-Ok-clause-told c =
     some_reply c.args.entry.now (view c.in-Some.tree) c.args.self.now c.in-Ok.came c.take.new.self c.of.result
     (found_is (λ tree. data_of c.args.entry.now ≡ Some (view tree)) c.in_ok-tree.field-0 c.in-Some.tree c.in-Some.is c.in_ok-tree.ensures.value)
     c.in-Ok.ensures (c.of.ensures ∙ ap effect_if c.has_changed.ensures)
+
+pub returns-in-Ok-clause-taken : goal.returns-in-Ok-clause-taken
+returns-in-Ok-clause-taken c =
+    OfValue (view c.in-Some.tree)
+    (found_is (λ tree. data_of c.args.entry.now ≡ Some (view tree)) c.in_ok-tree.field-0 c.in-Some.tree c.in-Some.is c.in_ok-tree.ensures.value)
+    c.in-Ok.came c.in-Ok.ensures (c.of.ensures ∙ ap effect_if c.has_changed.ensures)
+
+pub returns-in_default-clause-taken : goal.returns-in_default-clause-taken
+returns-in_default-clause-taken c = OfNoValue (c.in_ok-tree.ensures.none c.in_default.is) refl refl

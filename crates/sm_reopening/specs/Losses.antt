@@ -1,0 +1,52 @@
+-- The shards that may have lost acknowledged writes. A primary may have acknowledged some alone.
+use Rattle.std.specs.Prelude.{ℕ, ◌&&◌, ◌||◌, ◌==◌, Bool, is_none, is_some, length, nat_lt}
+use Rattle.sm_server.specs.Cell.{is_secondary}
+use Rattle.sm_placement.specs.Lead.{has_part}
+use Rattle.sm_placement.specs.Opening.{first_below}
+use Rattle.sm_network.specs.Reopening.{Server}
+use Rattle.sm_reopening.specs.declared.ongoing.OngoingReopening.{OngoingReopening}
+use Rattle.sm_reopening.specs.Ongoing.{net_reopening, recorded_place, recorded_setup}
+use Rattle.sm_reopening.specs.Proposal.{Documented, has_whole, is_bare}
+use Rattle.sm_reopening.specs.Settles.{nonce_of}
+use Rattle.sm_reopening.specs.Survivors.{standing_of}
+
+-- the server is the shard's primary still: it has told so, or is carried over as it is recorded
+abbrev pub is_primary_still : OngoingReopening → ℕ → ℕ → Bool
+is_primary_still x s v = nat_lt 3 (standing_of x s v).claim
+
+-- the server is recorded with a part in the shard's lead: as its primary, or in a handover
+abbrev pub has_recorded_part : OngoingReopening → ℕ → ℕ → Bool
+has_recorded_part x s v = has_part ((recorded_place x).cells s v)
+
+-- The server may have served the shard: it is recorded with a part in its lead, or as a secondary of a shard without a
+-- lead, whose primary it may have become since.
+abbrev pub may_have_served : OngoingReopening → ℕ → ℕ → Bool
+may_have_served x s v =
+    has_recorded_part x s v
+    || (is_secondary ((recorded_place x).cells s v)
+    && is_none (first_below (net_reopening x).servers (has_recorded_part x s)))
+
+-- the server may have served any shard: a reopening that was replaced sent it a settle, or nothing is recorded
+abbrev pub may_have_served_any : OngoingReopening → ℕ → Bool
+may_have_served_any x v = (net_reopening x).promised v || (length (recorded_setup x).servers == 0)
+
+-- the server has no slots any more: it is lost, or Unknown
+abbrev pub has_no_slots : OngoingReopening → ℕ → Bool
+has_no_slots x v = (net_reopening x).lost v || is_some (nonce_of ((net_reopening x).told (Server v)))
+
+-- a server that may have served the shard is lost or Unknown, or tells nothing of it
+abbrev pub has_gone : OngoingReopening → ℕ → ℕ → Bool
+has_gone x s v =
+    (may_have_served x s v && ((standing_of x s v).claim == 0)) || (may_have_served_any x v && has_no_slots x v)
+
+-- acknowledged writes of the shard may be lost: no primary is left, and a server that may have served it is gone
+abbrev pub may_lack_writes : OngoingReopening → ℕ → Bool
+may_lack_writes x s =
+    is_none (first_below (net_reopening x).servers (is_primary_still x s))
+    && is_some (first_below (net_reopening x).servers (has_gone x s))
+
+-- The proposal names the shard as lost: nobody is left who has all of it, and somebody had something; or somebody has,
+-- and it may lack acknowledged writes.
+abbrev pub is_named_lost : OngoingReopening → Documented → ℕ → Bool
+is_named_lost x d s =
+    is_bare x d s || (is_some (first_below (net_reopening x).servers (has_whole x s)) && may_lack_writes x s)

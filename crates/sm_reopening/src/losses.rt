@@ -1,0 +1,116 @@
+//! Shards that may have lost acknowledged writes.
+ghost use Rattle.std.specs.Prelude.{◌≡◌, None};
+ghost use Rattle.sm_placement.specs.Layout.{grid_of};
+ghost use Rattle.sm_placement.specs.Opening.{first_below};
+ghost use Rattle.sm_reopening.specs.Losses.{has_gone, has_no_slots, has_recorded_part, is_named_lost};
+ghost use Rattle.sm_reopening.specs.Losses.{is_primary_still, may_have_served, may_have_served_any, may_lack_writes};
+ghost use Rattle.sm_reopening.specs.Ongoing.{net_reopening};
+
+use crate::ongoing::OngoingReopening;
+use crate::proposal::has_part;
+use sm_server::{Cell, Role, ServerId, ShardId};
+
+impl OngoingReopening {
+    /// Whether a server is a shard's primary still, as it has told, or as it is recorded and carried over.
+    fn is_primary_still(&self, shard: ShardId, server: ServerId) -> bool
+        ensures { result ≡ is_primary_still self.now shard server }
+    {
+        self.standing(shard, server).claim > 3
+    }
+
+    /// The lowest server that is a shard's primary still.
+    #[tactic(auto, using(sm_placement::proofs::Searches::find_range_more))]
+    fn first_primary(&self, shard: ShardId) -> Option<ServerId>
+        ensures { result ≡ first_below (net_reopening self.now).servers (is_primary_still self.now shard) }
+    {
+        for number in 0..self.server_count() {
+            if self.is_primary_still(shard, ServerId::new(number)) {
+                return Some(ServerId::new(number));
+            }
+        }
+        None
+    }
+
+    /// Whether a server is recorded with a part in a shard's lead.
+    fn has_recorded_part(&self, shard: ShardId, server: ServerId) -> bool
+        ensures { result ≡ has_recorded_part self.now shard server }
+    {
+        has_part(&self.recorded_cell(shard, server))
+    }
+
+    /// The lowest server that is recorded with a part in a shard's lead.
+    #[tactic(auto, using(sm_placement::proofs::Searches::find_range_more))]
+    fn first_recorded_part(&self, shard: ShardId) -> Option<ServerId>
+        ensures { result ≡ first_below (net_reopening self.now).servers (has_recorded_part self.now shard) }
+    {
+        for number in 0..self.server_count() {
+            if self.has_recorded_part(shard, ServerId::new(number)) {
+                return Some(ServerId::new(number));
+            }
+        }
+        None
+    }
+
+    /// Whether a server may have served a shard, as it is recorded.
+    fn may_have_served(&self, shard: ShardId, server: ServerId) -> bool
+        ensures { result ≡ may_have_served self.now shard server }
+    {
+        match self.recorded_cell(shard, server) {
+            Cell::Absent => false,
+            Cell::Secondary => self.first_recorded_part(shard).is_none(),
+            Cell::Primary | Cell::Prepared { .. } | Cell::Forwarding { .. } => true,
+        }
+    }
+
+    /// Whether a server may have served any shard, whatever is recorded.
+    fn may_have_served_any(&self, server: ServerId) -> bool
+        ensures { result ≡ may_have_served_any self.now server }
+    {
+        self.was_sent(server) || self.past.config().server_count() == 0
+    }
+
+    /// Whether a server has no slots any more.
+    fn has_no_slots(&self, server: ServerId) -> bool
+        ensures { result ≡ has_no_slots self.now server }
+    {
+        self.is_lost(server) || self.nonce(server).is_some()
+    }
+
+    /// Whether a server that may have served a shard is lost or Unknown, or tells nothing of it.
+    fn has_gone(&self, shard: ShardId, server: ServerId) -> bool
+        ensures { result ≡ has_gone self.now shard server }
+    {
+        let is_absent = self.standing(shard, server).claim == 0;
+        (self.may_have_served(shard, server) && is_absent)
+            || (self.may_have_served_any(server) && self.has_no_slots(server))
+    }
+
+    /// The lowest server that may have served a shard, and is gone.
+    #[tactic(auto, using(sm_placement::proofs::Searches::find_range_more))]
+    fn first_gone(&self, shard: ShardId) -> Option<ServerId>
+        ensures { result ≡ first_below (net_reopening self.now).servers (has_gone self.now shard) }
+    {
+        for number in 0..self.server_count() {
+            if self.has_gone(shard, ServerId::new(number)) {
+                return Some(ServerId::new(number));
+            }
+        }
+        None
+    }
+
+    /// Whether acknowledged writes of a shard may be lost.
+    fn may_lack_writes(&self, shard: ShardId) -> bool
+        ensures { result ≡ may_lack_writes self.now shard }
+    {
+        self.first_primary(shard).is_none() && self.first_gone(shard).is_some()
+    }
+
+    /// Whether the proposal names a shard as lost. `documented` has the document's roles, shard after shard, with
+    /// one for each number of a server.
+    pub fn is_named_lost(&self, documented: &[Option<Role>], shard: ShardId) -> bool
+        ensures { result ≡ is_named_lost self.now (grid_of (net_reopening self.now).servers None documented.now) shard }
+    {
+        self.is_bare(documented, shard)
+            || (self.first_whole(shard).is_some() && self.may_lack_writes(shard))
+    }
+}
