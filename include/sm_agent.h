@@ -215,7 +215,7 @@ uint32_t sm_fence(sm_base *base, const sm_reopening *reopening, uint64_t nonce);
 
 /* Takes a settle or a restore, or nothing of it: SM_TAKEN, SM_AGAIN (answer a settle again) or SM_IGNORED; or SM_INCOMPLETE, if another number of
  * the shards than `slots` says has a slot that is brought. `shards` are the `n` shards of which the server has a slot or is brought one. If it is
- * taken, each slot becomes what is brought of its shard; a slot of which nothing is brought becomes SM_ABSENT: delete the shard's data. Store base
+ * taken, each slot becomes what is brought of its shard; a slot of which nothing is brought becomes SM_ABSENT: set the shard's data aside. Store base
  * and slots in one act. The owner of the published map has no shards. */
 uint32_t sm_take(sm_base *base, const sm_assignment *assignment, sm_shard *shards, size_t n);
 

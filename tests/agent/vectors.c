@@ -12,7 +12,7 @@
 #include "sm_agent.h"
 
 /* The numbers of a line, in front of its sign and behind it. */
-enum { MOST = 64, MOST_SHARDS = 4 };
+enum { MOST = 64, MOST_SHARDS = 4, MOST_COPIES = 4 };
 static uint64_t given[MOST], wanted[MOST], made[MOST];
 static int given_count, wanted_count, made_count, taken;
 
@@ -138,6 +138,42 @@ static void call_messages(const char *name) {
   }
 }
 
+static sm_copy take_copy(void) {
+  sm_copy copy = {0};
+  copy.view = take(), copy.position = take();
+  return copy;
+}
+/* Takes copies that were told, or a list's views, each behind their count. */
+static size_t take_copies(sm_copy *copies) {
+  size_t count = (size_t)take();
+  for (size_t i = 0; i < count && i < MOST_COPIES; i++) copies[i] = take_copy();
+  return count;
+}
+static size_t take_views(sm_view *views) {
+  size_t count = (size_t)take();
+  for (size_t i = 0; i < count && i < MOST_COPIES; i++) views[i].view = take(), views[i].position = take();
+  return count;
+}
+static void call_copies(const char *name) {
+  sm_copy one, others[MOST_COPIES] = {{0, 0}};
+  sm_view views[MOST_COPIES] = {{0, 0}};
+  uint64_t copies, number;
+  size_t count;
+  if (!strcmp(name, "compare")) {
+    one = take_copy(), others[0] = take_copy();
+    give(sm_compare(&one, others));
+  } else if (!strcmp(name, "resumes")) {
+    one = take_copy(), count = take_views(views), number = take();
+    give(sm_resumes(&one, views, count, number));
+  } else if (!strcmp(name, "copied")) {
+    copies = take(), one = take_copy(), count = take_copies(others), number = take();
+    give(sm_copied(copies, &one, others, count, number));
+  } else if (!strcmp(name, "acknowledged")) {
+    copies = take(), one = take_copy(), count = take_copies(others);
+    give(sm_acknowledged(copies, &one, others, count));
+  }
+}
+
 /* Reads a line of words into numbers. */
 static const char *read_line(char *line) {
   const char *name = strtok(line, " \n");
@@ -167,7 +203,7 @@ static int run_vectors(void) {
     if (is_message) call_messages(name);
     else if (!strcmp(name, "route")) call_route();
     else if (!strcmp(name, "take")) call_take();
-    else call_orders(name), call_slots(name);
+    else call_orders(name), call_slots(name), call_copies(name);
     if (!made_count || made_count != wanted_count || memcmp(made, wanted, sizeof *made * (size_t)made_count)) fail("another answer", copy);
     if (taken != given_count) fail("another number of words", copy);
     count++;

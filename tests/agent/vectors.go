@@ -57,6 +57,24 @@ func (n *numbers) pass() *Pass {
 	return &Pass{party, handover, cut}
 }
 
+func (n *numbers) copy() ToldCopy { return ToldCopy{n.next(), n.next()} }
+
+func (n *numbers) copies() []ToldCopy {
+	it := make([]ToldCopy, n.next())
+	for i := range it {
+		it[i] = n.copy()
+	}
+	return it
+}
+
+func (n *numbers) views() []ViewStart {
+	it := make([]ViewStart, n.next())
+	for i := range it {
+		it[i] = ViewStart{n.next(), n.next()}
+	}
+	return it
+}
+
 func bit(fact bool) uint64 {
 	if fact {
 		return 1
@@ -120,6 +138,14 @@ func ofCall(name string, n *numbers) numbers {
 		return ofSlot(Seal(n.slot(), n.next(), n.next()))
 	case "has_reached_cut":
 		return doneIf(HasReachedCut(n.slot(), n.next()))
+	case "compare":
+		return numbers{uint64(22 + Compare(n.copy(), n.copy()))}
+	case "resumes":
+		return doneIf(Resumes(n.copy(), n.views(), n.next()))
+	case "copied":
+		return doneIf(IsCopied(n.next(), n.copy(), n.copies(), n.next()))
+	case "acknowledged":
+		return numbers{Acknowledged(n.next(), n.copy(), n.copies())}
 	}
 	base := n.base()
 	switch name {
@@ -191,28 +217,8 @@ func wantZeros() {
 	want("Publish", Publish(base, 0, Stamp{}) == NotReady)
 }
 
-// wantCopies shows how copies compare and go on, and what enough of them have, worked by hand: of these there are no vectors yet.
-func wantCopies() {
-	early, later := ToldCopy{2, 9}, ToldCopy{5, 3}
-	want("Compare", Compare(early, later) == -1 && Compare(later, early) == 1 && Compare(early, early) == 0 && Compare(early, ToldCopy{2, 8}) == 1)
-	views := []ViewStart{{2, 0}, {5, 4}, {6, 4}}
-	for _, it := range []ToldCopy{{2, 0}, {2, 4}, {5, 4}, {6, 4}, {6, 7}} {
-		want("Resumes", Resumes(it, views, 7))
-	}
-	for _, it := range []ToldCopy{{2, 5}, {5, 5}, {6, 8}, {3, 1}} {
-		want("Resumes", !Resumes(it, views, 7))
-	}
-	want("Resumes of nothing", !Resumes(ToldCopy{}, nil, 0))
-	own, told := ToldCopy{5, 8}, []ToldCopy{{5, 6}, {5, 9}, {2, 7}, {6, 7}}
-	for copies, position := range []uint64{8, 8, 8, 6, 0} {
-		want("Acknowledged", Acknowledged(uint64(copies), own, told) == position)
-	}
-	want("IsCopied", IsCopied(3, own, told, 6) && !IsCopied(3, own, told, 7) && !IsCopied(1, own, told, 9))
-}
-
 func main() {
 	wantZeros()
-	wantCopies()
 	count, lines := 0, bufio.NewScanner(os.Stdin)
 	for ; lines.Scan(); count++ {
 		given, wanted, _ := strings.Cut(lines.Text(), " =")

@@ -69,6 +69,15 @@ impl Numbers {
         };
         Order { stamp, call, load, room }
     }
+    fn copy(&mut self) -> ToldCopy {
+        ToldCopy { view: self.next(), position: self.next() }
+    }
+    fn copies(&mut self) -> Vec<ToldCopy> {
+        (0..self.next()).map(|_| self.copy()).collect()
+    }
+    fn views(&mut self) -> Vec<ViewStart> {
+        (0..self.next()).map(|_| ViewStart { view: self.next(), position: self.next() }).collect()
+    }
     fn passed(&mut self) -> Option<Pass> {
         let (handover, cut, party, is_passed) = (self.next(), self.next(), self.short(), self.next());
         (is_passed == 1).then_some(Pass { party, handover, cut })
@@ -120,6 +129,11 @@ fn done_if(fact: bool) -> Vec<u64> {
     vec![if fact { 18 } else { 19 }]
 }
 
+fn of_order(order: Ordering) -> Vec<u64> {
+    let orders = [Ordering::Less, Ordering::Equal, Ordering::Greater];
+    vec![21 + orders.iter().position(|it| *it == order).expect("an order") as u64]
+}
+
 /// Takes an assignment: each shard has its place in the line as its name.
 fn of_take(base: &Base, it: &mut Numbers) -> Vec<u64> {
     let assignment = it.assignment();
@@ -139,6 +153,10 @@ fn of_call(name: &str, it: &mut Numbers) -> Vec<u64> {
         "abandon" => return of_slot(&abandon(&it.slot())),
         "seal" => return of_slot(&seal(&it.slot(), it.next(), it.next())),
         "has_reached_cut" => return done_if(has_reached_cut(&it.slot(), it.next())),
+        "compare" => return of_order(compare(&it.copy(), &it.copy())),
+        "resumes" => return done_if(resumes(&it.copy(), &it.views(), it.next())),
+        "copied" => return done_if(is_copied(it.next(), &it.copy(), &it.copies(), it.next())),
+        "acknowledged" => return vec![acknowledged(it.next(), &it.copy(), &it.copies())],
         _ => (),
     }
     let base = it.base();
@@ -188,28 +206,12 @@ fn want_zeros() {
     assert_eq!(publish(&base, 0, &stamp), Verdict::NotReady);
 }
 
-/// How copies compare and go on, and what enough of them have, worked by hand: of these there are no vectors yet.
-fn want_copies() {
-    let told = |view, position| ToldCopy { view, position };
-    let (early, later) = (told(2, 9), told(5, 3));
-    assert_eq!([compare(&early, &later), compare(&later, &early)], [Ordering::Less, Ordering::Greater]);
-    assert_eq!([compare(&early, &early), compare(&early, &told(2, 8))], [Ordering::Equal, Ordering::Greater]);
-    let views = [(2, 0), (5, 4), (6, 4)].map(|(view, position)| ViewStart { view, position });
-    let goes_on = |(view, position)| resumes(&told(view, position), &views, 7);
-    assert!([(2, 0), (2, 4), (5, 4), (6, 4), (6, 7)].into_iter().all(goes_on));
-    assert!(![(2, 5), (5, 5), (6, 8), (3, 1)].into_iter().any(goes_on) && !resumes(&told(0, 0), &[], 0));
-    let (own, others) = (told(5, 8), [told(5, 6), told(5, 9), told(2, 7), told(6, 7)]);
-    assert_eq!([0, 1, 2, 3, 4].map(|copies| acknowledged(copies, &own, &others)), [8, 8, 8, 6, 0]);
-    assert_eq!([(3, 6), (3, 7), (1, 9)].map(|(copies, at)| is_copied(copies, &own, &others, at)), [true, false, false]);
-}
-
 fn numbers(text: &str) -> Vec<u64> {
     text.split_whitespace().map(|word| word.parse().expect("a number")).collect()
 }
 
 fn main() {
     want_zeros();
-    want_copies();
     let mut count = 0;
     for line in io::stdin().lock().lines() {
         let line = line.expect("a line");

@@ -25,7 +25,7 @@ impl Dice {
         (self.state >> 33) % bound
     }
 
-    /// Returns true once in `times` draws, on average.
+    /// Draws true once in `times`, on average.
     pub fn once_in(&mut self, times: u64) -> bool
         requires { 0 < times }
     {

@@ -9,7 +9,7 @@ pub struct Line {
 }
 
 impl Line {
-    /// Returns an empty line.
+    /// An empty line.
     pub fn new(alloc: Global) -> Self {
         Line {
             alloc,
@@ -17,7 +17,7 @@ impl Line {
         }
     }
 
-    /// Returns the line's text.
+    /// The line's text.
     pub fn text(&self) -> &str {
         self.text.as_str()
     }

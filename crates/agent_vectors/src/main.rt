@@ -14,7 +14,7 @@ use std::process::ExitCode;
 use std::rt::Env;
 use std::{env, io};
 
-/// Returns the number of lines that the command line asks for, if it asks for one.
+/// The number of lines that the command line asks for, if it asks for one.
 fn lines_asked(rt: &(impl Alloc + Env)) -> io::Result<Option<u32>> {
     let mut args = env::args(rt)?;
     let _program = args.next();

@@ -1,12 +1,14 @@
 //! Drawn values, as numbers, and what the functions make of them.
+mod copies;
 mod drawn;
 mod shown;
 
 use crate::dice::Dice;
 use crate::line::Line;
+use copies::{draw_acknowledged, draw_compare, draw_copied, draw_resumes};
 use drawn::{base, base_for, journal, order, request, shard, slot};
 use shown::{
-    assignment_numbers, base_numbers, order_numbers, part_numbers, reception_numbers,
+    assignment_numbers, base_numbers, done_number, order_numbers, part_numbers, reception_numbers,
     request_numbers, routing_numbers, slot_numbers, verdict_number,
 };
 use sm_agent::{
@@ -17,14 +19,18 @@ use std::alloc::AllocError;
 
 /// Draws a line. Orders and requests are most of them.
 pub fn draw_line(dice: &mut Dice, line: &mut Line, number: u32) -> Result<(), AllocError> {
-    match number % 16 {
+    match number % 20 {
         0..5 => draw_judge(dice, line),
         5..8 => draw_commit(dice, line),
         8..11 => draw_route(dice, line),
         11 => draw_fence(dice, line),
         12..14 => draw_take(dice, line),
         14 => draw_publish(dice, line),
-        _ => draw_small(dice, line),
+        15 => draw_small(dice, line),
+        16 => draw_compare(dice, line),
+        17 => draw_resumes(dice, line),
+        18 => draw_copied(dice, line),
+        _ => draw_acknowledged(dice, line),
     }
 }
 
@@ -202,7 +208,7 @@ fn draw_small(dice: &mut Dice, line: &mut Line) -> Result<(), AllocError> {
             line.push(&base_numbers(&base))?;
             line.push(&slot_numbers(&slot))?;
             line.push_equals()?;
-            line.push(&[if may_delete(&base, &slot) { 18 } else { 19 }])
+            line.push(&[done_number(may_delete(&base, &slot))])
         }
         _ => {
             let applied = dice.below(6);
@@ -210,11 +216,7 @@ fn draw_small(dice: &mut Dice, line: &mut Line) -> Result<(), AllocError> {
             line.push(&slot_numbers(&slot))?;
             line.push(&[applied])?;
             line.push_equals()?;
-            line.push(&[if has_reached_cut(&slot, applied) {
-                18
-            } else {
-                19
-            }])
+            line.push(&[done_number(has_reached_cut(&slot, applied))])
         }
     }
 }

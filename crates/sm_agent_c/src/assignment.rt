@@ -133,7 +133,8 @@ pub extern "C" fn sm_take(
     shards: &mut [RawShardSlot],
 ) -> u32
     ensures answer { result ≡ take_answer (take_result base.old assignment.now shards.old) }
-    ensures base { base.new ≡ received_base base.old (reception_within (take_result base.old assignment.now shards.old)) }
+    ensures base { base.new
+        ≡ received_base base.old (reception_within (take_result base.old assignment.now shards.old)) }
     ensures shards { shards.new ≡ shards_after base.old (take_result base.old assignment.now shards.old) shards.old }
 {
     let (Some(known), Some(message)) = (read_base(base), read_assignment(assignment)) else {

@@ -26,7 +26,8 @@ const fn code_of(order: Ordering) -> u32
 /// Compares two copies.
 #[unsafe(no_mangle)]
 pub extern "C" fn sm_compare(one: &ToldCopy, other: &ToldCopy) -> u32
-    ensures { (order : Ordering) × (result ≡ order_code order) × MatchOrdering order (IsLesser one.now other.now) (one.now ≡ other.now) (IsLesser other.now one.now) }
+    ensures { (order : Ordering) × (result ≡ order_code order)
+        × MatchOrdering order (IsLesser one.now other.now) (one.now ≡ other.now) (IsLesser other.now one.now) }
 {
     code_of(compare(one, other))
 }
@@ -47,7 +48,7 @@ pub extern "C" fn sm_copied(copies: u64, own: &ToldCopy, told: &[ToldCopy], posi
     code::done_if(is_copied(copies, own, told, position))
 }
 
-/// Returns the position up to which a primary acknowledges.
+/// The position up to which a primary acknowledges.
 #[unsafe(no_mangle)]
 pub extern "C" fn sm_acknowledged(copies: u64, own: &ToldCopy, told: &[ToldCopy]) -> u64
     ensures { IsAcknowledged copies own.now told.now result }

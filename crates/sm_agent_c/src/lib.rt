@@ -1,4 +1,5 @@
-//! The agent for programs in C: structs of fixed layout, and functions on pointers to these. include/sm_agent.h declares them.
+//! The agent for programs in C: structs of fixed layout, and functions on pointers to these, which include/sm_agent.h
+//! declares.
 #![tactic(auto)]
 
 mod assignment;

@@ -46,8 +46,10 @@ pub extern "C" fn sm_route(
     request: &RawRequest,
     onward: &mut RawRequest,
 ) -> u32
-    ensures answer { result ≡ routing_answer (route_of (base_of base.now) (slot_of slot.now) applied (request_of request.now)) }
-    ensures onward { onward.new ≡ passed_request onward.old (route_of (base_of base.now) (slot_of slot.now) applied (request_of request.now)) }
+    ensures answer { result
+        ≡ routing_answer (route_of (base_of base.now) (slot_of slot.now) applied (request_of request.now)) }
+    ensures onward { onward.new ≡ passed_request onward.old
+        (route_of (base_of base.now) (slot_of slot.now) applied (request_of request.now)) }
 {
     let (Some(base), Some(request)) = (read_base(base), read_request(request)) else {
         return code::BAD;

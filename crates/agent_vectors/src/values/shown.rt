@@ -1,6 +1,8 @@
 //! Values as numbers, in the order of tests/agent/README.md.
 use sm_agent::{Assignment, Base, Order, Part, Reception, Relay, Request, Routing, Slot, Verdict};
+use sm_copies::{ToldCopy, ViewStart};
 use sm_server::{Call, Cell, Refusal, Role};
+use std::cmp::Ordering;
 
 pub fn base_numbers(base: &Base) -> [u64; 5] {
     [
@@ -12,7 +14,7 @@ pub fn base_numbers(base: &Base) -> [u64; 5] {
     ]
 }
 
-/// Returns a cell's kind, and the other party and the number of a handover.
+/// A cell's kind, and the other party and the number of a handover.
 fn cell_numbers(cell: &Cell) -> [u64; 3] {
     match cell {
         Cell::Absent => [1, 0, 0],
@@ -37,7 +39,7 @@ pub fn slot_numbers(slot: &Slot) -> [u64; 8] {
     ]
 }
 
-/// Returns what is brought of a shard, zeros if nothing is.
+/// The numbers of what a server is brought of a shard, or zeros if it is brought nothing.
 pub fn part_numbers(brought: &Option<Part>) -> [u64; 4] {
     match brought {
         None => [0, 0, 0, 0],
@@ -48,7 +50,7 @@ pub fn part_numbers(brought: &Option<Part>) -> [u64; 4] {
     }
 }
 
-/// Returns an assignment's kind, journal, fence, number, whether it has a nonce, and that.
+/// An assignment's kind, journal, fence, number, whether it has a nonce, and that.
 pub fn assignment_numbers(assignment: &Assignment) -> [u64; 6] {
     match assignment {
         Assignment::Settle(it) => [
@@ -121,7 +123,7 @@ pub fn verdict_number(verdict: Verdict) -> u64 {
     }
 }
 
-/// Returns the answer, and how a request is passed on, zeros if it is not.
+/// The answer, and how a request is passed on, zeros if it is not.
 pub fn routing_numbers(routing: Routing) -> [u64; 5] {
     match routing {
         Routing::Execute => [12, 0, 0, 0, 0],
@@ -131,7 +133,7 @@ pub fn routing_numbers(routing: Routing) -> [u64; 5] {
     }
 }
 
-/// Returns the answer, and the base afterwards.
+/// The answer, and the base afterwards.
 pub fn reception_numbers(reception: Reception, before: &Base) -> [u64; 6] {
     let (answer, base) = match reception {
         Reception::Taken(next) => (16, next),
@@ -140,4 +142,26 @@ pub fn reception_numbers(reception: Reception, before: &Base) -> [u64; 6] {
     };
     let [journal, number, nonce, known, fenced] = base_numbers(&base);
     [answer, journal, number, nonce, known, fenced]
+}
+
+/// The answer to whether something is so.
+pub fn done_number(is_so: bool) -> u64 {
+    if is_so { 18 } else { 19 }
+}
+
+/// The answer to a comparison.
+pub fn order_number(order: Ordering) -> u64 {
+    match order {
+        Ordering::Less => 21,
+        Ordering::Equal => 22,
+        Ordering::Greater => 23,
+    }
+}
+
+pub fn copy_numbers(copy: &ToldCopy) -> [u64; 2] {
+    [copy.view, copy.position]
+}
+
+pub fn view_numbers(start: &ViewStart) -> [u64; 2] {
+    [start.view, start.position]
 }
