@@ -135,13 +135,13 @@ class Server(Store):
         return not begins or not self.replicas(shard)[1]
 
     def has_greatest(self, shard):
-        """Whether each other replica has answered, and none has more. First it follows those that have."""
+        """Whether each other replica has told a copy, and none has more. First it follows those that have."""
         marks = {it: self.ask(it, "mark", shard) for it in self.replicas(shard)[1]}
         for it, mark in marks.items() if self.mark(shard) else ():
             if mark not in (None, LOST) and has_more(mark, self.mark(shard)):
                 self.pull(shard, it)
         mine = self.mark(shard)
-        return mine is not None and all(it is None or (it != LOST and not has_more(it, mine)) for it in marks.values())
+        return mine is not None and all(it not in (None, LOST) and not has_more(it, mine) for it in marks.values())
 
     def copy_for(self, shard, order):
         """What a server copies that is to have the shard: all that the owner of the handover has, or the primary; if there is none, a replica."""

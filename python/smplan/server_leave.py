@@ -58,8 +58,10 @@ class Leaves:
     def take(self, shard: str, line: Line, others: List[int]) -> None:
         """Gets leave to drop a shard: from its primary, or, if that is this server or nobody, from another one that has all that is here. Who is
         alone needs none. OSError if nobody gives it."""
-        live, question = self.server.live(shard), secrets.token_hex(8)
-        primary = self.server.numbers.get(line.get("primary") or "", self.server.number)
+        live, question, named = self.server.live(shard), secrets.token_hex(8), line.get("primary")
+        if others and named and named not in self.server.numbers:
+            raise OSError(f"the primary {named} is not known here")
+        primary = self.server.numbers.get(named or self.server.name, 0)
         is_beside = primary == self.server.number
         with self.server.changed:
             live.leaving, live.leave = question, "" if others else question

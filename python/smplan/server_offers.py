@@ -132,6 +132,8 @@ class Offers:
             if self.server.live(shard).leaving:
                 return {"said": f"it leaves {shard}"}
             if line.get("beside") and slot.cell == Cell.SECONDARY:
+                if after.position and not it.has_copy(shard):
+                    return {"said": f"it has lost its copy of {shard}: give it up as lost"}
                 return self.offer(it, shard, after) if mark.position > after.position else {"less": mark.position}
             if not is_source_for(slot, mark.position, number):
                 return {"said": f"it is no source of {shard}"}

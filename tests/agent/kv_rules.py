@@ -400,6 +400,27 @@ def change_of_a_returned_one(kind):
     want(a.value(SHARD, "j"), "z")
 
 
+class TakesNoneForLess(Server):
+    """Becomes primary beside a replica that has lost its copy."""
+    def has_greatest(self, shard):
+        self.named[shard] = 0, {it for it in self.replicas(shard)[1] if self.peers[it].mark(shard)}
+        return super().has_greatest(shard)
+
+
+def change_beside_a_new_disk(kind):
+    """The primary is dropped by leave of a secondary that has all, whose disk is replaced then. The other one lags."""
+    a, b, c = three(kind)
+    push(a, "r1", "x")
+    with lost(c, "pull"):
+        want(push(a, "r2", "y"), "xy")
+    want(is_dropped(a, 1, 2, 3), True)
+    b = kind(2, a.peers, is_new=False)
+    restore(b, Cell.SECONDARY)
+    change = order(20, Call.CHANGE, role=Role.SECONDARY, new_role=Role.PRIMARY)
+    c.order(SHARD, change, 0, (2, 3))
+    want(c.work(SHARD, change), False)
+
+
 class GoesOnAnywhere(Server):
     """Goes on from its position, whatever its list."""
     def begins_with(self, shard, mark):
@@ -655,7 +676,8 @@ RULES = ((CommitsFirst, crash_amid_copy), (KeepsTheRest, late_after_settle), (Fo
          (IgnoresTheCut, write_under_way), (TakesBehindTheCut, crash_behind_the_cut), (GivesBelowItsCut, new_disk_below_the_cut),
          (DropsAtOnce, drop_without_its_primary), (GivesLeaveAnyway, drop_below_the_cut), (TakesAnyLeave, leave_comes_late),
          (TellsWhileItAsks, written_while_it_asks), (WaitsForever, both_are_dropped), (GoesOnFromItsCache, dropped_and_added),
-         (ComparesPositions, change_of_a_returned_one), (GoesOnAnywhere, follower_of_another_list), (DeletesWhatItBringsBack, only_copy_comes_back),
+         (ComparesPositions, change_of_a_returned_one), (TakesNoneForLess, change_beside_a_new_disk),
+         (GoesOnAnywhere, follower_of_another_list), (DeletesWhatItBringsBack, only_copy_comes_back),
          (BeginsBeside, first_primary_beside_a_secondary), (KeepsWork, crash_and_repeat), (DeletesAtDrop, late_order), (ComesBackEmpty, lost_state),
          (KeepsItsNonce, given_up), (TakesWhatItLost, lost_disk), (AcknowledgesAlone, lost_for_good), (AsksForOne, acknowledged_at_one),
          (CountsTheGivenUp, given_up_and_counted), (SendsFirst, crash_with_a_write_sent), (ShowsAtOnce, read_of_what_is_lost),

@@ -24,14 +24,24 @@ class Copies(unittest.TestCase):
     def test_an_approval_lowers_and_copied_raises(self):
         play = Play(SOUND, TWO, want=2, copies=2)
         self.assertEqual(play.do(Approve(1, "by")), Approved(1, 1))
-        self.assertEqual(play.controller.lowers(), [Lower(0, 1, 0, 0, copies=1, permit=1)])
+        self.assertEqual(play.controller.lowers(), [Lower(0, 1, 0, 0, copies=1, permit=1, up=frozenset())])
         play.do(Restarted(1, 0))
+        self.assertEqual(play.controller.lowers(), [Lower(0, 1, 0, 0, copies=1, permit=1, up=frozenset({1}))])
         for wrong in (Copied(0, 1, -1, 0, 1), Copied(0, 1, 0, 0, 0), Copied(1, 1, 0, 0, 1)):
             self.assertEqual(play.do(wrong), Ignored("old"))
         play.do(NewEpoch())
         self.assertEqual(play.do(Copied(0, 1, 0, 0, 1)), Up(0))
         self.assertEqual((play.controller.record.copies, play.controller.lowers()), ([2], []))
         self.assertEqual(play.do(Copied(0, 1, 0, 0, 1)), Ignored("old"))
+
+    def test_others_make_up_for_one_that_is_down(self):
+        play = Play(SOUND, ALL, want=3, cap=2, copies=2)
+        play.write(7, copies=(1, 2))
+        play.do(Approve(2, "by"))
+        self.assertEqual(play.controller.record.copies, [1])
+        play.raise_copies()
+        self.assertEqual(play.do(play.world.network.copied[-1]), Up(0))
+        self.assertEqual(play.controller.record.copies, [2])
 
     def test_a_plan_leaves_as_many_replicas(self):
         play = Play(SOUND, TWO, want=2, cap=1, copies=2)
@@ -45,8 +55,7 @@ class Copies(unittest.TestCase):
         play.fail_over(0, (ABSENT, SECONDARY, SECONDARY))
         self.assertEqual((play.controller.record.copies, play.controller.record.wanted), ([1], [2]))
         play.copy(2, 1)
-        play.tell_all()
-        play.world.raise_copies(0)
+        play.raise_copies()
         self.assertEqual(play.do(play.world.network.copied[-1]), Up(1))
         self.assertEqual(play.controller.record.copies, [2])
 
@@ -86,6 +95,13 @@ class Losses(unittest.TestCase):
         play = Play(SOUND, TWO, want=2, copies=2)
         play.lose(0)
         self.assertEqual(play.reopening({0}, (ABSENT, SECONDARY, ABSENT)).propose().lost, ())
+
+    def test_nothing_is_named_of_a_shard_without_a_primary_whose_copies_are_there(self):
+        play = Play(SOUND, TWO, want=2, cap=2)
+        play.change_to_secondary()
+        for _ in range(3):
+            play.turn()
+        self.assertEqual(play.reopening(set(), (SECONDARY, SECONDARY, ABSENT)).propose().lost, ())
 
     def test_a_shard_that_is_named_waits_for_nobody(self):
         play = Play(SOUND, ALL, want=3, cap=2)

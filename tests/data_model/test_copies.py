@@ -51,6 +51,12 @@ class Following(unittest.TestCase):
         mine = self.take(copy([7], (0, 0)), NEW, most=2)
         self.assertEqual((mine.writes, mine.all), ([7, 9], Told(5, 2)))
 
+    def test_a_view_comes_with_all_writes_before_it(self):
+        later = copy([7, 9], (0, 0), (5, 2))
+        self.assertEqual(self.take(copy([7], (0, 0)), later, most=1).all, Told(0, 1))
+        self.assertEqual(self.take(copy([7], (0, 0)), later, most=1, in_turn=False).all, Told(5, 1))
+        self.assertEqual(self.take(copy([7], (0, 0)), later).all, Told(5, 2))
+
     def test_another_list_is_copied_beside(self):
         mine = self.take(copy([7, 8], (0, 0)), NEW, most=1)
         self.assertEqual((mine.all, mine.part.position), (Told(0, 2), 1))

@@ -22,7 +22,7 @@ class Dice:
 
 # If the model changes, so do the schedules of seeds: `tools/data_model.py --mode RULE` finds another one.
 DICE = {
-    "own_durable": Dice(3, "writes_stay", "data"),
+    "own_durable": Dice(42, "writes_stay", "one shard"),
     "enough_acknowledge": Dice(1, "fewer_losses_lose_nothing", "data"),
     "told_at_view": Dice(5, "fewer_losses_lose_nothing", "old views"),
     "loss_named": Dice(47, "writes_stay", "data"),
@@ -36,8 +36,9 @@ OTHERS = {
 }
 # Liveness: without these rules the service does not go on, which a play shows.
 STOPS = {
-    "grant_ends", "lower_asks_first", "change_by_count", "former_counts", "down_lowers", "drops_leave_copies",
-    "fence_bounded", "newest_terms", "numbers_rise",
+    "change_by_count", "down_lowers", "down_uncounted", "drops_leave_copies", "fence_bounded", "first_is_alone",
+    "former_counts", "grant_ends", "leave_of_fewer", "lower_asks_first", "newest_terms", "numbers_rise",
+    "raised_by_those_that_stay",
 }
 
 

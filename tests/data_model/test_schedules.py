@@ -7,7 +7,7 @@ from data_model.schedule import PROFILES, run_schedule
 
 STEPS = 220
 # How many schedules of each profile are run; an empty one stands for schedules of all profiles.
-RUNS = {"": 60} | {it: 20 for it in PROFILES if it != "any"}
+RUNS = {"": 60} | {it: 20 for it in PROFILES if it != "any"} | {"views": 30}
 # What happens in some schedule of these.
 MET = (
     "a copy in doubt chosen", "a crash lost writes", "a named loss taken", "a new primary, sure",

@@ -5,7 +5,7 @@ from __future__ import annotations
 import random
 from collections import Counter
 
-from driving_model.cells import ABSENT, Kind, Verb, serving
+from driving_model.cells import Kind, PRIMARY, Verb, serving
 
 from .copies import Told
 from .host import Host, Open
@@ -50,8 +50,9 @@ class Asking:
             self.questions_asked += 1
             replica.asking = Open(self.questions_asked, asks)
             replica.copy.flush()
-        number, life = replica.asking.number, self.hosts[to].life
-        self.questions.append(Question(number, asks, shard, host.number, to, replica.connection, life))
+        number, life = replica.asking.number, self.hosts[to].life_of(shard)
+        others = len(replica.terms.replicas - {host.number})
+        self.questions.append(Question(number, asks, shard, host.number, to, replica.connection, life, others))
 
     def exchange(self, host: Host, shard: int) -> None:
         """Some questions and answers come; in a fair end all that are open."""
@@ -104,7 +105,7 @@ class Asking:
     def answer(self, question: Question) -> None:
         """A question comes to the primary, or to a replica."""
         host = self.hosts[question.to]
-        if not host.answers or self.has_ended(host, question) or host.cell(question.shard) == ABSENT:
+        if not host.answers or self.has_ended(host, question) or not self.has_replica(host, question.shard):
             return
         replica = host.at[question.shard]
         if self.rules.connections_numbered and replica.newest.get(question.by, -1) > question.connection:
@@ -125,8 +126,8 @@ class Asking:
         if not self.may_acknowledge(host, shard, self.row(shard)) and self.rules.leave_at_cut:
             return
         self.owe(host, shard)
-        needed = max(replica.needed, replica.terms.wanted if self.rules.leave_of_all else 1)
-        if self.count(host, shard, replica.owed, but=question.by) >= needed:
+        needed = max(replica.needed, self.leave_asks(replica.terms.wanted, question.others))
+        if self.count(host, shard, replica.owed, but=frozenset({question.by})) >= needed:
             replica.left[question.by] = question.connection
             self.answered.append(Answer(question, None, gives_leave=True))
             self.coverage["leave given"] += 1
@@ -176,10 +177,26 @@ class Asking:
         replica, order = host.at[shard], host.order(shard)
         if not replica.copy.is_whole and self.rules.leave_of_whole:
             return False
+        if self.has_a_later_view(host, shard) and self.rules.leave_of_present:
+            return False
         own = replica.copy.told() or Told(replica.copy.view, -1)
-        enough = order.terms.wanted if order and self.rules.leave_of_all else replica.needed
+        others = len(replica.terms.replicas - {host.number})
+        enough = max(order.terms.copies if order else replica.needed, self.leave_asks(replica.terms.wanted, others))
         told = [it.told for it in replica.asking.answers.values() if it.told]
-        return sum(it >= own for it in told) >= max(1, enough) and not host.runs(shard)
+        return sum(it >= own for it in told) >= enough and not host.runs(shard)
+
+    def leave_asks(self, wanted: int, others: int) -> int:
+        """How many copies leave asks for at others, though fewer acknowledge."""
+        if not self.rules.leave_of_all:
+            return 1
+        return min(wanted, others) if self.rules.leave_of_fewer else wanted
+
+    @staticmethod
+    def has_a_later_view(host: Host, shard: int) -> bool:
+        """The server's copy is of a view that began after what ended the last primary that it was told of: another one
+        serves, or has served, and may count it."""
+        former = host.at[shard].terms.former
+        return host.cell(shard) != PRIMARY and host.copy(shard).view > (former[1] if former else host.reopened)
 
     def has_greatest(self, host: Host, shard: int) -> bool:
         """The server may become primary: it has a whole copy, and of the replicas that were named all but `copies` less

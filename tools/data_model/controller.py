@@ -65,8 +65,8 @@ class Controller(base.Controller):
         for shard in record.shards:
             primary = primary_of(record.cells[shard])
             if record.copies[shard] < record.wanted[shard] and primary is not None:
-                lowered = record.lowered[shard]
-                found.append(Lower(primary, self.journal, self.fence, shard, record.copies[shard], lowered))
+                lowered, up = record.lowered[shard], record.staying(shard) - {primary}
+                found.append(Lower(primary, self.journal, self.fence, shard, record.copies[shard], lowered, up))
         return found
 
     def restore_of(self, server: int, nonce: int) -> Restore:
@@ -103,20 +103,23 @@ class Controller(base.Controller):
             record, rules, plan = self.record, self.rules, command.plan
             for shard in record.shards:
                 is_short = rules.drops_leave_copies and record.is_short_of_copies(shard, plan)
-                if is_short or (rules.last_is_alone and record.adds_beside_the_last(shard, plan)):
+                is_last = rules.last_is_alone and record.adds_beside_the_last(shard, plan)
+                if is_short or is_last or (rules.first_is_alone and record.adds_beside_the_first(shard, plan)):
                     raise refuse("ShortCopies", shard=shard)
         return super().begin(command)
 
     def answered(self, command: driving.Answered) -> Outcome:
         """Records that a present order was answered."""
         order = self.order(command.plan, command.stream) if self.is_begun(command) else None
-        outcome = super().answered(command)
         call = order.call if isinstance(order, Order) else None
-        if call and call.verb is Verb.CHANGE:
-            is_over = call.role is Kind.SECONDARY
-            self.record.former[order.shard] = (order.server, order.number) if is_over else None
-        if call and call.role is Kind.PRIMARY and self.rules.primary_renumbers:
-            self.record.renumber(order.shard, self.base + self.record.log)
+        was = self.record.cells[order.shard][order.server] if call else None
+        outcome = super().answered(command)
+        if was == PRIMARY and call.verb in (Verb.CHANGE, Verb.DROP):
+            self.record.former[order.shard] = (order.server, order.number)
+        if call and call.role is Kind.PRIMARY:
+            self.record.former[order.shard] = None
+            if self.rules.primary_renumbers:
+                self.record.renumber(order.shard, self.base + self.record.log)
         return outcome
 
     def is_begun(self, command: driving.Answered) -> bool:

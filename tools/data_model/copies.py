@@ -1,8 +1,8 @@
 """What a server has of a shard's writes: its copy, how it comes, and how copies compare.
 
 A shard has one list of writes, to which its primary appends. A whole copy is a beginning of this list, and is told by
-its view and its position alone. A view is the number of the reopening, or of the `add`, that made the list's primary:
-the list of a view begins with what its primary had.
+its view and its position alone. A view is the number of the reopening, the `add` or the `change` that made the list's
+primary: the list of a view begins with what its primary had.
 """
 from __future__ import annotations
 
@@ -111,7 +111,7 @@ class Copy:
         self.put([], [Began(number, 0)], True)
 
     def begin_view(self, number: int) -> None:
-        """The server has become primary by a reopening: its list goes on as that of another view."""
+        """The server has become primary by a reopening or a `change`: its list goes on as that of another view."""
         self.put(self.writes, [*self.views, Began(number, self.position)], True)
 
     def crash(self, dice: random.Random) -> list[int]:
@@ -135,7 +135,7 @@ class Copy:
         self.is_doubted, self.part = was_there and bool(views), None
         return lost
 
-    def take(self, source: Copy, most: int, resumes: bool, waits: bool, beside: bool) -> bool:
+    def take(self, source: Copy, most: int, resumes: bool, waits: bool, beside: bool, in_turn: bool = True) -> bool:
         """Gets the source's writes up to a position. A copy that is no beginning of the source is made anew: beside the
         old one, or after it was deleted. Returns whether the copy itself has changed."""
         mine = Told(self.view, self.position)
@@ -143,16 +143,16 @@ class Copy:
         if is_there and waits and mine > Told(source.view, source.position):
             return False
         if is_there and (source.begins_with(mine) or not resumes) and not self.part:
-            return self.position <= source.position and self.go_on(source, most)
+            return self.position <= source.position and self.go_on(source, most, in_turn)
         if is_there and not beside:
             self.clear()
         return self.make_anew(source, most)
 
-    def go_on(self, source: Copy, most: int) -> bool:
-        """The copy goes on from where it is."""
+    def go_on(self, source: Copy, most: int, in_turn: bool = True) -> bool:
+        """The copy goes on from where it is: writes come in turn, and views at their beginnings, or all at once."""
         to = max(self.position, most)
         self.writes = self.writes + source.writes[self.position:to]
-        self.views = [it for it in source.views if it.at <= to]
+        self.views = [it for it in source.views if it.at <= to or not in_turn]
         if to == source.position and not self.is_whole:
             self.is_whole, self.is_doubted = True, False
             self.flush()

@@ -75,7 +75,7 @@ class Following:
             return
         most = self.dice.choice([sent.position, self.dice.randint(0, sent.position)])
         was, had = (copy.all, bool(copy.part)), copy.kept()
-        copy.take(sent, most, rules.views_resumed, rules.lesser_waits, rules.anew_beside)
+        copy.take(sent, most, rules.views_resumed, rules.lesser_waits, rules.anew_beside, rules.views_in_turn)
         self.coverage["copies anew"] += bool(copy.part) and not was[1]
         if bool(was[0]) != copy.is_whole:
             self.say("server", host.number, "has copied shard", shard, "of", source.number, "or has to")
@@ -123,11 +123,16 @@ class Following:
 
     # What followers tell.
 
+    def has_replica(self, host: Host, shard: int) -> bool:
+        """The server is a replica of the shard: no order that is to bring it is still at work."""
+        brings = host.order(shard) is not None and not self.rules.told_committed
+        return host.cell(shard) != ABSENT or brings
+
     def tell(self, shard: int, row: list[Cell]) -> None:
         """Followers tell what they have."""
         for host in self.hosts:
             replica = host.at[shard]
-            if not host.answers or not host.server.is_known or host.cell(shard) == ABSENT:
+            if not host.answers or not host.server.is_known or not self.has_replica(host, shard):
                 continue
             if self.rules.leaver_silent and host.drops(shard) and (replica.asking or replica.has_leave):
                 continue
@@ -136,7 +141,7 @@ class Following:
                 continue
             for source in self.sources(host, shard, row):
                 if source is not host and source.answers:
-                    names = (shard, host.number, source.number, replica.connection, source.life)
+                    names = (shard, host.number, source.number, replica.connection, source.life_of(shard))
                     self.words.append(Word(*names, replica.settled, told))
         del self.words[:-MOST_WORDS]
 
@@ -160,8 +165,9 @@ class Following:
             replica.heard[word.by] = Heard(word.connection, word.settled, word.told)
 
     def has_ended(self, host: Host, said: Word | Question) -> bool:
-        """The server to which this goes has started since it was said."""
-        return said.life != host.life and self.rules.connections_end
+        """The connection has ended since this was said."""
+        starts, endings = said.life
+        return (starts != host.life and self.rules.connections_end) or endings != host.at[said.shard].endings
 
     # Whom an acknowledger counts.
 
@@ -183,9 +189,9 @@ class Following:
         journal, base = heard.settled or (None, 0)
         return heard.settled is not None and journal == host.server.journal and base >= host.reopened
 
-    def count(self, host: Host, shard: int, position: int, but: int = -1) -> int:
-        """How many copies have the writes up to a position, its own first; without that none."""
+    def count(self, host: Host, shard: int, position: int, but: frozenset[int] = frozenset()) -> int:
+        """How many copies have the writes up to a position, its own first, but for these; without that none."""
         copy = host.copy(shard)
         own = copy.is_whole and (copy.durable if self.rules.own_durable else copy.position) >= position
-        others = [it.number for it in self.hosts if it is not host and it.number != but]
+        others = [it.number for it in self.hosts if it is not host and it.number not in but]
         return 1 + sum(self.counts(host, shard, it, position) for it in others) if own else 0

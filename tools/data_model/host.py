@@ -9,7 +9,7 @@ from driving_model.clients import Write
 
 from .commands import RestoreServer
 from .copies import Copy, Told
-from .messages import Answer, Asks, Order, Terms
+from .messages import Answer, Asks, Life, Order, Terms
 from .server import Copies, Server
 
 
@@ -43,6 +43,8 @@ class Replica:
     needed: int = 1
     lowered: int = 0
     raised: int = 0
+    # Which replicas stay, as it was told last, with what had lowered the number then.
+    up: tuple[int, frozenset[int]] | None = None
     # The same as it was taken with the slot (for a fault).
     taken: tuple[int, int, int] = (1, 0, 0)
     # The number of the order that ended its being primary, as long as it has kept its copy since.
@@ -54,6 +56,8 @@ class Replica:
     heard: dict[int, Heard] = field(default_factory=dict)
     left: dict[int, int] = field(default_factory=dict)
     newest: dict[int, int] = field(default_factory=dict)
+    # How often an order's work has ended its followers' connections.
+    endings: int = 0
     # The position up to which its writes may be acknowledged, once it was asked since it started.
     owed: int | None = None
     # What replies saw that wait; whether its stream is lost, so that it has to copy anew.
@@ -64,6 +68,10 @@ class Replica:
     # Whether it was restored without a copy (for a law).
     came_bare: bool = False
 
+    def forget_words(self) -> None:
+        """Nothing is known of what followers have."""
+        self.heard, self.left, self.newest = {}, {}, {}
+
     def agree(self, terms: Terms) -> None:
         """It knows what its shard asks for."""
         self.terms, self.needed = terms, terms.copies
@@ -73,7 +81,7 @@ class Replica:
 
 @dataclass(slots=True)
 class Host:
-    """A server with its service. A lost one is lost for good. `life` counts what ends its followers' words."""
+    """A server with its service. A lost one is lost for good. `life` counts its starts."""
 
     server: Server
     at: list[Replica]
@@ -152,8 +160,12 @@ class Host:
         """A start: what it has heard, and what was on its way to it, is gone."""
         self.life += 1
         for replica in self.at:
-            replica.heard, replica.left, replica.newest = {}, {}, {}
+            replica.forget_words()
         self.reset()
+
+    def life_of(self, shard: int) -> Life:
+        """What names a connection to it, beside the connection's number."""
+        return Life(self.life, self.at[shard].endings)
 
     def hang_up(self, shard: int) -> None:
         """A connection ends, and the question with it; leave that was given ends. Another one begins."""

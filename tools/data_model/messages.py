@@ -3,6 +3,7 @@ from __future__ import annotations
 
 from dataclasses import dataclass
 from enum import Enum
+from typing import NamedTuple
 
 from driving_model import messages as driving
 
@@ -13,8 +14,8 @@ from .copies import Told
 class Terms:
     """What an order or a slot says of its shard. `copies` have a write before it is acknowledged; `wanted` are asked
     for when they are there again; `lowered` is what lowered the number last: a permit, or the base of a reopening. Then
-    who is primary, who has a replica or an order under way that brings one, and who was primary before, with the number
-    of the order that ended it."""
+    who is primary, who has a replica or an order under way that brings one, and without a primary who was it last, with
+    the number of the order that ended it."""
 
     copies: int = 1
     wanted: int = 1
@@ -41,7 +42,8 @@ class SlotTold(driving.SlotTold):
 
 @dataclass(frozen=True, slots=True)
 class Lower:
-    """Tells a primary that fewer copies are asked for, by this permit."""
+    """Tells a primary that fewer copies are asked for, by this permit; and which other replicas are recorded up, and
+    named by no unfinished stream."""
 
     server: int
     journal: int
@@ -49,6 +51,7 @@ class Lower:
     shard: int
     copies: int
     permit: int
+    up: frozenset[int]
 
 
 @dataclass(frozen=True, slots=True)
@@ -76,6 +79,14 @@ class Asks(Enum):
     GREATEST = "greatest"
 
 
+class Life(NamedTuple):
+    """How often a server has started, and an order's work at the shard has ended there: both end the connections that go
+    to it."""
+
+    starts: int
+    endings: int
+
+
 @dataclass(frozen=True, slots=True)
 class Word:
     """What a follower tells on a connection: its copy, and where it was settled when it began the connection, as
@@ -85,14 +96,14 @@ class Word:
     by: int
     to: int
     connection: int
-    life: int
+    life: Life
     settled: tuple[int, int] | None
     told: Told
 
 
 @dataclass(frozen=True, slots=True)
 class Question:
-    """A numbered question to a replica. `life` is that of the server it goes to."""
+    """A numbered question to a replica. `life` is that of the server it goes to; `others` are named beside who asks."""
 
     number: int
     asks: Asks
@@ -100,7 +111,8 @@ class Question:
     by: int
     to: int
     connection: int
-    life: int
+    life: Life
+    others: int
 
 
 @dataclass(frozen=True, slots=True)

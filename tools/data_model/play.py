@@ -40,19 +40,20 @@ class Whole(random.Random):
 
 
 class Play(base.Play):
-    """One shard at three servers, moved by hand."""
+    """One shard at three servers, moved by hand; `beside` it another one that is only there."""
 
     document: Document
     world: World
 
     def __init__(
-        self, rules: Rules, row: Row, want: int, cap: int | None = None, copies: int | None = None
+        self, rules: Rules, row: Row, want: int, cap: int | None = None, copies: int | None = None,
+        beside: tuple[Row, ...] = (),
     ) -> None:
         missing = want - 1 if cap is None else cap
-        servers = frozenset(range(len(row)))
+        servers, others = frozenset(range(len(row))), (1,) * len(beside)
         self.document = Document(
-            servers, rooms=(9,) * len(row), loads=(1,), wants=(want,), caps=(missing,), limit=2, cells=(row,),
-            copies=(copies,),
+            servers, rooms=(9,) * len(row), loads=(1, *others), wants=(want, *others), caps=(missing, *others), limit=2,
+            cells=(row, *beside), copies=(copies, *others),
         )
         self.world = World(self.document, rules, keeps_trace=True)
         self.plans = 0
@@ -118,12 +119,17 @@ class Play(base.Play):
 
     def copy(self, to: int, source: int, most: int | None = None) -> None:
         """A copy is brought up to its source, or a part of one is made anew."""
+        sent = self.host(source).copy(0).sent(self.world.rules.durable_first)
+        if most is None:
+            self.follow(to, source, sent.position)
+        else:
+            self.host(to).copy(0).make_anew(sent, most)
+
+    def follow(self, to: int, source: int, most: int) -> None:
+        """A copy gets its source's writes up to a position."""
         rules, copy = self.world.rules, self.host(to).copy(0)
         sent = self.host(source).copy(0).sent(rules.durable_first)
-        if most is None:
-            copy.take(sent, sent.position, rules.views_resumed, rules.lesser_waits, rules.anew_beside)
-        else:
-            copy.make_anew(sent, most)
+        copy.take(sent, most, rules.views_resumed, rules.lesser_waits, rules.anew_beside, rules.views_in_turn)
 
     def execute(self, server: int, identity: int) -> None:
         """A server executes a write; it is not durable yet."""
@@ -146,6 +152,13 @@ class Play(base.Play):
         """What may be acknowledged is."""
         self.world.acknowledge(0)
         self.world.check()
+
+    def raise_copies(self) -> None:
+        """What the primary is told of their number comes, and it asks for all copies again if it may."""
+        for lower in self.controller.lowers():
+            self.deliver(lower)
+        self.tell_all()
+        self.world.raise_copies(0)
 
     def lose(self, server: int) -> None:
         """A server is lost for good."""
@@ -246,6 +259,11 @@ class Play(base.Play):
     def add_secondary(self, server: int) -> None:
         """A secondary is to be added."""
         self.begin((add(0, server, Kind.SECONDARY),), (CellRight(0, server), ABSENT), (RoomRight(server), 1))
+
+    def move_secondary(self, old: int, new: int) -> None:
+        """A secondary is to be added, and then another one dropped."""
+        rights = (CellRight(0, new), ABSENT), (RoomRight(new), 1), (CellRight(0, old), SECONDARY)
+        self.begin((add(0, new, Kind.SECONDARY), drop(0, old)), *rights)
 
     def deliver_orders(self) -> None:
         """Orders come, and are at work."""

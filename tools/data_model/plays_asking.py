@@ -2,6 +2,7 @@
 from __future__ import annotations
 
 from driving_model.cells import ABSENT, GONE, Kind, Lead, PRIMARY, SECONDARY, Stage
+from driving_model.messages import Order
 from driving_model.plans import CellRight, Crown, CrownRight, RoomRight, add, change, unlist
 
 from .play import ALL, ALONE, Play, TWO
@@ -47,6 +48,46 @@ def leave_while_one_is_down(rules: Rules) -> None:
     for _ in range(3):
         play.step(0, 1)
     assert permit in play.controller.record.permits.values()
+
+
+def handed_over_where_one_is_missing(rules: Rules) -> None:
+    """Three copies are wanted, and there are two replicas, and a third one while the shard is handed over, and back."""
+    play = Play(rules, TWO, want=3, copies=3)
+    play.write(7, copies=(1,))
+    for old, new in ((0, 2), (2, 0)):
+        play.hand(old, new)
+        for _ in range(9):
+            play.turn()
+            play.raise_copies()
+            for copied in play.world.network.copied:
+                play.do(copied)
+    must(play.world.row(0)[0] == PRIMARY, "an old owner waits for leave for ever")
+
+
+def moved_where_one_is_missing(rules: Rules) -> None:
+    """The same where a secondary is moved: it is dropped once another one has all."""
+    play = Play(rules, TWO, want=3, cap=3, copies=3)
+    play.write(7, copies=(1,))
+    play.move_secondary(1, 2)
+    for _ in range(9):
+        play.turn(silent=frozenset({1}))
+        play.raise_copies()
+        play.deliver_orders()
+    play.finish_all()
+
+
+def drop_without_a_primary_where_one_is_missing(rules: Rules) -> None:
+    """Three copies are wanted, and there are two replicas. The primary becomes a secondary; a third replica is added,
+    and then one of the others is dropped."""
+    play = Play(rules, TWO, want=3, cap=3, copies=3)
+    play.write(7, copies=(1,))
+    play.change_to_secondary()
+    for _ in range(3):
+        play.turn()
+    play.move_secondary(1, 2)
+    for _ in range(9):
+        play.turn()
+    must(play.world.row(0)[1] == ABSENT, "a secondary waits for leave for ever")
 
 
 def leave_after_a_start(rules: Rules) -> None:
@@ -151,6 +192,33 @@ def primary_goes_while_it_is_asked(rules: Rules) -> None:
     for _ in range(3):
         play.step()
     must(play.world.row(0)[1] == ABSENT, "a drop waits for a primary that is none")
+
+
+def leave_by_an_old_message(rules: Rules) -> None:
+    """Two copies are asked for, of five replicas. The primary becomes a secondary; another one is to be dropped, by an
+    order that knows of no primary. The former one is primary again, and counts the other one for a write that the last
+    replica lacks. Only now the order comes: others give leave. Then the primary lets these go, too, since it counts who
+    is gone."""
+    play = Play(rules, (PRIMARY, SECONDARY, SECONDARY, SECONDARY, SECONDARY), want=5, cap=4, copies=2)
+    play.write(7, copies=(1, 2, 3, 4))
+    play.change_to_secondary()
+    for _ in range(3):
+        play.step()
+    play.drop(1)
+    late = play.sent_to(1, Order)[-1]
+    play.change_to_primary(0)
+    for _ in range(3):
+        play.step_of_plan(2)
+    play.write(8, copies=(1, 2, 3))
+    play.world.deliver(late)
+    for leaver, asked in ((1, (2, 3)), (2, (0,)), (3, (0,))):
+        if leaver > 1:
+            play.drop(leaver)
+            play.world.deliver(play.sent_to(leaver, Order)[-1])
+        for answer in filter(None, [play.answer(play.question(leaver, it)) for it in asked]):
+            play.world.take_answer(answer)
+        play.work([play.host(leaver)])
+        play.take_answers()
 
 
 def answer_comes_late(rules: Rules) -> None:
@@ -388,8 +456,13 @@ PLAYS = (
     Worked(primary_goes_while_it_is_asked, "newest_terms"),
     Worked(drop_without_its_primary, "drop_granted"),
     Worked(leave_while_one_is_down, "leave_of_all"),
+    Worked(handed_over_where_one_is_missing, "leave_of_fewer"),
+    Worked(handed_over_where_one_is_missing, "raised_by_those_that_stay"),
+    Worked(moved_where_one_is_missing, "raised_by_those_that_stay"),
+    Worked(drop_without_a_primary_where_one_is_missing, "leave_of_fewer"),
     Worked(leave_after_a_start, "leave_of_earlier"),
     Worked(leave_by_a_new_owner_below_its_cut, "leave_at_cut"),
+    Worked(leave_by_an_old_message, "leave_of_present"),
     Worked(tells_while_it_asks, "leaver_silent"),
     Worked(counted_though_it_leaves, "leaver_uncounted"),
     Worked(answer_comes_late, "leave_numbered"),
@@ -406,5 +479,5 @@ PLAYS = (
     Worked(copied_while_an_answer_is_late, "anew_of_acknowledger"),
     Worked(leave_for_one_without_a_copy, "leave_of_whole"),
     Worked(change_in_the_same_view, "change_begins_view"),
-    Worked(first_primary_beside_a_secondary, "begins_alone"),
+    Worked(first_primary_beside_a_secondary, "begins_alone", beside=("first_is_alone",)),
 )

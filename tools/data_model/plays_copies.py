@@ -74,6 +74,17 @@ def part_of_a_copy(rules: Rules) -> None:
     play.fail_over(0, (ABSENT, SECONDARY, SECONDARY))
 
 
+def counted_before_its_commit(rules: Rules) -> None:
+    """A secondary is added, has copied all, and follows a write that the other one lacks; its order has not committed
+    yet. The primary is lost."""
+    play = Play(rules, TWO, want=3, cap=1, copies=2)
+    play.write(7, copies=(1,))
+    play.add_secondary(2)
+    play.deliver_orders()
+    play.write(8, copies=(2,))
+    play.fail_over(0, (ABSENT, SECONDARY, ABSENT))
+
+
 def position_without_its_view(rules: Rules) -> None:
     """A secondary of an older list, which is longer, tells two writes; the primary has two of another list. It is
     lost."""
@@ -123,6 +134,28 @@ def counted_by_an_old_word(rules: Rules) -> None:
     play.fail_over(0, (ABSENT, ABSENT, SECONDARY))
 
 
+def heard_before_it_handed_over(rules: Rules) -> None:
+    """A primary hands over, and drops its copy. It is to be primary again; meanwhile the secondary that has all leaves,
+    too. The primary still knows what that told it before, and lets the other owner go. The secondary that is left
+    lags."""
+    play = Play(rules, (PRIMARY, SECONDARY, SECONDARY, ABSENT), want=3, cap=2, copies=2)
+    play.write(7, copies=(1, 2))
+    play.write(8, copies=(1,))
+    for owner, new_owner in ((0, 3), (3, 0)):
+        play.hand(owner, new_owner)
+        play.deliver_orders()
+        play.copy(new_owner, owner)
+        play.work([play.host(new_owner)])
+        play.take_answers()
+        if owner == 3:
+            play.drop(1)
+            for _ in range(3):
+                play.step_of_plan(2)
+        for _ in range(9):
+            play.turn(copies=False)
+    play.fail_over(0, (ABSENT, ABSENT, SECONDARY, SECONDARY))
+
+
 def new_disk_of_a_follower(rules: Rules) -> None:
     """A secondary has started twice. Then its disk is replaced, and it has copied anew."""
     play = Play(rules, TWO, want=2, copies=2)
@@ -142,8 +175,7 @@ def counted_though_given_up(rules: Rules) -> None:
     play.host(1).is_cut_off = True
     play.reopening({1}, (PRIMARY, ABSENT, SECONDARY))
     play.settle()
-    play.tell_all()
-    play.world.raise_copies(0)
+    play.raise_copies()
     for copied in play.world.network.copied:
         play.do(copied)
     play.write(7, copies=(1,))
@@ -157,10 +189,7 @@ def handed_while_down(rules: Rules) -> Play:
     again. The shard is handed to a new owner, which lacks a write that the old one and the secondary have."""
     play = Play(rules, TWO, want=2, copies=2)
     play.approve(1)
-    for lower in play.controller.lowers():
-        play.deliver(lower)
-    play.tell_all()
-    play.world.raise_copies(0)
+    play.raise_copies()
     for copied in play.world.network.copied:
         play.do(copied)
     play.hand(0, 2)
@@ -276,6 +305,23 @@ def stray_fence(rules: Rules) -> None:
     play.finish_all()
 
 
+def view_before_its_writes(rules: Rules) -> None:
+    """A secondary that lags follows another one that became primary by `change`, and has its view, but not all writes
+    before that. The primary is lost; the former one has them."""
+    play = Play(rules, ALL, want=3, cap=1, copies=2)
+    play.write(7, copies=(1, 2))
+    play.write(8, copies=(1,))
+    play.change_to_secondary()
+    for _ in range(2):
+        play.step()
+    play.change_to_primary(1)
+    for _ in range(3):
+        play.step()
+    play.follow(2, 1, most=1)
+    play.tell_all()
+    play.fail_over(1, (SECONDARY, ABSENT, SECONDARY))
+
+
 PLAYS = (
     Worked(crash_loses_what_a_follower_has, "durable_first"),
     Worked(acknowledged_in_memory, "own_durable"),
@@ -283,15 +329,18 @@ PLAYS = (
     Worked(read_of_what_is_lost, "replies_wait"),
     Worked(told_before_it_is_durable, "told_flushed"),
     Worked(part_of_a_copy, "part_untold"),
+    Worked(counted_before_its_commit, "told_committed"),
     Worked(position_without_its_view, "told_at_view"),
     Worked(counted_at_an_earlier_view, "told_at_view"),
     Worked(counted_by_an_old_word, "counted_settled"),
     Worked(counted_though_given_up, "counted_settled"),
+    Worked(heard_before_it_handed_over, "work_ends_connections"),
     Worked(new_disk_of_a_follower, "numbers_rise"),
-    Worked(copied_from_a_new_owner_below_its_cut, "anew_of_acknowledger"),
-    Worked(copied_from_an_old_owner, "anew_of_acknowledger"),
+    Worked(copied_from_a_new_owner_below_its_cut, "anew_of_acknowledger", beside=("raised_by_those_that_stay",)),
+    Worked(copied_from_an_old_owner, "anew_of_acknowledger", beside=("raised_by_those_that_stay",)),
     Worked(stream_lost_by_who_has_more, "lesser_waits"),
     Worked(going_on_behind_another_list, "views_resumed"),
+    Worked(view_before_its_writes, "views_in_turn"),
     Worked(new_owner_is_behind, "lesser_waits"),
     Worked(copied_anew_in_place, "anew_beside"),
     Worked(stray_fence, "fence_bounded"),

@@ -2,10 +2,13 @@
 copies."""
 from __future__ import annotations
 
-from driving_model.cells import ABSENT, PRIMARY, SECONDARY
+from driving_model.cells import ABSENT, Kind, PRIMARY, SECONDARY
 from driving_model.clients import Write
-from driving_model.commands import Reopen
+from driving_model.commands import Begin, Reopen
 from driving_model.messages import BASE_STEP, Fence, MAP, Restore, Settle
+from driving_model.plans import (
+    CellRight, CrownRight, Instruction, Plan, RoomRight, SpareRight, Stream, add, drop, handover, unlist,
+)
 
 from .copies import Began
 from .play import ALL, ALONE, Play, Row, TWO
@@ -248,6 +251,24 @@ def two_copies_of_unlike_ones(rules: Rules) -> None:
     play.fail_over(0, (ABSENT, SECONDARY, SECONDARY))
 
 
+def reopened_before_a_restart(rules: Rules) -> None:
+    """Two copies are asked for. A secondary may go down, and is still there when the primary is lost; it has all, like
+    the other one, which becomes primary. Then it goes down."""
+    play = Play(rules, ALL, want=3, cap=2, copies=2)
+    play.write(7, copies=(1, 2))
+    play.approve(1)
+    play.lose(0)
+    play.reopening({0}, (ABSENT, SECONDARY, SECONDARY))
+    play.confirm(ABSENT, SECONDARY, PRIMARY)
+    for _ in range(2):
+        for settle in play.controller.outgoing():
+            play.deliver(settle)
+        play.take_answers()
+    play.host(1).is_alive = False
+    play.write(8, copies=(), primary=2)
+    must(8 in play.world.writes.acknowledged[0], "nothing is acknowledged while a server restarts by leave")
+
+
 def a_counted_replica_goes(rules: Rules) -> None:
     """The primary and a secondary have a write; the secondary is lost, and a reopening goes on without it."""
     play = Play(rules, ALL, want=3, copies=2)
@@ -284,10 +305,19 @@ def lowered_by_a_late_word(rules: Rules) -> None:
 
 def raise_again(play: Play) -> None:
     """The primary asks for all copies again, and the controller hears of it."""
-    play.tell_all()
-    play.world.raise_copies(0)
+    play.raise_copies()
     for copied in play.world.network.copied:
         play.do(copied)
+
+
+def restart_of_one_that_is_still_there(rules: Rules) -> None:
+    """Two copies are asked for, and the one secondary may go down. It is still there, and has all; then it goes."""
+    play = Play(rules, TWO, want=2, copies=2)
+    play.approve(1)
+    raise_again(play)
+    play.host(1).is_alive = False
+    play.write(7, copies=())
+    must(7 in play.world.writes.acknowledged[0], "nothing is acknowledged while a server restarts by leave")
 
 
 def raise_that_is_forgotten(rules: Rules) -> None:
@@ -326,8 +356,7 @@ def copied_before_another_primary(rules: Rules) -> None:
     for lower in play.controller.lowers():
         play.deliver(lower)
     play.do(play.host(1).restarted(permit))
-    play.tell_all()
-    play.world.raise_copies(0)
+    play.raise_copies()
     late = play.world.network.copied[0]
     for old, new in ((0, 2), (2, 0)):
         play.hand(old, new)
@@ -375,6 +404,89 @@ def drop_that_gets_no_leave(rules: Rules) -> None:
     must(not any(True for _ in play.controller.record.running()), "a drop waits for leave for ever")
 
 
+def drop_behind_a_handover(rules: Rules) -> None:
+    """The same for a stream that hands the shard over first: the new owner takes the place of the old one."""
+    play = Play(rules, TWO, want=2, cap=1, copies=2)
+    play.write(7, copies=(1,))
+    rights = (CrownRight(0), play.controller.record.crown(0)), (CellRight(0, 2), ABSENT), (RoomRight(2), 1)
+    play.begin((*handover(0, 0, 2), drop(0, 1)), *rights, (CellRight(0, 1), SECONDARY), (SpareRight(0), 1))
+    for _ in range(9):
+        play.turn()
+    must(not any(True for _ in play.controller.record.running()), "a drop waits for leave for ever")
+
+
+def first_replicas(rules: Rules) -> None:
+    """A shard has no replica. Of two streams one adds its primary, and the other one a secondary: each order names the
+    other server."""
+    play = Play(rules, (ABSENT, ABSENT, ABSENT), want=2, cap=2)
+    crown = (CrownRight(0), play.controller.record.crown(0))
+    primary = {crown[0]: crown[1], CellRight(0, 0): ABSENT, RoomRight(0): 1}
+    secondary = {CellRight(0, 1): ABSENT, RoomRight(1): 1}
+    streams = Stream(primary, (add(0, 0, Kind.PRIMARY),)), Stream(secondary, (add(0, 1, Kind.SECONDARY),))
+    play.do(Begin("both", Plan(streams)))
+    for _ in range(4):
+        play.turn()
+    must(not any(True for _ in play.controller.record.running()), "two servers wait for each other")
+
+
+def first_primary_waits(rules: Rules) -> None:
+    """The primary becomes a secondary, and another server is to be added as the primary: it may not begin beside."""
+    play = Play(rules, TWO, want=3, cap=3)
+    play.change_to_secondary()
+    for _ in range(3):
+        play.turn()
+    rights = (CrownRight(0), play.controller.record.crown(0)), (CellRight(0, 2), ABSENT), (RoomRight(2), 1)
+    play.begin((add(0, 2, Kind.PRIMARY),), *rights)
+    for _ in range(4):
+        play.turn()
+    must(not any(True for _ in play.controller.record.running()), "a first primary waits for ever")
+
+
+def added_late(play: Play, last: int, *before: Instruction) -> None:
+    """Another stream first does this and adds a replica of another shard, and then one of this shard at server 2. The
+    last replica's drop, while a request runs there, has begun before that; its order names nobody else."""
+    rights = (CellRight(1, 2), ABSENT), (CellRight(0, 2), ABSENT), (RoomRight(2), 2)
+    more = ((CellRight(0, 1), SECONDARY), (SpareRight(0), 1)) if before else ()
+    play.begin((*before, add(1, 2, Kind.SECONDARY), add(0, 2, Kind.SECONDARY)), *rights, *more)
+    for _ in before:
+        play.step_of_plan(1)
+    write = Write(0, 7)
+    for _ in range(9):
+        if play.world.row(0)[last] == PRIMARY and not play.host(last).running:
+            play.request(last, write)
+        play.step_of_plan(0)
+        for seal in play.world.writes.seals:
+            play.world.deliver_seal(seal)
+        if play.world.row(0)[last].kind is not Kind.PRIMARY:
+            play.copy(last, 0)
+    for shard in (1, 0):
+        for order in play.controller.orders():
+            if order.server == 2:
+                play.world.deliver(order)
+                play.world.follow_one(play.host(2), play.host(last if shard == 0 else 0), shard)
+                play.world.work(play.host(2), order)
+        play.take_answers()
+    play.world.finish(play.host(last), write)
+    play.host(last).copy(0).flush()
+    play.acknowledge()
+    play.work([play.host(last)])
+
+
+def added_beside_one_handed_over(rules: Rules) -> None:
+    """A stream hands a shard's one replica over, and drops it at the new owner."""
+    play = Play(rules, ALONE, want=2, cap=2, beside=(ALONE,))
+    rights = (CrownRight(0), play.controller.record.crown(0)), (CellRight(0, 1), ABSENT), (RoomRight(1), 1)
+    play.begin((*handover(0, 0, 1), unlist(0), drop(0, 1)), *rights, (SpareRight(0), 1))
+    added_late(play, 1)
+
+
+def added_behind_a_drop(rules: Rules) -> None:
+    """One stream drops the primary; another one drops the secondary before it adds a replica."""
+    play = Play(rules, TWO, want=2, cap=2, beside=(ALONE,))
+    play.drop_primary()
+    added_late(play, 0, drop(0, 1))
+
+
 def added_beside_the_last(rules: Rules) -> None:
     """A shard's one replica is to be dropped, while a request runs there. Another plan adds a secondary, which copies
     it. The request ends, and is acknowledged; then the drop is done, whose order named nobody else."""
@@ -416,13 +528,20 @@ PLAYS = (
     Worked(fewer_copies_for_a_while, "replaced_counted"),
     Worked(party_gives_up_its_copy, "copies_kept"),
     Worked(two_copies_of_unlike_ones, "copies_at_heir"),
+    Worked(reopened_before_a_restart, "down_uncounted"),
     Worked(a_counted_replica_goes, "copies_left"),
     Worked(restart_stops_nobody, "down_lowers"),
     Worked(lowered_by_a_late_word, "lower_numbered"),
+    Worked(restart_of_one_that_is_still_there, "raised_by_those_that_stay"),
     Worked(raise_that_is_forgotten, "raise_stored"),
     Worked(copied_of_an_earlier_permit, "copied_named"),
     Worked(copied_before_another_primary, "primary_renumbers"),
     Worked(copied_in_a_handover, "copied_at_rest"),
     Worked(drop_that_gets_no_leave, "drops_leave_copies"),
+    Worked(drop_behind_a_handover, "drops_leave_copies"),
     Worked(added_beside_the_last, "last_is_alone"),
+    Worked(added_beside_one_handed_over, "last_is_alone"),
+    Worked(added_behind_a_drop, "last_is_alone"),
+    Worked(first_replicas, "first_is_alone"),
+    Worked(first_primary_waits, "first_is_alone"),
 )

@@ -5,7 +5,7 @@ from collections.abc import Iterable, Sequence
 from copy import copy
 
 from driving_model import record as driving
-from driving_model.cells import ABSENT, Verb
+from driving_model.cells import ABSENT, Kind, Verb
 from driving_model.plans import Instruction, Plan
 from driving_model.record import primary_of
 
@@ -51,6 +51,11 @@ class Record(driving.Record):
         """How many replicas the shard has at servers that are not recorded down."""
         return len(self.replicas(shard) - set(self.permits))
 
+    def staying(self, shard: int) -> frozenset[int]:
+        """Its replicas at servers that are not recorded down, and that no unfinished stream names for the shard."""
+        code = (it for _, _, state in self.running() for it in state.stream.code if it.shard == shard)
+        return self.replicas(shard) - set(self.permits) - frozenset().union(*(it.servers for it in code))
+
     def led_by(self, shard: int) -> int | None:
         """Who is the shard's primary, or forwards its requests."""
         lead = self.lead(shard)
@@ -78,29 +83,69 @@ class Record(driving.Record):
         """What the plan's streams do, and those of other plans from where they are."""
         return [it.code for it in plan.streams] + [state.stream.code[state.at:] for _, _, state in self.running()]
 
+    def most_gone(self, shard: int, code: Sequence[Instruction]) -> int:
+        """How many replicas fewer than now a stream may leave of the shard, by itself."""
+        there, most = set(self.replicas(shard)), 0
+        for it in code:
+            if it.shard == shard and it.verb is Verb.DROP:
+                there.discard(it.server)
+            elif brings(shard, it):
+                there.add(it.server)
+            most = max(most, len(self.replicas(shard)) - len(there))
+        return most
+
+    def adds(self, shard: int, code: Sequence[Instruction]) -> bool:
+        """A stream adds a replica of the shard at a time when none of those is there that it drops."""
+        there = set(self.replicas(shard))
+        own = there & {it.server for it in code if it.shard == shard and it.verb is Verb.DROP}
+        for it in code:
+            if it.shard == shard and it.verb is Verb.DROP:
+                there.discard(it.server)
+                own.discard(it.server)
+            elif brings(shard, it) and it.server not in there:
+                if not own:
+                    return True
+                there.add(it.server)
+                own.add(it.server)
+        return False
+
+    def begins_beside(self, shard: int, code: Sequence[Instruction]) -> bool:
+        """A stream adds a first primary of the shard beside a replica that it has not dropped."""
+        there = set(self.replicas(shard))
+        for it in code:
+            if it.shard == shard and it.verb is Verb.DROP:
+                there.discard(it.server)
+            elif brings(shard, it):
+                if it.verb is Verb.ADD and it.role is Kind.PRIMARY and there - {it.server} and it.server not in there:
+                    return True
+                there.add(it.server)
+        return False
+
     def is_short_of_copies(self, shard: int, plan: Plan) -> bool:
         """The plan's drops may leave fewer replicas of the shard than are wanted, if these are more than one."""
-        left = len(self.replicas(shard)) - sum(most_gone(shard, it) for it in self.codes(plan))
-        return left < self.wanted[shard] != 1 and any(most_gone(shard, it.code) for it in plan.streams)
+        left = len(self.replicas(shard)) - sum(self.most_gone(shard, it) for it in self.codes(plan))
+        return left < self.wanted[shard] != 1 and any(self.most_gone(shard, it.code) for it in plan.streams)
 
     def adds_beside_the_last(self, shard: int, plan: Plan) -> bool:
-        """With this plan streams may drop the shard's last replica, and another one adds a replica."""
+        """With this plan streams may drop the shard's last replica, one of them while another one adds a replica."""
         codes = self.codes(plan)
-        most = [most_gone(shard, it) for it in codes]
-        adds = any(not gone and brings(shard, it) for gone, it in zip(most, codes))
-        return sum(most) >= max(1, len(self.replicas(shard))) and adds
+        most = [self.most_gone(shard, it) for it in codes]
+        drops, adds = places(most), places(self.adds(shard, it) for it in codes)
+        return sum(most) >= len(self.replicas(shard)) and any(drops - {it} for it in adds)
+
+    def adds_beside_the_first(self, shard: int, plan: Plan) -> bool:
+        """With this plan streams would wait for each other: two add replicas of a shard that has none, or one adds a
+        first primary beside a replica."""
+        if any(self.begins_beside(shard, it.code) for it in plan.streams):
+            return True
+        return not self.replicas(shard) and len(places(self.adds(shard, it) for it in self.codes(plan))) > 1
 
 
-def brings(shard: int, code: Sequence[Instruction]) -> bool:
-    """A stream adds a replica of the shard."""
-    return any(it.shard == shard and it.verb in (Verb.ADD, Verb.PREPARE_ADD) for it in code)
+def places(marks: Iterable[int | bool]) -> set[int]:
+    """The places of those that are not 0."""
+    return {place for place, mark in enumerate(marks) if mark}
 
 
-def most_gone(shard: int, code: Sequence[Instruction]) -> int:
-    """How many replicas of the shard a stream has at most dropped beyond those that it has added."""
-    gone = most = 0
-    for it in code:
-        if it.shard == shard and it.verb in (Verb.DROP, Verb.ADD, Verb.PREPARE_ADD):
-            gone += 1 if it.verb is Verb.DROP else -1
-            most = max(most, gone)
-    return most
+def brings(shard: int, it: Instruction) -> bool:
+    """An instruction adds a replica of the shard, or makes a prepared one the primary."""
+    return it.shard == shard and it.verb in (Verb.ADD, Verb.PREPARE_ADD)

@@ -264,9 +264,11 @@ class Reopening(driving.Reopening):
         return self.rules.loss_named and survey.primary() is None and len(survey.gone) >= self.least(shard)
 
     def is_bare(self, survey: Survey, shard: int, heir: int | None) -> bool:
-        """The shard had a replica, and gets no primary, or one that has it by the document alone."""
+        """The shard had a replica, and no copy is left that is known, or it gets a primary by the document alone."""
         if heir is None:
-            return any(it != ABSENT for it in (self.record.cells if self.record else self.document.cells)[shard])
+            had = any(it != ABSENT for it in (self.record.cells if self.record else self.document.cells)[shard])
+            is_there = survey.copies or survey.doubted or any(survey.row[it] != ABSENT for it in survey.silent)
+            return had and not is_there
         return heir not in survey.copies and heir not in survey.doubted and heir != survey.primary()
 
     # What may be confirmed.
@@ -314,8 +316,10 @@ class Reopening(driving.Reopening):
             left = {it for it, cell in enumerate(row) if cell != ABSENT}
             went = survey.members - left if self.rules.copies_left else set()
             return max(1, min(wanted, self.least(shard) - len(went)))
-        told = [it for server, it in survey.copies.items() if row[server] != ABSENT]
-        best = survey.copies.get(heir) if heir is not None else max(told, default=None)
+        there = {server: it for server, it in survey.copies.items() if row[server] != ABSENT}
+        best = survey.copies.get(heir) if heir is not None else max(there.values(), default=None)
+        down = self.document.down.union(self.record.permits if self.record else ()) if self.rules.down_uncounted else ()
+        told = [it for server, it in there.items() if server == heir or server not in down]
         if not self.rules.copies_at_heir:
             return max(1, min(wanted, len(told)))
         return max(1, min(wanted, sum(it == best for it in told)))

@@ -27,6 +27,7 @@ class Rules(driving.Rules):
     # Whom it counts.
     told_flushed: bool = rule("A follower tells of what it has durably, and of nothing more.")
     part_untold: bool = rule("Of a copy that is not whole a follower tells nothing.")
+    told_committed: bool = rule("Nor of one before the order that brings it has committed.")
     told_at_view: bool = rule("A replica counts only if it has told a whole copy of the counter's present view.")
     counted_settled: bool = rule(
         "A follower counts only on a connection that it began when it was settled at the primary's last reopening."
@@ -38,10 +39,12 @@ class Rules(driving.Rules):
     connections_end: bool = rule(
         "A start of the server to which a connection goes ends it: what was said by it is not heard."
     )
+    work_ends_connections: bool = rule("So does the end of an order's work there.")
     # Copies that come.
     views_resumed: bool = rule(
         "A copy goes on only if its view and position make it a beginning of its source; others are made anew."
     )
+    views_in_turn: bool = rule("A follower takes a view over with all writes up to where it began, and not before.")
     lesser_waits: bool = rule("Who has more than its source waits, and gives nothing up.")
     anew_of_acknowledger: bool = rule(
         "A replica that has lost its copy makes one only from who may acknowledge: the primary, or a new owner at its "
@@ -55,12 +58,17 @@ class Rules(driving.Rules):
     newest_terms: bool = rule("What the newest message names of a shard holds also for the work under way.")
     drop_granted: bool = rule("A drop commits only with leave, unless nobody else is named as a replica.")
     leave_of_all: bool = rule("Leave asks for the full number of copies at others, also while fewer acknowledge.")
+    leave_of_fewer: bool = rule("Or for all others, if fewer are named.")
     leave_of_whole: bool = rule("Without another primary only a replica with a whole copy gets leave.")
-    leave_of_earlier: bool = rule("Leave asks that others have also what the primary had when it started.")
+    leave_of_present: bool = rule(
+        "Nor does a replica whose view began after what ended the last primary that its message knows of: it waits for "
+        "a newer message."
+    )
+    leave_of_earlier: bool = rule("Leave asks that others have also what the primary had when it last began to serve.")
     leave_at_cut: bool = rule("A new owner below its cut gives nobody leave.")
     leaver_silent: bool = rule("From its question to the end of the drop the leaver tells nobody what it has.")
     leaver_uncounted: bool = rule("Who gives leave counts the leaver no more, and who has leave answers nobody.")
-    leave_numbered: bool = rule("An answer gives leave for the question whose number it names, and for no other one.")
+    leave_numbered: bool = rule("Questions have numbers that are used once; an answer gives leave for the one it names.")
     grant_ends: bool = rule(
         "A new connection begins when the order at work ends, whatever was granted, and counts again."
     )
@@ -71,7 +79,7 @@ class Rules(driving.Rules):
     change_compares: bool = rule("`change` to primary commits only if nobody that was asked has more.")
     change_by_count: bool = rule("It asks all replicas but `copies` less one, and not each one.")
     change_counts_whole: bool = rule("Of those asked only whole copies count.")
-    former_counts: bool = rule("Or the former primary has told its copy, which it has kept since it was primary.")
+    former_counts: bool = rule("Or the former primary has told the copy that it has kept since it was primary.")
     change_begins_view: bool = rule("Who becomes primary by `change` begins a view with the order's number.")
     begins_alone: bool = rule("`add` of a primary begins empty, and only if nobody else is named as a replica.")
     # Losses.
@@ -103,10 +111,15 @@ class Rules(driving.Rules):
     copies_kept: bool = rule("A reopening takes no whole copy from a replica: it stays, at least as a secondary.")
     # The number of copies.
     copies_at_heir: bool = rule("A new primary asks for no more copies than were told at just its view and position.")
+    down_uncounted: bool = rule("Other servers that are recorded down are not counted for that.")
     copies_left: bool = rule("A primary that stays asks for as many copies less as replicas go by the reopening.")
     down_lowers: bool = rule("An approval lowers the number by the replicas that are recorded down.")
     lower_numbered: bool = rule(
         "A primary lowers its number only for a permit above its base and above the last that it lowered or raised for."
+    )
+    raised_by_those_that_stay: bool = rule(
+        "A primary asks for all copies again only by replicas of which it was told that they are recorded up, and named "
+        "by no unfinished stream."
     )
     raise_stored: bool = rule("A primary stores that it asks for all copies again before it says so.")
     copied_named: bool = rule("`copied` names base and nonce of the primary's last slots, and what lowered the number.")
@@ -119,6 +132,9 @@ class Rules(driving.Rules):
     drops_leave_copies: bool = rule("A plan may not begin if its drops may leave fewer replicas than wanted.")
     last_is_alone: bool = rule(
         "Nor if a stream may drop a shard's last replica while another one adds a replica of the shard."
+    )
+    first_is_alone: bool = rule(
+        "Nor if two streams add replicas of a shard that has none, or one adds a first primary beside a replica."
     )
     # Fences.
     fence_bounded: bool = rule("A server with slots takes no fence further than 2^20 epochs above its base.")

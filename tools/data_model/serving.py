@@ -135,11 +135,21 @@ class Serving:
             self.coverage["copies lowered"] += 1
         elif lower.permit == replica.raised and replica.needed == replica.terms.wanted:
             self.say_copied(host, lower.shard)
+        replica.up = (lower.permit, lower.up)
 
     def say_copied(self, host: Host, shard: int) -> None:
         """A primary says that it asks for all copies again; it does so whenever it hears that this is not recorded."""
         replica, server = host.at[shard], host.server
         self.network.copied.append(Copied(host.number, server.nonce, server.base, shard, replica.raised))
+
+    def may_go(self, host: Host, shard: int) -> frozenset[int]:
+        """Which replicas may go: all but those of which the server was told otherwise since its number was lowered
+        last."""
+        replica = host.at[shard]
+        if not self.rules.raised_by_those_that_stay:
+            return frozenset()
+        stay = replica.up[1] if replica.up and replica.up[0] == replica.lowered else frozenset()
+        return frozenset(it.number for it in self.hosts) - stay
 
     def raise_copies(self, shard: int) -> None:
         """A primary asks for all copies again, and says so, when as many have all that is acknowledged."""
@@ -147,9 +157,9 @@ class Serving:
             server, replica = host.server, host.at[shard]
             if not host.answers or not server.is_known or host.cell(shard).kind is not Kind.PRIMARY or server.is_fenced:
                 continue
-            wanted = replica.terms.wanted
+            wanted, others = replica.terms.wanted, self.may_go(host, shard)
             self.owe(host, shard)
-            if replica.needed < wanted and self.count(host, shard, replica.owed) >= wanted:
+            if replica.needed < wanted and self.count(host, shard, replica.owed, but=others) >= wanted:
                 replica.needed, replica.raised = wanted, replica.lowered
                 self.say("server", host.number, "raises shard", shard, "to", wanted)
                 self.say_copied(host, shard)

@@ -303,6 +303,9 @@ class World(Following, Asking, Serving, base.World):
         replica.agree(order.terms)
         if self.rules.grant_ends:
             host.hang_up(order.shard)
+        if self.rules.work_ends_connections:
+            replica.endings += 1
+            replica.forget_words()
         replica.asking, replica.has_leave = None, False
 
     def give_up(self, host: Host) -> None:

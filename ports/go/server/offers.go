@@ -163,6 +163,8 @@ func (it *Server) given(line askLine) (answer any, err error) {
 			answer = offerLine{Said: "it does not know"}
 		case it.isLeaving(line.Shard):
 			answer = offerLine{Said: "it leaves " + line.Shard}
+		case line.Beside && slot.Cell.Kind == smplan.Secondary && line.After.Position > 0 && !kept.hasCopy(line.Shard):
+			answer = offerLine{Said: "it has lost its copy of " + line.Shard + ": give it up as lost"}
 		case line.Beside && slot.Cell.Kind == smplan.Secondary && here.Position <= line.After.Position:
 			answer = offerLine{Less: &here.Position}
 		case line.Beside && slot.Cell.Kind == smplan.Secondary:
