@@ -1,7 +1,9 @@
-"""bench.py FOLDER [--shards 12] [--rows 20000] [--copies 1] [--rest 0.03]: one of four PostgreSQL servers is drained while clients write; tells how long that
-takes, for how long shards' writes pause at their handover and beside those of others, and what pg_dump | psql of one such schema takes.
+"""bench.py FOLDER [--shards 12] [--rows 20000] [--copies 1] [--rest 0.03] [--databases]: one of four PostgreSQL servers is drained while clients write; tells how
+long that takes, for how long shards' writes pause at their handover and beside those of others, and what pg_dump | psql of one such schema takes. With
+--databases each shard has a database of its own at each server.
 
-A pause is the longest time without an acknowledged write of a shard. Exit status 1: something was lost, or the drain did not end.
+A pause is the longest time without an acknowledged write of a shard, with the rests of its client; it also tells for how long of that the client waited. Exit
+status 1: something was lost, or the drain did not end.
 """
 import argparse
 import os
@@ -26,7 +28,7 @@ class Bench(runs.Run):
     def moves(self, _):
         self.before, begun = os.getloadavg()[0], time.time()
         self.say("drain a")
-        self.status = self.command("drain", "a", "--batch", "2", "--pause", "0.2", seconds=7200.0)
+        self.status = self.command("drain", "region:a" if self.told.databases else "a", "--batch", "2", "--pause", "0.2", seconds=7200.0)
         self.drain, self.after = (begun, time.time()), os.getloadavg()[0]
 
     def cuts(self):
@@ -45,12 +47,14 @@ class Bench(runs.Run):
         cuts = self.cuts()
         print(machine(self.fleet.folder), f"; load {self.before:.1f} before, {self.after:.1f} after", sep="")
         size = self.fleet.posts[self.fleet.names[1]].query("SELECT pg_database_size(current_database()) >> 20")[0][0]
-        print(f"{len(by_shard)} shards of {self.size} MB, {len(self.fleet.names)} servers, {self.told.option}; a server's database has {size} MB in the end")
+        kind = ", each a database of its own" if self.told.databases else ""
+        print(f"{len(by_shard)} shards of {self.size} MB{kind}, {len(self.fleet.machines)} servers, {self.told.option}; a database has {size} MB in the end")
         print(f"drain: {ended - begun:.1f} s, status {self.status}; {sum(map(len, by_shard.values()))} acknowledged writes")
-        print(told("at rest", [checker.gaps_of(rows, *self.spans["rest"][0]) for rows in by_shard.values()]))
-        print(told("at their handover", [max(checker.gaps_of(by_shard[it], at - AROUND[0], at + AROUND[1]) for at in ats) for it, ats in cuts.items()]))
-        moved = {it for it in by_shard if it in cuts or "a" in self.cells[it]}
-        print(told("of shards that do not move", [checker.gaps_of(rows, begun, ended) for it, rows in by_shard.items() if it not in moved]))
+        moved = {it for it in by_shard if it in cuts or any(name[0] == "a" for name in self.cells[it])}
+        for title, look in (("without an acknowledged write", checker.gaps_of), ("while somebody waited for one", checker.waits_of)):
+            print(told(f"{title}, at rest", [look(rows, *self.spans["rest"][0]) for rows in by_shard.values()]))
+            print(told(f"{title}, at a shard's handover", [max(look(by_shard[it], at - AROUND[0], at + AROUND[1]) for at in ats) for it, ats in cuts.items()]))
+            print(told(f"{title}, of shards that do not move", [look(rows, begun, ended) for it, rows in by_shard.items() if it not in moved]))
         for title, times in handovers(self.fleet.folder).items():
             print(told(title, times))
         print(f"pg_dump | psql of one schema: {self.dump():.1f} s")
@@ -58,7 +62,7 @@ class Bench(runs.Run):
     def dump(self):
         """How long pg_dump | psql of one schema takes."""
         shard = self.fleet.shards[0]
-        state = self.fleet.ask({"do": "state"})["state"]
+        state = self.fleet.state()
         owner = next(cell["server"] for it in state["shards"] if it["shard"] == shard for cell in it["cells"] if cell["state"] == "primary")
         there = next(it for it in self.fleet.names if it != owner)
         self.fleet.posts[there].query("CREATE DATABASE dumped")
@@ -94,10 +98,12 @@ def main():
     parser.add_argument("folder")
     for name, value in (("--shards", "12"), ("--rows", "20000"), ("--copies", "1"), ("--rest", "0.03"), ("--writers", "1"), ("--patience", "1200")):
         parser.add_argument(name, default=value)
+    parser.add_argument("--databases", action="store_true")
     given = parser.parse_args()
     sys.argv = ["run.py", given.folder, "--harm", "--seconds", "40", "--seed", "1", f"--option=--copies={given.copies}"]
     for name in ("shards", "rows", "rest", "writers", "patience"):
         sys.argv += [f"--{name}", getattr(given, name)]
+    sys.argv += ["--databases", given.shards] if given.databases else []
     bench = Bench(runs.arguments())
     try:
         wrong = bench.run()

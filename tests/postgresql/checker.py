@@ -1,9 +1,27 @@
 """Looks at what the servers have in the end, and at what clients were told: it shares nothing with smplan_pg."""
 import json
+import re
 import time
 from collections import Counter, defaultdict
 
 import psycopg
+
+LITTLE = "clients wrote next to nothing"
+
+# How a server refuses a plain write of a shard that it does not serve, or does not have.
+REFUSED = (psycopg.errors.lookup("57P04"), psycopg.errors.UndefinedTable)
+
+
+def lasting(look, until):
+    """What is wrong, and is so until a time."""
+    while True:
+        try:
+            wrong = look()
+        except (psycopg.Error, OSError, LookupError, ValueError) as why:
+            wrong = [f"{type(why).__name__} {why}".strip()]
+        if not wrong or time.monotonic() > until:
+            return wrong
+        time.sleep(0.2)
 
 
 def acknowledged(folder):
@@ -19,20 +37,23 @@ def acknowledged(folder):
     return by_shard, notes
 
 
+def is_told_wrong(folder):
+    """Whether a client has noted something else than that it was not served."""
+    texts = (path.read_text() for path in folder.glob("acknowledged-*.jsonl"))
+    return any('"fault ' in it or '"other reply"' in it for it in texts)
+
+
 def plain_faults(fleet, shard, owner, losses):
     """Statements of clients that know nothing of shards, committed and lost, though no server was lost around then."""
     rows = [json.loads(line) for path in sorted(fleet.folder.glob("plain-*.jsonl")) for line in path.read_text().splitlines()]
     has = {it for (it,) in fleet.posts[owner].query(f'SELECT id FROM "{shard}".notes')}
-    wrong = [note for its, note, at in rows if its == shard and note not in has and not any(begun - 6 < at < ended for begun, ended in losses)]
+    wrong = [note for its, note, asked, told in rows if its == shard and note not in has and not any(begun < told and asked < ended for begun, ended in losses)]
     return [f"{shard}: {len(wrong)} statements were committed and are lost: {wrong[:3]}"] if wrong else []
 
 
-def shard_faults(fleet, shard, cells, rows):
-    """What is wrong with one shard."""
+def shard_faults(fleet, shard, owner, rows):
+    """What is wrong with one shard, as its primary has it."""
     wrong = []
-    owner = next((it for it, what in cells.items() if what == "primary"), None)
-    if owner is None:
-        return [f"{shard} has no primary: {cells}"]
     post = fleet.posts[owner]
     done = dict(post.query(f'SELECT id, reply FROM "{shard}".sm_requests'))
     history = Counter(it for (it,) in post.query(f'SELECT request FROM "{shard}".history'))
@@ -59,13 +80,9 @@ SUM = '''SELECT md5(coalesce((SELECT string_agg(id || ' ' || reply, ',' ORDER BY
 
 
 def replica_faults(fleet, shard, cells):
-    """Replicas that differ; it waits a little for those that are behind."""
-    for _ in range(100):
-        sums = {it: fleet.posts[it].query(SUM.format(shard))[0][0] for it in cells}
-        if len(set(sums.values())) == 1:
-            return []
-        time.sleep(0.1)
-    return [f"{shard}: replicas differ: {sums}"]
+    """Replicas that differ."""
+    sums = {it: fleet.posts[it].query(SUM.format(shard))[0][0] for it in cells}
+    return [f"{shard}: replicas differ: {sums}"] if len(set(sums.values())) > 1 else []
 
 
 def guard_faults(fleet, shard, owner, names):
@@ -75,7 +92,7 @@ def guard_faults(fleet, shard, owner, names):
         try:
             fleet.posts[name].query(f'UPDATE "{shard}".accounts SET filler = filler WHERE id = 1')
             taken = True
-        except psycopg.Error:
+        except REFUSED:
             taken = False
         if taken != (name == owner):
             wrong.append(f"{shard}: {name} {'takes' if taken else 'refuses'} a plain write, and {owner} is the primary")
@@ -92,14 +109,27 @@ def leftovers(fleet, names, shards):
                                                            "WHERE nspname NOT LIKE 'sm\\_aside%'")}
         if schemas != has:
             wrong.append(f"{name}: schemas {sorted(schemas)}, has {sorted(has)}")
-        count = fleet.posts[name].query("SELECT count(*) FROM pg_subscription")[0][0]
+        count = fleet.posts[name].query("SELECT count(*) FROM pg_subscription JOIN pg_database d ON d.oid = subdbid WHERE datname = current_database()")[0][0]
         if count != len(has - primary):
             wrong.append(f"{name}: {count} subscriptions for {len(has - primary)} secondaries")
-        streams = [it for (it,) in fleet.posts[name].query("SELECT slot_name FROM pg_replication_slots ORDER BY 1")]
+        streams = [it for (it,) in fleet.posts[name].query("SELECT slot_name FROM pg_replication_slots WHERE database = current_database() ORDER BY 1")]
         wanted = sum(len(shards[shard]) - 1 for shard in primary)
         if len(streams) != wanted:
             wrong.append(f"{name}: {len(streams)} streams for {wanted} followers: {', '.join(streams)}")
     return wrong
+
+
+# In a server's log: a row that replication brings is there already.
+AGAIN = re.compile(r'ERROR:  duplicate key .*\n.*DETAIL:  Key (.*) already exists\.\n.*CONTEXT:  processing remote data .* target relation "(.*?)"')
+
+
+def conflicts(folder):
+    """Writes that came to a follower again, as servers' logs say: what brings them stands still, and tries them for ever."""
+    found = {}
+    for path in sorted(folder.glob("pg-?.log")):
+        for told in AGAIN.finditer(path.read_text(errors="replace")):
+            found.setdefault(path.stem[-1], f"{told[2]} {told[1]}")
+    return [f"{name}: what it has came to it again: {what}" for name, what in found.items()]
 
 
 def gaps_of(rows, begun, ended):
@@ -108,32 +138,57 @@ def gaps_of(rows, begun, ended):
     return max((y - x for x, y in zip(acks, acks[1:]) if y > begun and x < ended), default=0.0)
 
 
+def waits_of(rows, begun, ended):
+    """The longest time between two moments in which somebody waited for an acknowledgement, and nobody got one."""
+    longest, since = 0.0, float("inf")
+    acks = sorted((it[6], it[5]) for it in rows)
+    for (x, _), (y, asked) in reversed(list(zip(acks, acks[1:]))):
+        since = min(since, asked)
+        if y > begun and x < ended:
+            longest = max(longest, y - max(x, since))
+    return longest
+
+
+def map_faults(fleet, wanted, names):
+    """Shards whose replicas are not as wanted, or not where the map's files list them."""
+    wrong = []
+    for shard, cells in cells_of(fleet).items():
+        owner = primary_of(cells)
+        listed = [json.loads(path.read_text())["entries"][shard]["to"] for path in fleet.map_files]
+        if owner is None or set(listed) != {owner} or len(cells) != wanted[shard] or not set(cells) <= set(names):
+            wrong.append(f"{shard}: {cells}, listed at {listed}, wanted {wanted[shard]}")
+    return wrong
+
+
+def cells_of(fleet):
+    """What the controller says of all shards."""
+    return {it["shard"]: {cell["server"]: cell["state"] for cell in it["cells"]} for it in fleet.state()["shards"]}
+
+
+def primary_of(cells):
+    """A shard's primary, if it has one."""
+    return next((name for name, what in cells.items() if what == "primary"), None)
+
+
 def check(fleet, wanted, least=100, alive=None, losses=()):
-    """All that is wrong, and the figures. A loss is when it began and when the service was open again."""
+    """All that is wrong, and the figures. A loss is when it began and when the service was open again. Without what is wanted of each shard the service is
+    not at rest, and it is only looked at what clients were told, and at servers' logs."""
     names = [it for it in fleet.names if alive is None or it in alive]
     by_shard, notes = acknowledged(fleet.folder)
-    wrong = list(notes)
+    wrong = conflicts(fleet.folder)
+    if wrong or not wanted:
+        return wrong + notes, by_shard
+    wrong += notes
     if sum(len(it) for it in by_shard.values()) < least:
-        wrong.append("clients wrote next to nothing")
-    state = fleet.ask({"do": "state"})["state"]
-    shards = {}
-    for it in state["shards"]:
-        shard, cells = it["shard"], {cell["server"]: cell["state"] for cell in it["cells"]}
-        shards[shard] = cells
-        owner = next((name for name, what in cells.items() if what == "primary"), None)
-        listed = [json.loads(path.read_text())["entries"][shard]["to"] for path in fleet.map_files]
-        if set(listed) != {owner} or len(cells) != wanted[shard] or not set(cells) <= set(names):
-            wrong.append(f"{shard}: {cells}, listed at {listed}, wanted {wanted[shard]}")
-        try:
-            wrong += plain_faults(fleet, shard, owner, losses) if owner else []
-            wrong += shard_faults(fleet, shard, cells, by_shard[shard])
-            wrong += replica_faults(fleet, shard, cells)
-            wrong += guard_faults(fleet, shard, owner, names)
-        except psycopg.Error as why:
-            wrong.append(f"{shard}: {type(why).__name__} {why}")
-    for attempt in range(100):
-        left = leftovers(fleet, names, shards)
-        if not left:
-            break
-            time.sleep(0.15)
-    return wrong + left, by_shard
+        wrong.append(LITTLE)
+    until = time.monotonic() + fleet.patience / 4 + 2 * fleet.dead  # (replication and the map's files may be late; streams that nobody reads are dropped by then)
+    wrong += lasting(lambda: map_faults(fleet, wanted, names), until)
+    shards = cells_of(fleet)
+    for shard, cells in shards.items():
+        owner = primary_of(cells)
+        if owner is not None:
+            wrong += lasting(lambda: plain_faults(fleet, shard, owner, losses) + shard_faults(fleet, shard, owner, by_shard[shard]), 0)
+            until = 0 if wrong else until  # (nothing has to be waited for then)
+            wrong += lasting(lambda: replica_faults(fleet, shard, cells), until)
+            wrong += lasting(lambda: guard_faults(fleet, shard, owner, names), until)
+    return wrong + lasting(lambda: leftovers(fleet, names, shards), 0 if wrong else until), by_shard

@@ -8,13 +8,14 @@ import time
 
 import psycopg
 
-# The shards that a server copies, or that are copied from it, or that it hands over.
-MOVES = "SELECT shard FROM sm.copied WHERE seen > clock_timestamp() - interval '8 s' UNION SELECT shard FROM sm.slots WHERE cell IN (2, 5)"
+# The shards that are copied from a server, each with when its copy began, and those in a handover.
+MOVES = "SELECT shard, since FROM sm.copied WHERE seen > clock_timestamp() - interval '8 s' UNION SELECT shard, NULL FROM sm.slots WHERE cell IN (2, 5)"
 
-# When a moment has come to a server; `drop`: a schema is dropped in a transaction that has not ended.
+# When a moment has come to a server; `drop`: a schema is dropped in a transaction that has not ended. A cut has a name, so that each
+# is struck once, and a handover gets on.
 MOMENTS = {
     "copy": "SELECT EXISTS (SELECT FROM pg_subscription_rel WHERE srsubstate <> 'r')",
-    "cut": "SELECT EXISTS (SELECT FROM sm.slots WHERE cell = 5)",
+    "cut": "SELECT shard || ' ' || last FROM sm.slots WHERE cell = 5",
     "seal": "SELECT EXISTS (SELECT FROM sm.slots WHERE cell = 2 AND has_cut = 1)",
     "over": "SELECT EXISTS (SELECT FROM sm.slots WHERE cell = 5 AND source IS NOT NULL)",
     "order": "SELECT EXISTS (SELECT FROM sm.slots WHERE at_work <> 0)",
@@ -22,6 +23,10 @@ MOMENTS = {
     "moves": f"SELECT EXISTS ({MOVES})",
     "prepared": "SELECT EXISTS (SELECT FROM sm.slots WHERE cell = 2 AND has_cut = 0 AND is_whole)",
 }
+FLUSHED = "SELECT pg_current_wal_flush_lsn()::text"
+# Whether a shard that a server serves, or has handed over, is followed up to a place of its log.
+COUNTED = "SELECT EXISTS (SELECT FROM {0}.sm_members JOIN pg_replication_slots ON slot_name = sm.stream('{0}', server) WHERE confirmed_flush_lsn >= '{1}')"
+HANDED_OVER = ("SELECT count(*) = 0 OR bool_or(active AND confirmed_flush_lsn >= '{1}') FROM pg_replication_slots WHERE starts_with(slot_name, sm.stream('{0}') || '_')")
 # Of what stands still: the shard, and the name of its stream.
 LATE = {
     "copy": "SELECT nspname, format('pg\\_%s\\_sync\\_%s\\_%%', srsubid, srrelid) FROM pg_subscription_rel JOIN pg_class c ON c.oid = srrelid JOIN pg_namespace n "
@@ -45,7 +50,7 @@ class Harm:
         self.fleet, self.dice, self.say = fleet, dice, say
         self.counts, self.wrong, self.gone, self.losses = {}, [], set(), []
         self.lock = threading.Lock()
-        self.looks = {}
+        self.looks, self.struck = {}, set()
 
     def count(self, what):
         self.counts[what] = self.counts.get(what, 0) + 1
@@ -61,66 +66,78 @@ class Harm:
                  "late commit": lambda: self.late_commit(stop)}
         works.get(kind, lambda: self.strike(kind, stop))()
 
-    def look(self, name, moment):
-        """Whether a moment has come to a server."""
+    def rows(self, name, statement, values=None):
+        """All rows of a statement at a server, over a connection that is kept; none if it is away."""
         try:
             if name not in self.looks:
                 self.looks[name] = psycopg.connect(self.fleet.posts[name].reach, autocommit=True, connect_timeout=5)
-            return self.looks[name].execute(MOMENTS[moment]).fetchone()[0]
+            return self.looks[name].execute(statement, values).fetchall()
         except psycopg.Error:
             if name in self.looks:
                 self.looks.pop(name).close()
-            return False
+            return []
+
+    def holds(self, name, statement, values=None):
+        """Whether something holds at a server."""
+        return (self.rows(name, statement, values) or [(False,)])[0][0]
+
+    def has_come(self, name, moment):
+        """Whether a moment has come to a server, and was not struck before if it has a name."""
+        fresh = {told for (told,) in self.rows(name, MOMENTS[moment]) if told} - self.struck
+        self.struck |= fresh - {True}
+        return bool(fresh)
 
     def victim(self, moment, seconds=8.0, stop=lambda: False):
         """A server to which a moment has come; none if it does not come."""
         until = time.monotonic() + seconds
         while time.monotonic() < until and not stop():
             for name in self.dice.sample(self.present(), len(self.present())):
-                if self.look(name, moment):
+                if self.has_come(name, moment):
                     return name
-            time.sleep(0.005)
+            time.sleep(0.02)
         return None
 
     def delay(self, moment, stop):
         """A table that a server copies, or what it would follow to the cut of a handover, stands still: until it has sealed all the same, or for a while."""
         name, until = self.victim(moment, stop=stop), time.monotonic() + self.fleet.late
-        row = name and self.looks[name].execute(LATE[moment]).fetchone()
-        if not row:
+        rows = self.rows(name, LATE[moment]) if name else []
+        if not rows:
             return
-        shard, stream = row
+        shard, stream = rows[0]
         reads = f"SELECT active_pid FROM pg_replication_slots WHERE active AND slot_name LIKE '{stream}'"
         with self.lock, contextlib.ExitStack() as frozen:
             found = []
             while not found and time.monotonic() < until and not stop():
                 for source in set(self.present()) - {name}:
-                    with contextlib.suppress(psycopg.Error, OSError):
-                        for (pid,) in self.fleet.posts[source].query(reads):
+                    for (pid,) in self.rows(source, reads):
+                        with contextlib.suppress(OSError):
                             frozen.callback(resume, pid)
                             os.kill(pid, signal.SIGSTOP)
                             found.append(pid)
+                time.sleep(0.005)
             if found:
                 self.count(f"late {'copy' if moment == 'copy' else 'stream'}")
             serves = f"SELECT EXISTS (SELECT FROM sm.slots WHERE shard = '{shard}' AND (cell = 4 OR has_cut = 1))"
-            while found and time.monotonic() < until and not self.fleet.posts[name].query(serves)[0][0]:
+            while found and time.monotonic() < until and not self.holds(name, serves):
                 time.sleep(0.05)
 
     def late_commit(self, stop):
         """A client that knows nothing of shards writes just before a cut, and commits once the new owner has sealed; if the cut waits for it, after a while."""
         name = self.victim("prepared", stop=stop)
-        row = name and self.looks[name].execute("SELECT shard, party FROM sm.slots WHERE cell = 2 AND has_cut = 0 AND is_whole LIMIT 1").fetchone()
-        if not row:
+        rows = self.rows(name, "SELECT shard, party FROM sm.slots WHERE cell = 2 AND has_cut = 0 AND is_whole LIMIT 1") if name else []
+        if not rows:
             return
-        shard, owner, note, until = row[0], self.fleet.names[row[1] - 1], f"late-{time.time()}", time.monotonic() + 3.0
+        begun, (shard, party) = time.time(), rows[0]
+        owner, note, until = self.fleet.names[party - 1], f"late-{begun}", time.monotonic() + 3.0
         try:
             with psycopg.connect(self.fleet.posts[owner].reach, connect_timeout=2) as c:
                 c.execute(f"INSERT INTO {shard}.notes VALUES (%s)", (note,))
                 self.count("late commit")
                 sealed = "SELECT EXISTS (SELECT FROM sm.slots WHERE shard = %s AND (has_cut = 1 OR cell <> 2))"
-                while time.monotonic() < until and not self.looks[name].execute(sealed, (shard,)).fetchone()[0]:
+                while time.monotonic() < until and not self.holds(name, sealed, (shard,)):
                     time.sleep(0.02)
             with (self.fleet.folder / "plain-late.jsonl").open("a") as file:
-                file.write(json.dumps([shard, note, time.time()]) + "\n")
+                file.write(json.dumps([shard, note, begun, time.time()]) + "\n")
         except psycopg.Error:
             pass
 
@@ -190,29 +207,32 @@ class Harm:
             return
         try:
             with psycopg.connect(self.fleet.posts[name].reach, connect_timeout=2) as c:
-                for (shard,) in c.execute(MOVES).fetchall():
+                for row in c.execute(MOVES).fetchall():
                     self.count("ddl")
                     c.execute("SET lock_timeout = '200ms'")
-                    c.execute(f"ALTER TABLE {shard}.accounts ADD COLUMN other int")
-                    if (shard,) in c.execute(MOVES).fetchall():
-                        self.wrong.append(f"the schema of {shard} was changed at {name} while it moves")
+                    c.execute(f"ALTER TABLE {row[0]}.accounts ADD COLUMN other int")
+                    if row in c.execute(MOVES).fetchall():
+                        self.wrong.append(f"the schema of {row[0]} was changed at {name} while it moves")
                 c.rollback()
         except psycopg.Error:
             pass
 
-    def is_followed(self, name):
-        """Whether each shard that a server serves has a follower that counts."""
+    def is_followed(self, name, place):
+        """Whether each shard that a server serves has a follower that counts, and has what was written up to a place of the server's log; of what it has
+        handed over, whoever still reads."""
         post = self.fleet.posts[name]
-        served = [it for (it,) in post.query("SELECT shard FROM sm.slots WHERE cell IN (4, 5) OR (cell = 2 AND has_cut = 1)")]
-        return all(post.query(f"SELECT EXISTS (SELECT FROM {it}.sm_members)")[0][0] for it in served)
+        served = post.query("SELECT shard, cell FROM sm.slots WHERE cell IN (4, 5) OR (cell = 2 AND has_cut = 1)")
+        return all(post.query((HANDED_OVER if cell == 5 else COUNTED).format(shard, place))[0][0] for shard, cell in served)
 
     def lose(self, name):
         """A server is lost for good, and the service reopened without it. (Whose followers are all away just then is not lost: nobody else would have its
         last writes.)"""
         with self.lock:
-            self.fleet.wait_for(f"what {name} serves is followed", lambda: self.is_followed(name), 120.0)
+            places = []
+            self.fleet.wait_for(f"{name} answers", lambda: places.append((time.time(), self.fleet.posts[name].query(FLUSHED)[0][0])) or places)
+            at, place = places[0]
+            self.fleet.wait_for(f"what {name} serves is followed", lambda: self.is_followed(name, place))
             self.count("lose")
-            at = time.time()
             self.gone.add(name)
             frozen = self.freeze(name)
             self.say(f"kill -9 {name} for good, while {len(frozen)} of its streams stand still")
@@ -228,7 +248,7 @@ class Harm:
                     break
                 time.sleep(0.5)
             else:
-                self.wrong.append(f"the service could not be reopened without {name}")
+                self.wrong.append(f"not within {time.monotonic() - begun:.0f} s: the service is open without {name}")
             self.losses.append((at, time.time()))
             self.say(f"reopened after {time.monotonic() - begun:.1f} s")
 

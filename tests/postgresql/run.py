@@ -10,40 +10,23 @@ import subprocess
 import sys
 import threading
 import time
+from collections import Counter
 from pathlib import Path
 
 import checker
 from harm import KINDS, Harm
 from servers import Fleet
+from share import Share
 
 HERE = Path(__file__).resolve().parent
 
-# Who gets a smaller share of a processor is too slow for a verdict on what comes too late.
-SLOW = 0.3
+# What a client notes that was not served within its patience.
+LATE = ": not served"
 TABLES = """CREATE SCHEMA {0};
 CREATE TABLE {0}.accounts (id int PRIMARY KEY, balance bigint NOT NULL DEFAULT 0, filler text);
 CREATE TABLE {0}.history (id bigserial PRIMARY KEY, request text NOT NULL, account int NOT NULL, delta int NOT NULL);
 CREATE TABLE {0}.notes (id text PRIMARY KEY);
 INSERT INTO {0}.accounts SELECT it, 0, repeat(md5(it::text), 9) FROM generate_series(1, {1}) it;"""
-
-
-class Share(threading.Thread):
-    """Which share of a processor a thread gets that wants it all, looked at each second."""
-
-    def __init__(self):
-        super().__init__(daemon=True)
-        self.shares = []
-
-    def run(self):
-        while True:
-            begun, used = time.monotonic(), time.thread_time()
-            while time.thread_time() < used + 0.01:
-                pass
-            self.shares.append(0.01 / max(0.01, time.monotonic() - begun))
-            time.sleep(1.0)
-
-    def mean(self):
-        return sum(self.shares) / max(1, len(self.shares))
 
 
 class Run:
@@ -53,11 +36,12 @@ class Run:
         self.told, self.dice, self.begun, self.events = told, random.Random(told.seed), time.time(), []
         names = [chr(ord("a") + it) for it in range(told.servers)]
         self.fleet = Fleet(told.folder, names, told.shards, options=["--dead", str(told.dead), *told.option], harm=told.messages, seed=told.seed, bug=told.bug,
-                           controllers=told.controllers)
-        self.fleet.dead, self.fleet.late, self.fleet.frozen = told.dead, told.late, told.frozen
+                           controllers=told.controllers, parts=told.databases)
+        self.fleet.dead, self.fleet.late, self.fleet.frozen, self.fleet.patience = told.dead, told.late, told.frozen, told.patience
         self.harm = Harm(self.fleet, random.Random(f"{told.seed} harm"), self.say)
         self.stopping = threading.Event()
         self.writers, self.spans, self.drained, self.share = [], {}, None, Share()
+        self.looked, self.is_wrong = 0.0, False
         self.share.start()
 
     def say(self, *words):
@@ -77,12 +61,7 @@ class Run:
         from smplan_pg.adopt import adopt, load_of
         from smplan_pg.database import Database
         self.fleet.make()
-        names, cells, loads = self.fleet.names, {}, {}
-        for n in range(self.told.shards):
-            order = names[n % len(names):] + names[:n % len(names)]
-            if n % len(names) == 0 or n % 3 == 0 or self.told.at_one:
-                order = [names[0], *self.dice.sample(names[1:], len(names) - 1)]
-            cells[f"s{n}"] = order[:3 if len(names) > 3 and (self.told.wide or n % 3 == 2) else 2]
+        names, cells, loads = self.fleet.names, {f"s{n}": self.cells_of(n) for n in range(self.told.shards)}, {}
 
         def fill(name):
             database = Database(self.fleet.posts[name].reach)
@@ -94,10 +73,20 @@ class Run:
         for step in (threading.Thread.start, threading.Thread.join):
             for it in fillers:
                 step(it)
-        self.fleet.shards, self.cells, self.fleet.room = list(cells), cells, 3 * sum(loads.values())
-        return {"limit": 1, "servers": [{"name": it, "region": "r", "room": self.fleet.room} for it in names],
-                "shards": [{"name": shard, "load": loads[shard], "want": len(its), "cap": len(its) - 1, "spread": 1, "listed": its[0], "cells": [
+        self.fleet.shards, self.cells, self.fleet.room = list(cells), cells, max(loads.values()) if self.told.databases else 3 * sum(loads.values())
+        regions = {it: it[0] if self.told.databases else "r" for it in names}
+        return {"limit": 1, "servers": [{"name": it, "region": regions[it], "room": self.fleet.room} for it in names],
+                "shards": [{"name": shard, "load": loads[shard], "want": len(its), "cap": len(its) - 1, "spread": len({regions[it] for it in its}), "listed": its[0], "cells": [
                     {"server": it, "state": "secondary" if n else "primary"} for n, it in enumerate(its)]} for shard, its in cells.items()]}
+
+    def cells_of(self, n):
+        """The servers of a shard, the primary first. If each is a database, a shard has one of its number at each."""
+        names = list(self.fleet.machines)
+        order = names[n % len(names):] + names[:n % len(names)]
+        if n % len(names) == 0 or n % 3 == 0 or self.told.at_one:
+            order = [names[0], *self.dice.sample(names[1:], len(names) - 1)]
+        order = order[:3 if len(names) > 3 and (self.told.wide or n % 3 == 2) else 2]
+        return [f"{it}{n}" for it in order] if self.told.databases else order
 
     def start_writers(self):
         """Clients in processes of their own."""
@@ -115,7 +104,7 @@ class Run:
     def harms(self):
         """One harm after the other, with rests between; each kind comes once before any comes again."""
         kinds = []
-        while not self.stopping.wait(self.harm.dice.uniform(0.15, 1.0) * self.told.every):
+        while not self.stopping.wait(self.harm.dice.uniform(0.15, 1.0) * self.told.every) and sum(self.harm.counts.values()) < self.told.most:
             kinds = kinds or self.harm.dice.sample(self.told.harm, len(self.told.harm))
             kind = kinds.pop()
             try:
@@ -126,14 +115,14 @@ class Run:
     def moves(self, until):
         """Drains one server after the other, and repairs what shards lack."""
         begun, loses, done = time.time(), self.told.lose, 0
-        while time.time() < until or loses or (done < self.told.drains and time.time() < begun + self.told.patience):
+        while not self.is_over() and (time.time() < until or loses or (done < self.told.drains and time.time() < begun + self.told.patience)):
             if loses and time.time() >= begun + (until - begun) * self.told.lose_at:
                 name = self.serving()
                 self.harm.lose(name)
-                self.command("repair", "--yes")
+                self.repair()
                 if not self.told.no_disk:
                     self.harm.replace(name)
-                    self.command("repair", "--yes")
+                    self.repair()
                 loses = 0
                 continue
             if self.dice.random() < self.told.back:
@@ -151,13 +140,20 @@ class Run:
             self.say(f"drain of {name} ended with {status}")
             self.spans.setdefault("drains", []).append((at, time.time()))
 
+    def is_over(self):
+        """Whether something is wrong already that no time mends, as was seen within the last second."""
+        if time.monotonic() > self.looked + 1.0:
+            folder, self.looked = self.fleet.folder, time.monotonic()
+            self.is_wrong = bool(self.harm.wrong or checker.conflicts(folder)) or checker.is_told_wrong(folder)
+        return self.is_wrong
+
     def lead_away(self, name):
         """Others lead for a server, which is killed and starts again once that is allowed; and they give back."""
         asked = self.fleet.folder / "restart"
         process = self.fleet.command("restart", name, "--no-primaries", "--by", "storm", "--yes", "--wait", "20", "--", "sh", "-c",
                                      f"touch {asked}; while [ -e {asked} ]; do sleep 0.05; done")
         until = time.monotonic() + self.told.patience
-        while process.poll() is None and time.monotonic() < until:
+        while process.poll() is None and time.monotonic() < until and not self.is_over():
             if asked.exists():
                 with self.harm.lock:
                     self.fleet.posts[name].kill()
@@ -171,8 +167,7 @@ class Run:
 
     def serving(self):
         """A server that serves most shards, so that there is something to lose."""
-        state = self.fleet.ask({"do": "state"})["state"]
-        served = [cell["server"] for it in state["shards"] for cell in it["cells"] if cell["state"] == "primary"]
+        served = [cell["server"] for it in self.fleet.state()["shards"] for cell in it["cells"] if cell["state"] == "primary"]
         return max(self.harm.present(), key=served.count)
 
     def next_to_drain(self):
@@ -185,15 +180,22 @@ class Run:
         self.drained = self.serving() if self.told.at_one else self.dice.choice(sorted(full - {self.drained}) or sorted(full))
         return self.drained
 
+    def repair(self):
+        """Brings back what shards lack. Of one that has secondaries alone, as if a server was lost that others were about to give back to, one is promoted."""
+        bare = [it["shard"] for it in self.fleet.state()["shards"] if all(cell["state"] != "primary" for cell in it["cells"])]
+        return self.command("repair", "--yes", *(["--promote"] if bare else []))
+
     def command(self, *words, seconds=60.0):
-        """Runs a command of an operator for a while."""
-        process = self.fleet.command(*words)
-        try:
-            return process.wait(seconds)
-        except subprocess.TimeoutExpired:
-            process.send_signal(signal.SIGKILL)
-            process.wait()
-            return "no end"
+        """Runs a command of an operator for a while, unless something is wrong."""
+        process, until = self.fleet.command(*words), time.monotonic() + seconds
+        while time.monotonic() < until and not self.is_over():
+            try:
+                return process.wait(0.5)
+            except subprocess.TimeoutExpired:
+                continue
+        process.kill()
+        process.wait()
+        return "no end"
 
     # -- the end
 
@@ -205,7 +207,7 @@ class Run:
         lacking = [it["shard"] for it in state["shards"] if len(it["cells"]) != len(self.cells[it["shard"]]) or all(cell["state"] != "primary" for cell in it["cells"])]
         if lacking:
             self.say("repair of", lacking)
-            self.command("repair", "--yes")
+            self.repair()
             return False
         return all(self.counts(it) for it in state["shards"])
 
@@ -222,16 +224,16 @@ class Run:
         for it in [*([self.fleet.store] if self.fleet.store else []), *self.fleet.controllers]:
             if not it.is_up():
                 it.start()
-        self.fleet.wait_for("the service is at rest", self.is_quiet, self.told.patience)
+        self.fleet.wait_for("the service is at rest", lambda: self.is_over() or self.is_quiet())
 
     def run(self):
         """The whole run; returns what is wrong."""
         document = self.make()
         self.fleet.open(document)
-        self.fleet.wait_for("all secondaries are copied", lambda: self.is_quiet_at_first(document), self.told.patience)
+        self.fleet.wait_for("all secondaries are copied", lambda: self.is_quiet_at_first(document))
         self.say(f"{len(self.fleet.names)} servers, {self.told.shards} shards of {document['shards'][0]['load']} MB; secondaries are copied")
         self.start_writers()
-        self.fleet.wait_for("clients write", lambda: self.written() > 3 * self.told.shards, self.told.patience)
+        self.fleet.wait_for("clients write", lambda: self.written() > 3 * self.told.shards)
         time.sleep(min(4.0, self.told.seconds / 8))
         self.spans["rest"] = [(self.begun, time.time())]
         harms = threading.Thread(target=self.harms) if self.told.harm else None
@@ -250,7 +252,8 @@ class Run:
         (self.fleet.folder / "stop").touch()
         for it in self.writers:
             it.wait()
-        wrong, by_shard = checker.check(self.fleet, {shard: len(its) for shard, its in self.cells.items()}, self.told.least, self.harm.present(), self.harm.losses)
+        wrong, by_shard = checker.check(self.fleet, {} if stuck else {shard: len(its) for shard, its in self.cells.items()}, self.told.least, self.harm.present(),
+                                        self.harm.losses)
         self.report(by_shard)
         return stuck + self.harm.wrong + wrong
 
@@ -265,9 +268,16 @@ class Run:
             drain = max((checker.gaps_of(rows, *it) for it in self.spans.get("drains", [])), default=0.0)
             print(f"{shard}: {len(rows)} acknowledged; longest time without one: {rest * 1e3:.0f} ms at rest, {drain * 1e3:.0f} ms while shards moved")
         print(f"load {os.getloadavg()[0]:.0f}; share of a processor {self.share.mean():.2f}")
+        print("servers:", self.done())
         print("harm:", dict(self.harm.counts), "messages:", {it: dict(counts) for it, counts in self.fleet.proxied.items()})
         for n in range(len(self.writers)):
             print((self.fleet.folder / f"writers-{n}.log").read_text().strip()[-300:])
+
+
+    def done(self):
+        """How often servers did what, as their logs say."""
+        lines = (line.split() for path in self.fleet.folder.glob("serve-*.log") for line in path.read_text().splitlines())
+        return dict(Counter(words[2] for words in lines if words[2:3] and words[2] in ("copied", "prepare_drop", "sealed", "follows", "change")))
 
 
 def arguments():
@@ -283,7 +293,9 @@ def arguments():
     parser.add_argument("--harm", nargs="*", default=list(KINDS))
     parser.add_argument("--messages", type=float, default=0.0, help="the share of messages that are lost, late or doubled")
     parser.add_argument("--every", type=float, default=2.0, help="the longest rest between two harms, in seconds")
+    parser.add_argument("--most", type=int, default=10000, help="so many harms come at most")
     parser.add_argument("--controllers", type=int, default=1, help="several are over etcd")
+    parser.add_argument("--databases", type=int, default=0, help="so many databases of each PostgreSQL are the servers, one for each shard (at least --shards)")
     parser.add_argument("--plain", type=float, default=0.0, help="a client that knows nothing of shards for each, and for how long it leaves a transaction open")
     parser.add_argument("--wide", action="store_true", help="all shards want three replicas")
     parser.add_argument("--at-one", action="store_true", help="one server serves all shards at first, and is drained")
@@ -300,6 +312,7 @@ def arguments():
     parser.add_argument("--least", type=int, default=100)
     parser.add_argument("--option", action="append", default=[])
     parser.add_argument("--bug", default="")
+    parser.add_argument("--strict", action="store_true", help="what comes too late is wrong, however slow the machine is")
     parser.add_argument("--quiet", action="store_true")
     told = parser.parse_args()
     told.seed = random.SystemRandom().randrange(1 << 30) if told.seed is None else told.seed
@@ -322,8 +335,8 @@ def main():
         for it in run.writers:
             it.kill()
     print(f"verdict: {len(wrong)} violations (seed {told.seed})", *wrong[:20], sep="\n  ", flush=True)
-    is_late = all(it.endswith(": not served") or it.startswith("not within ") for it in wrong)
-    os._exit(0 if not wrong else 4 if is_late and run.share.mean() < SLOW else 1)
+    is_late = all(it.endswith(LATE) or it.startswith(("not within ", checker.LITTLE)) for it in wrong)
+    os._exit(0 if not wrong else 4 if is_late and run.share.is_slow() and not told.strict else 1)
 
 
 if __name__ == "__main__":

@@ -1,4 +1,5 @@
-"""PostgreSQL servers, their smplan-pg, and a controller, as processes on loopback."""
+"""PostgreSQL servers, their smplan-pg, and a controller, as processes on loopback. Whoever imports this ends them with itself, also if it is told to end."""
+import atexit
 import json
 import os
 import pathlib
@@ -16,8 +17,23 @@ ROOT = pathlib.Path(__file__).resolve().parents[2]
 sys.path[:0] = [str(ROOT / "python"), str(ROOT / "ports/postgresql")]
 BIN = pathlib.Path("/usr/lib/postgresql/15/bin")
 SETTINGS = {"shared_buffers": "64MB", "max_connections": "120", "max_wal_size": "2GB", "listen_addresses": "127.0.0.1", "log_min_messages": "warning",
-            "fsync": os.environ.get("PG_FSYNC", "on")}
+            "dynamic_shared_memory_type": "mmap",  # (it goes with the folder; posix leaves a file in /dev/shm for each server that is killed for good)
+            "fsync": os.environ.get("PG_FSYNC", "on"), "wal_retrieve_retry_interval": os.environ.get("PG_RETRY", "20ms")}
 TEMPLATES = sorted(pathlib.Path(os.environ["PG_TEMPLATES"]).iterdir()) if "PG_TEMPLATES" in os.environ else []
+
+
+# All processes that were started.
+STARTED = set()
+
+
+@atexit.register
+def end_all():
+    """Kills what still runs."""
+    for it in STARTED:
+        it.kill()
+
+
+signal.signal(signal.SIGTERM, signal.default_int_handler)
 
 
 def free_ports(count):
@@ -43,6 +59,7 @@ class Process:
     def start(self):
         with self.log.open("a") as log:
             self.process = subprocess.Popen(self.words, stdout=log, stderr=log, start_new_session=True, **self.rest)
+        STARTED.add(self)
 
     def is_up(self):
         return self.process is not None and self.process.poll() is None
@@ -81,36 +98,56 @@ class Postgres(Process):
         return subprocess.Popen([str(BIN / "initdb"), "-D", str(self.data), "-A", "trust", "-U", "postgres", "-E", "UTF8", "--locale=C.UTF-8", "-N"],
                                 stdout=subprocess.DEVNULL, cwd=str(self.data.parent), **as_postgres())
 
-    def wait(self, seconds=60):
-        """Waits until it answers."""
+    def wait(self, seconds=120):
+        """Waits until it answers. (It does not start while what it had started before it was killed has not ended: it is started again then.)"""
         until = time.monotonic() + seconds
         while True:
             try:
-                return psycopg.connect(self.reach, connect_timeout=10).close()
+                return psycopg.connect(self.reach, connect_timeout=30).close()
             except psycopg.Error:
-                if not self.is_up() or time.monotonic() > until:
-                    raise SystemExit(f"{self.name} does not come up: see {self.log}") from None
-                time.sleep(0.05)
+                if time.monotonic() > until:
+                    raise TimeoutError(f"not within {seconds:g} s: {self.name} comes up (see {self.log})") from None
+                if not self.is_up():
+                    self.start()
+                time.sleep(0.1)
 
     def query(self, statement, values=()):
         """All rows of a statement."""
-        with psycopg.connect(self.reach, autocommit=True, connect_timeout=10) as c:
+        with psycopg.connect(self.reach, autocommit=True, connect_timeout=30) as c:
             cursor = c.execute(statement, values or None)
             return cursor.fetchall() if cursor.description else []
 
 
-class Fleet:
-    """Servers a, b, .. with a controller, or with several over etcd."""
+class Part:
+    """A database of a PostgreSQL server, as a server of its own."""
 
-    def __init__(self, folder, names, shards=12, program=None, options=(), harm=0.0, seed=0, bug="", controllers=1):
-        self.folder, self.names, self.shards, self.room = pathlib.Path(folder), list(names), [], 1000
+    query = Postgres.query
+
+    def __init__(self, post, name):
+        self.post, self.name, self.port, self.reach = post, name, post.port, post.reach.replace("dbname=postgres", f"dbname={name}")
+        self.is_up = post.is_up
+
+    def make(self):
+        """Makes the empty database."""
+        self.post.query(f"CREATE DATABASE {self.name}")
+
+
+class Fleet:
+    """Servers a, b, .. with a controller, or with several over etcd. With `parts` above 0 each is so many databases, a0, a1, .., which are the servers."""
+
+    def __init__(self, folder, names, shards=12, program=None, options=(), harm=0.0, seed=0, bug="", controllers=1, parts=0):
+        machines, names = list(names), [f"{it}{n}" for it in names for n in range(parts)] if parts else list(names)
+        self.folder, self.names, self.shards, self.room, self.patience = pathlib.Path(folder), names, [], 1000, 60.0
         shutil.rmtree(self.folder, ignore_errors=True)
         self.folder.mkdir(parents=True)
         os.chmod(self.folder, 0o777)
         self.program = program or smpland()
         ports = free_ports(3 * len(names) + controllers + 2)
         self.pages = [f"http://127.0.0.1:{ports.pop()}" for _ in range(controllers)]
-        self.posts = {name: Postgres(self.folder, name, ports.pop(), shards, len(names)) for name in names}
+        self.machines = {name: Postgres(self.folder, name, ports.pop(), shards, len(machines)) for name in machines}
+        self.posts = {name: Part(self.machines[name[0]], name) for name in names} if parts else self.machines
+        for it in self.machines.values() if parts else ():
+            it.words += ["-c", "max_connections=600"]
         self.urls = {name: f"http://127.0.0.1:{ports.pop()}" for name in names}
         program = [str(ROOT / "ports/postgresql/smplan-pg")] if not bug else ["/usr/bin/python3", str(ROOT / "tests/postgresql/wrong.py"), bug]
         environment = {**os.environ, "PATH": f"{BIN}:{os.environ['PATH']}"}
@@ -148,13 +185,16 @@ class Fleet:
 
     def make(self):
         """Makes and starts the clusters."""
-        made = [it.make() for it in self.posts.values()]
+        made = [it.make() for it in self.machines.values()]
         if any(it.wait() for it in made):
             raise SystemExit("initdb failed")
-        for it in self.posts.values():
+        for it in self.machines.values():
             it.start()
-        for it in self.posts.values():
+        for it in self.machines.values():
             it.wait()
+        for it in self.posts.values():
+            if isinstance(it, Part):
+                it.make()
 
     def open(self, document):
         """Starts the controller and all servers' sides."""
@@ -208,9 +248,16 @@ class Fleet:
         from smplan.control_http import fetch
         return fetch(f"{self.pages[self.leader()]}/ask", line)
 
-    def wait_for(self, what, condition, seconds=60.0):
+    def state(self):
+        """The service's state; it waits for a controller that leads."""
+        told = []
+        self.wait_for("a controller tells the service's state", lambda: told.append(self.ask({"do": "state"})["state"]) or told)
+        return told[0]
+
+    def wait_for(self, what, condition, seconds=None):
         """Waits for something; ends the run if it does not come."""
         from smplan.failure import Failure
+        seconds = seconds or self.patience
         until = time.monotonic() + seconds
         while time.monotonic() < until:
             try:
@@ -218,7 +265,7 @@ class Fleet:
                     return
             except (psycopg.Error, OSError, LookupError, ValueError, Failure):
                 pass
-            time.sleep(0.05)
+            time.sleep(0.2)
         raise TimeoutError(f"not within {seconds:g} s: {what}")
 
     def told_stuck(self):
@@ -233,7 +280,7 @@ class Fleet:
         """Stops all."""
         for it in [*self.controllers, *self.agents.values()]:
             it.stop(seconds=5)
-        for it in [*self.posts.values(), *([self.store] if self.store else [])]:
+        for it in [*self.machines.values(), *([self.store] if self.store else [])]:
             it.stop(signal.SIGINT)
 
 

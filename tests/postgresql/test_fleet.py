@@ -1,8 +1,10 @@
 """Three PostgreSQL servers with a controller, from their opening on: what befalls followers, changes of a schema, and what a server that was given up brings
 back. The tests go on from each other, in the order of their names."""
+import contextlib
 import os
 import subprocess
 import tempfile
+import time
 import unittest
 from pathlib import Path
 
@@ -85,6 +87,26 @@ class FleetTest(unittest.TestCase):
         self.settle()
         FLEET.wait_for("the old copy is deleted", lambda: FLEET.posts["b"].query("SELECT count(*) FROM sm.asides") == [(0,)])
 
+    def test_3_b_stream_that_is_dropped_amid_a_copy(self):
+        stream = FLEET.posts["b"].query("SELECT sm.stream('s', 2)")[0][0]
+        here = "SELECT 1 FROM pg_replication_slots WHERE slot_name = %s AND "
+        FLEET.agents["b"].kill()
+        FLEET.posts["b"].query(f"ALTER SUBSCRIPTION {stream} DISABLE")
+        FLEET.wait_for("a goes on without b", lambda: FLEET.posts["a"].query("SELECT count(*) FROM s.sm_members") == [(0,)])
+        FLEET.agents["b"].start()
+        with psycopg.connect(FLEET.posts["a"].reach, autocommit=True) as c, psycopg.connect(FLEET.posts["a"].reach) as other:
+            while not c.execute(here + "confirmed_flush_lsn IS NOT NULL", (stream,)).fetchone():
+                time.sleep(0.005)
+            other.execute("SELECT txid_current()")  # (the copying of tables waits for it)
+            while not c.execute(here + "active", (stream,)).fetchone():
+                time.sleep(0.005)
+            while c.execute(here + "true", (stream,)).fetchone():
+                with contextlib.suppress(psycopg.errors.ObjectInUse):
+                    c.execute("SELECT pg_terminate_backend(active_pid), pg_sleep(0.002), pg_drop_replication_slot(slot_name) FROM pg_replication_slots "
+                              "WHERE slot_name = %s", (stream,))
+            FLEET.wait_for("b sees it", lambda: "a has dropped the stream" in (FLEET.folder / "serve-b.log").read_text())
+        self.settle()
+
     def test_4_a_copy_that_is_spoiled(self):
         FLEET.posts["b"].query("SET sm.own = on; INSERT INTO s.accounts VALUES (2000, 5)")
         FLEET.posts["a"].query("INSERT INTO s.accounts VALUES (2000, 7)")
@@ -123,7 +145,7 @@ class FleetTest(unittest.TestCase):
         self.settle(owner, other)
         for it in (FLEET.agents, FLEET.posts):
             it[owner].kill()
-        self.command("reopen", "--lost", owner, "--yes", "--wait", "60")
+        self.command("reopen", "--lost", owner, "--yes", "--accept-loss", "--wait", "60")
         FLEET.wait_for("the other one serves", lambda: self.is_primary(other))
         self.write(other, "behind")
         self.assertEqual(FLEET.posts[other].query("SELECT count(*) FROM s.history WHERE request = 'moved'"), [(1,)])

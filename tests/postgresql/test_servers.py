@@ -9,6 +9,7 @@ import tempfile
 import threading
 import time
 import unittest
+from concurrent.futures import ThreadPoolExecutor
 from pathlib import Path
 
 import servers  # (it makes the packages be found)
@@ -355,6 +356,26 @@ class StreamTest(Case):
             database = Database(far)
             streams.drop_stream(database, "sm_far", 30.0)
             database.close()
+
+    def test_a_copy_tells_its_source_that_it_goes_on_while_the_schema_is_made(self):
+        self.adopt(cell=Cell.PRIMARY)
+        server, seen = Server("a", DATABASE, POST.reach, []), []
+        server.number, server.peers = 1, {2: Peer(2, "b", "", POST.reach)}
+
+        def copy_schema(there, shard):
+            time.sleep(3.5)
+            seen.extend(there.rows("SELECT clock_timestamp() - seen < interval '2.5 s' AS it FROM sm.copied WHERE shard = %s", shard))
+            raise streams.Stuck("the schema is not made")
+
+        server.copies.copy_schema, server.beside = copy_schema, ThreadPoolExecutor(1)
+        with self.assertRaisesRegex(streams.Stuck, "not made"):  # (a copy needs none of the server's threads but its own)
+            server.beside.submit(server.copies.make, "elsewhere", 2, lambda: True, lambda _: None).result(60)
+        self.assertEqual((seen, POST.query("SELECT count(*) FROM sm.copied")), ([{"it": True}], [(0,)]))
+        streams.drop_streams(DATABASE, "elsewhere")
+        POST.query("DELETE FROM sm.copying; INSERT INTO sm.copied VALUES ('x', 3), ('y', 3)")
+        with self.assertRaisesRegex(streams.Stuck, "waits for other copies"):
+            server.copies.make("elsewhere", 2, lambda: True, lambda _: None, waits=False)
+        POST.query("DELETE FROM sm.copied")
 
 
 class SchemaTest(Case):

@@ -69,28 +69,36 @@ class Writer:
 
 
 class PlainWriter:
-    """A client of one shard that knows nothing of shards: it connects to where the map lists it."""
+    """A client of one shard that knows nothing of shards: it connects to where the map lists it, and looks at the map again when it is refused."""
 
-    def __init__(self, folder, setup, shard, name, longest):
-        self.folder, self.setup, self.shard, self.name, self.longest = folder, setup, shard, name, longest
+    def __init__(self, folder, setup, shard, name, rest, longest):
+        self.folder, self.setup, self.shard, self.name, self.rest, self.longest = folder, setup, shard, name, rest, longest
 
     def run(self, log):
-        number, c = 0, None
+        number, c, place = 0, None, None
         while not (self.folder / "stop").exists():
             number += 1
             try:
                 if c is None:
-                    entry = json.loads(Path(self.setup["maps"][0]).read_text())["entries"][self.shard]
-                    c = psycopg.connect(self.setup["servers"][entry["to"]], connect_timeout=5)
+                    place = self.listed()
+                    c = psycopg.connect(self.setup["servers"][place], connect_timeout=5)
+                begun = time.time()
                 with c.transaction():
                     c.execute(f"INSERT INTO {self.shard}.notes VALUES (%s)", (f"{self.name}-{number}",))
                     time.sleep(random.random() * self.longest)
-                log([self.shard, f"{self.name}-{number}", time.time()])
+                log([self.shard, f"{self.name}-{number}", begun, time.time()])
             except (psycopg.Error, OSError, LookupError, ValueError):
-                if c is not None:
+                if c is not None and (c.closed or self.listed() != place):
                     c.close()
-                c = None
-            time.sleep(0.03)
+                    c = None
+            time.sleep(max(0.03, random.random() * 2 * self.rest))
+
+    def listed(self):
+        """Where the map lists the shard; none while it can't be read."""
+        try:
+            return json.loads(Path(self.setup["maps"][0]).read_text())["entries"][self.shard]["to"]
+        except (OSError, LookupError, ValueError):
+            return None
 
 
 class Log:
@@ -109,7 +117,7 @@ def main(folder, number, threads, rest, longest):
     routers = [RoughRouter(setup["servers"], setup["maps"][it % len(setup["maps"])], patience=60.0) for it in range(2)]
     told, plain = Log(folder / f"acknowledged-{number}.jsonl"), Log(folder / f"plain-{number}.jsonl")
     work = [(Writer(folder, routers[it % 2], setup, shard, f"{shard}-{number}-{it}", rest), told) for shard in setup["shards"] for it in range(threads)]
-    work += [(PlainWriter(folder, setup, shard, f"{shard}-{number}", longest), plain) for shard in setup["shards"] if longest]
+    work += [(PlainWriter(folder, setup, shard, f"{shard}-{number}", rest, longest), plain) for shard in setup["shards"] if longest]
     running = [threading.Thread(target=it.run, args=(log,)) for it, log in work]
     for step in (threading.Thread.start, threading.Thread.join):
         for it in running:

@@ -10,6 +10,7 @@ import subprocess
 import sys
 import tempfile
 import time
+from concurrent.futures import ThreadPoolExecutor
 from pathlib import Path
 
 HERE = Path(__file__).resolve().parent
@@ -88,14 +89,19 @@ def seal_early():
     """A new owner takes over before the last writes have come to it."""
     from smplan_pg.following import Following
     from smplan_pg.records import Cut, Records
-    sound = Following.prepare
+    sound, mark_of, cuts = Following.prepare, Records.mark, {}
 
     def prepare(self, shard, told):
         row = self.server.peer(told.slot.party).row(f"SELECT handover, position, party, sequences FROM {shard}.sm_cut")
-        return sound(self, shard, dataclasses.replace(told, cut=Cut(**row)) if row else told)
-    Following.prepare = prepare
-    mark_of = Records.mark
-    Records.mark = lambda self, shard: dataclasses.replace(mark_of(self, shard), position=max(mark_of(self, shard).position, getattr(self.cut(shard), "position", 0)))
+        if row is not None:
+            cuts[shard] = Cut(**row)
+            told = dataclasses.replace(told, cut=cuts[shard])
+        return sound(self, shard, told)
+
+    def mark(self, shard):
+        told = mark_of(self, shard)
+        return dataclasses.replace(told, position=max(told.position, cuts[shard].position)) if shard in cuts else told
+    Following.prepare, Records.mark = prepare, mark
 
 
 def slot_first():
@@ -113,17 +119,18 @@ def slot_first():
     def once_and_then(self, shard, order, line):
         once(self, shard, order, line)
         if shard in deferred:
-            time.sleep(0.05)
+            time.sleep(0.5)
             with self.server.database.transaction() as tx:
                 store(self, tx, shard, *deferred.pop(shard))
     Orders.store, Orders.once = store_later, once_and_then
 
 
-# The runs, by what comes in them, and the harm of a sound one. Harm that waits for a moment brings the situation in each run, not by chance.
+# The runs, by what comes in them, and the harm of a sound one. Harm that waits for a moment brings the situation in each run, not by chance. A run with a bug
+# has to come to rest in time, as the sound one with its seed did.
 RUNS = {
     "moves": (["--seconds", "3", "--drains", "1", "--at-one", "--roles", "0", "--plain", "0.05", "--late", "5"], ["ddl", "late stream", "late copy", "late commit"]),
     "loss": (["--servers", "4", "--wide", "--at-one", "--lose", "1", "--lose-at", "0", "--no-disk", "--frozen", "4", "--seconds", "1"], []),
-    "cuts": (["--seconds", "3", "--drains", "1", "--at-one", "--roles", "0"], ["cut"]),
+    "cuts": (["--seconds", "3", "--drains", "1", "--at-one", "--roles", "0", "--most", "3"], ["cut"]),
     "back": (["--seconds", "3", "--drains", "1", "--at-one", "--back", "1", "--dead", "30", "--option=--stalled=300"], []),
 }
 
@@ -141,21 +148,31 @@ def plant(name):
 
 
 def run(kind, bug, seed, told):
-    """Whether a run is clean; none if it has no verdict; and what it said."""
+    """Whether a run is clean; none if it has no verdict, as on a machine that is too slow; and what it said."""
     words = ["/usr/bin/python3", str(HERE / "run.py"), "", "--quiet", "--seed", str(seed), "--patience", str(told.patience), "--servers", "3", "--shards", "3",
-             "--rows", str(told.rows), "--writers", "1", "--rest", "0.06", "--every", "0.5", "--bug", bug, *RUNS[kind][0], "--harm", *(BUGS[bug][2:] if bug else RUNS[kind][1])]
-    with tempfile.TemporaryDirectory(prefix="pg-wrong-", dir="/dev/shm") as folder:
+             "--rows", str(told.rows), "--writers", "1", "--rest", "0.06", "--every", "0.5", "--bug", bug, *(["--strict"] if bug else []), *RUNS[kind][0],
+             "--harm", *(BUGS[bug][2:] if bug else RUNS[kind][1])]
+    with tempfile.TemporaryDirectory(prefix="pg-wrong-", dir="/dev/shm", ignore_cleanup_errors=True) as folder:
         os.chmod(folder, 0o711)
-        try:
-            done = subprocess.run([*words[:2], folder + "/run", *words[3:]], capture_output=True, text=True, check=False, timeout=600)
-        except subprocess.TimeoutExpired:
-            return None, "no end"
-    lines = done.stdout.strip().splitlines()
+        with subprocess.Popen([*words[:2], folder + "/run", *words[3:]], stdout=subprocess.PIPE, stderr=subprocess.STDOUT, text=True) as process:
+            try:
+                said = process.communicate(timeout=900)[0]
+            except subprocess.TimeoutExpired:
+                process.terminate()  # (it ends what it has started)
+                process.wait()
+                return None, "no end"
+    lines = said.strip().splitlines()
     at = next((n for n, it in enumerate(lines) if it.startswith("verdict")), None)
-    if at is None or "secondaries are copied" in done.stdout.split("verdict")[1]:
-        return None, (done.stdout + done.stderr).strip()[-300:]
+    if at is None or "secondaries are copied" in said.split("verdict")[1]:
+        return None, said.strip()[-300:]
     harm = next(it for it in lines if it.startswith("harm:"))
-    return done.returncode == 0, (" ".join(it.strip() for it in lines[at + 1:at + 3]) or harm)[:200]
+    return {0: True, 1: False}.get(process.returncode), (" ".join(it.strip() for it in lines[at + 1:at + 3]) or harm)[:200]
+
+
+def run_again(*its):
+    """A run; another one if it has no verdict."""
+    told = run(*its)
+    return run(*its) if told[0] is None else told
 
 
 class Trials:
@@ -164,19 +181,20 @@ class Trials:
     def __init__(self, told):
         self.told, self.sound, self.found = told, {}, {}
 
-    def try_seed(self, seed):
-        """All bugs with one seed. The sound run of a kind is made once."""
-        for kind in dict.fromkeys(BUGS[it][1] for it in self.told.only):
-            if not self.told.without_sound:
-                self.note(self.sound, kind, seed, "", run(kind, "", seed, self.told))
-            for bug in (it for it in self.told.only if BUGS[it][1] == kind):
-                self.note(self.found, bug, seed, bug, run(kind, bug, seed, self.told))
+    def runs(self):
+        """All runs: their kind, bug and seed. The sound run of a kind and seed is made once."""
+        for seed in range(self.told.first, self.told.first + self.told.seeds):
+            for kind in dict.fromkeys(BUGS[it][1] for it in self.told.only):
+                if not self.told.without_sound:
+                    yield kind, "", seed
+                yield from ((kind, bug, seed) for bug in self.told.only if BUGS[bug][1] == kind)
 
-    def note(self, notes, name, seed, bug, told):
-        """Stores and tells one run."""
-        notes.setdefault(name, []).append(told[0])
+    def make(self, it):
+        """Makes one run, and tells of it."""
+        (kind, bug, seed), told = it, run_again(*it, self.told)
+        (self.found.setdefault(bug, []) if bug else self.sound.setdefault(kind, [])).append(told[0])
         words = {True: "clean", False: "violations", None: "no verdict"}[told[0]]
-        print(f"{'ok  ' if told[0] is (not bug) else 'BAD '} {bug or 'sound'} ({BUGS[name][1] if bug else name}, seed {seed}, load {os.getloadavg()[0]:.0f}): {words} {told[1]}", flush=True)
+        print(f"{'ok  ' if told[0] is (not bug) else 'BAD '} {bug or 'sound'} ({kind}, seed {seed}, load {os.getloadavg()[0]:.0f}): {words} {told[1]}\n", end="", flush=True)
 
     def is_good(self):
         """Whether nine of ten runs found each bug, and all sound runs were clean. Tells the sums."""
@@ -195,14 +213,15 @@ def main():
     parser = argparse.ArgumentParser()
     parser.add_argument("--seeds", type=int, default=3)
     parser.add_argument("--first", type=int, default=1, help="the first seed")
-    parser.add_argument("--patience", type=float, default=120)
+    parser.add_argument("--jobs", type=int, default=1, help="so many runs at once")
+    parser.add_argument("--patience", type=float, default=60)
     parser.add_argument("--rows", type=int, default=1000)
     parser.add_argument("--without-sound", action="store_true", help="do not make the sound runs")
     parser.add_argument("--only", nargs="*", default=list(BUGS))
     told = parser.parse_args()
     trials = Trials(told)
-    for seed in range(told.first, told.first + told.seeds):
-        trials.try_seed(seed)
+    with ThreadPoolExecutor(told.jobs) as pool:
+        list(pool.map(trials.make, trials.runs()))
     sys.exit(0 if trials.is_good() else 1)
 
 

@@ -269,6 +269,83 @@ call_publish(numbers *it)
 	give(it, sm_publish(&base, shown, &publication));
 }
 
+static sm_copy
+take_copy(numbers *it)
+{
+	sm_copy		copy = {0};
+
+	copy.view = take(it);
+	copy.position = take(it);
+	return copy;
+}
+
+/* How many copies or views follow: each has two numbers. */
+static uint64_t
+take_count(numbers *it)
+{
+	uint64_t	count = take(it);
+
+	if (count > (uint64_t) it->left / 2)
+		ereport(ERROR, (errcode(ERRCODE_INVALID_PARAMETER_VALUE), errmsg("sm.agent: copies are missing")));
+	return count;
+}
+
+static sm_copy *
+take_copies(numbers *it, uint64_t count)
+{
+	sm_copy    *copies = palloc0(sizeof(sm_copy) * (count + 1));
+
+	for (uint64_t i = 0; i < count; i++)
+		copies[i] = take_copy(it);
+	return copies;
+}
+
+static void
+call_compare(numbers *it)
+{
+	sm_copy		one = take_copy(it);
+	sm_copy		other = take_copy(it);
+
+	give(it, sm_compare(&one, &other));
+}
+
+static void
+call_resumes(numbers *it)
+{
+	sm_copy		copy = take_copy(it);
+	uint64_t	count = take_count(it);
+	sm_view    *views = palloc0(sizeof(sm_view) * (count + 1));
+
+	for (uint64_t i = 0; i < count; i++)
+	{
+		views[i].view = take(it);
+		views[i].position = take(it);
+	}
+	give(it, sm_resumes(&copy, views, count, take(it)));
+}
+
+static void
+call_copied(numbers *it)
+{
+	uint64_t	wanted = take(it);
+	sm_copy		own = take_copy(it);
+	uint64_t	count = take_count(it);
+	sm_copy    *told = take_copies(it, count);
+
+	give(it, sm_copied(wanted, &own, told, count, take(it)));
+}
+
+static void
+call_acknowledged(numbers *it)
+{
+	uint64_t	wanted = take(it);
+	sm_copy		own = take_copy(it);
+	uint64_t	count = take_count(it);
+	sm_copy    *told = take_copies(it, count);
+
+	give(it, sm_acknowledged(wanted, &own, told, count));
+}
+
 static const struct
 {
 	const char *name;
@@ -276,7 +353,7 @@ static const struct
 }			calls[] = {
 	{"judge", call_judge}, {"commit", call_commit}, {"route", call_route}, {"begin", call_begin}, {"abandon", call_abandon}, {"seal", call_seal},
 	{"may_delete", call_may_delete}, {"has_reached_cut", call_has_reached_cut}, {"fence", call_fence}, {"heed", call_heed}, {"take", call_take},
-	{"publish", call_publish},
+	{"publish", call_publish}, {"compare", call_compare}, {"resumes", call_resumes}, {"copied", call_copied}, {"acknowledged", call_acknowledged},
 };
 
 Datum

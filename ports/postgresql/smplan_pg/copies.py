@@ -2,9 +2,11 @@
 from __future__ import annotations
 
 import subprocess
+import threading
 import time
-from concurrent.futures import wait
-from typing import TYPE_CHECKING, Callable
+from concurrent.futures import Future, wait
+from contextlib import contextmanager, suppress
+from typing import TYPE_CHECKING, Any, Callable, Iterator
 
 import psycopg
 from psycopg.conninfo import make_conninfo
@@ -24,6 +26,10 @@ Still = Callable[[], bool]
 REPLACED = "a whole copy has taken its place"
 
 
+# How often a copy tells its source that it goes on, in seconds.
+TELLING = 1.0
+
+
 class GivenUp(Exception):
     """Whoever wanted a copy wants it no more."""
 
@@ -34,18 +40,34 @@ def check(still: Still) -> None:
         raise GivenUp("the copy is not wanted any more")
 
 
+def begun(work: Callable[..., Any], *its: Any) -> "Future[Any]":
+    """What becomes of work in a thread of its own. (The server's threads may all wait for it.)"""
+    told: "Future[Any]" = Future()
+
+    def run() -> None:
+        try:
+            told.set_result(work(*its))
+        except Exception as why:  # pylint: disable=broad-exception-caught  (who waits gets it)
+            told.set_exception(why)
+
+    threading.Thread(target=run, daemon=True).start()
+    return told
+
+
 class Copies:
     """The copies that this server makes."""
 
     def __init__(self, server: "Server") -> None:
         self.server = server
 
-    def make(self, shard: str, number: int, still: Still, said_of: Callable[[str], None]) -> None:
-        """Copies a shard from another server, and follows it. Whoever calls has the shard's hands."""
+    def make(self, shard: str, number: int, still: Still, said_of: Callable[[str], None], waits: bool = True) -> None:
+        """Copies a shard from another server, and follows it. Whoever calls has the shard's hands. While its source makes enough copies, this waits, or is
+        stuck: threads that look at shards may not all wait, as other shards are in a handover."""
         there = self.server.peer(number)
-        self.admit(there, shard, still, said_of)
-        begun = time.monotonic()
-        try:
+        self.admit(there, shard, still, said_of, waits)
+        since = time.monotonic()
+        self.server.say("copies", shard, "from", self.server.names[number])
+        with self.telling(there, shard):
             self.clear(shard, number)
             with self.server.database.connection() as c:
                 mine, publication = streams.name_of(c, shard, self.server.number), streams.name_of(c, shard)
@@ -57,26 +79,43 @@ class Copies:
                 c.execute(said("CREATE PUBLICATION {} FOR TABLES IN SCHEMA {} WITH (publish = '')", publication, shard))
                 streams.follow(c, mine, publication, reach or "")
             self.wait(number, shard, mine, still, said_of)
-        finally:
-            try:
-                there.do("DELETE FROM sm.copied WHERE shard = %s AND server = %s", shard, self.server.number)
-            except psycopg.Error:
-                pass  # (it is forgotten after a while)
-        self.server.say("copied", shard, "from", self.server.names[number], f"in {time.monotonic() - begun:.2f} s")
+        self.server.say("copied", shard, "from", self.server.names[number], f"in {time.monotonic() - since:.2f} s")
 
-    def admit(self, there: Database, shard: str, still: Still, said_of: Callable[[str], None]) -> None:
+    def admit(self, there: Database, shard: str, still: Still, said_of: Callable[[str], None], waits: bool) -> None:
         """Waits until its source makes few enough copies."""
         while not value(there.row("SELECT sm.copy(%s, %s, %s)", shard, self.server.number, self.server.limits.copies)):
+            if not waits:
+                raise Stuck("waits for other copies")
             said_of("waits for other copies")
             check(still)
             time.sleep(0.2)
+
+    @contextmanager
+    def telling(self, there: Database, shard: str) -> Iterator[None]:
+        """Tells a source all the time that a copy from it goes on, and at last that it has ended. (Nobody reads its stream while the schema is made, and the
+        source drops it if it hears nothing.)"""
+        ended = threading.Event()
+
+        def tell() -> None:
+            while not ended.wait(TELLING):
+                with suppress(psycopg.Error):
+                    there.row("SELECT sm.copy(%s, %s, 1000)", shard, self.server.number)
+
+        teller = begun(tell)
+        try:
+            yield
+        finally:
+            ended.set()
+            wait([teller])
+            with suppress(psycopg.Error):  # (it is forgotten after a while)
+                there.do("DELETE FROM sm.copied WHERE shard = %s AND server = %s", shard, self.server.number)
 
     def begin_stream(self, there: Database, mine: str, still: Still, said_of: Callable[[str], None]) -> None:
         """Makes a stream at its source, which waits for the transactions that run there, however long they take. (No transaction is open here meanwhile, as
         by CREATE SUBSCRIPTION: two servers that copy from each other would wait for ever.)"""
         with there.connect() as c:
             c.execute("SET statement_timeout = 0")
-            made = self.server.beside.submit(c.execute, "SELECT pg_create_logical_replication_slot(%s, 'pgoutput')", (mine,))
+            made = begun(c.execute, "SELECT pg_create_logical_replication_slot(%s, 'pgoutput')", (mine,))
             try:
                 while not wait([made], 0.2).done:
                     said_of("waits for transactions that are open at the source")
@@ -137,7 +176,6 @@ class Copies:
             if time.monotonic() > again:
                 again = time.monotonic() + 1.0
                 self.server.sources.check(shard, number)
-                self.server.peer(number).row("SELECT sm.copy(%s, %s, 1000)", shard, self.server.number)
             time.sleep(0.02)
 
     def end(self, tx: Connection, shard: str) -> None:

@@ -294,8 +294,7 @@ class Following:
             live.said = words
 
         self.unserved.pop(shard, None)
-        self.server.say("copies", shard, "anew from", self.server.names[source])
-        self.server.copies.make(shard, source, still, tell)
+        self.server.copies.make(shard, source, still, tell, waits=False)
         with self.server.database.transaction() as tx:
             it = Records(tx)
             if it.base("FOR SHARE") != told.base or it.slot(shard) != told.slot:

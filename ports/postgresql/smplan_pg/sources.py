@@ -48,9 +48,11 @@ class Sources:
 
     def check(self, shard: str, number: int) -> None:
         """Stops what copies from a server that sends nothing any more."""
-        it = self.offer(number, shard)
+        it, name = self.offer(number, shard), self.server.names.get(number)
         if not serves(it) and not (it["cell"] == Cell.FORWARDING and it["party"] == self.server.number):
-            raise Stuck(f"{self.server.names.get(number)} does not serve the shard any more")
+            raise Stuck(f"{name} does not serve the shard any more")
+        if not it["has_stream"]:
+            raise Stuck(f"{name} has dropped the stream: the copy begins anew")
 
     def mark_at(self, number: int, shard: str) -> Mark:
         """What a server has of a shard; of what is not whole nothing."""
