@@ -182,7 +182,7 @@ class Member:
                 return
 
     async def confirm(self) -> None:
-        """Confirms a proposal as it stands, if this is left to the controllers. One that loses shards is an operator's to confirm."""
+        """Confirms a proposal as it stands, if this is left to the controllers. One by which shards may be lost is an operator's to confirm."""
         assert self.controller is not None
         proposal = self.controller.proposal
         if not self.settings.confirm or proposal is None:
@@ -191,7 +191,7 @@ class Member:
             await self.controller.do({"do": "confirm", "base": proposal["base"]})
         elif self.past.left_base != proposal["base"]:
             self.past.left_base = proposal["base"]
-            self.settings.log(f"leaves the proposal of base {proposal['base']} to an operator: shards that nobody has whole: {', '.join(proposal['lost'])}")
+            self.settings.log(f"leaves the proposal of base {proposal['base']} to an operator: shards that may be lost: {', '.join(proposal['lost'])}")
 
     async def store(self, lines: list[str]) -> list[str]:
         """Stores lines in the journal."""

@@ -61,7 +61,7 @@ def reopening_rows(state: Line) -> list[Line]:
     if proposal is not None:
         floors = [f"{it['shard']} ({it['live']} of {it['floor']})" for it in proposal["floors"]]
         primaries = [f"{it['shard']}: {next((cell['server'] for cell in it['cells'] if cell['state'] == 'primary'), 'none')}" for it in proposal["cells"]]
-        rows += [("Shards that no server left has in full", proposal["lost"]), ("Shards with too few live replicas", floors), ("Primaries from then on", primaries)]
+        rows += [("Shards that may be lost", proposal["lost"]), ("Shards with too few live replicas", floors), ("Primaries from then on", primaries)]
     return [{"what": what, "names": ", ".join(names) or "none"} for what, names in rows]
 
 

@@ -40,12 +40,21 @@ def die_with_parent() -> None:
     ctypes.CDLL(None).prctl(1, signal.SIGKILL)
 
 
+def cut_torn(folder: Path) -> None:
+    """Cuts a folder's log behind its last whole transaction. A redis-server (7.0) that finds a torn command cuts off that alone, and leaves the
+    MULTI before it open: the commands behind it are carried out after all, with the next transaction, at the next start."""
+    manifest = folder / "appendonlydir" / "appendonly.aof.manifest"
+    if manifest.exists():
+        subprocess.run(["redis-check-aof", "--fix", manifest.name], cwd=manifest.parent, input=b"y\n", stdout=subprocess.DEVNULL)
+
+
 def start_redis(folder: Path, syncs: str = "always") -> "subprocess.Popen[bytes]":
     """Starts the redis-server of a folder, once nobody else has it. It ends with this process, however this process
     ends."""
     lock = os.open(folder / "lock", os.O_RDWR | os.O_CREAT)
     fcntl.flock(lock, fcntl.LOCK_EX)
     (folder / "redis.sock").unlink(missing_ok=True)
+    cut_torn(folder)
     command = ["redis-server", "--port", "0", "--unixsocket", "redis.sock", "--appendonly", "yes", "--appendfsync", syncs,
                "--save", "", "--auto-aof-rewrite-percentage", "0", "--logfile", "redis.log"]
     environment = {**os.environ, "LD_PRELOAD": os.environ["SM_SYNCS"]} if os.environ.get("SM_SYNCS") else None

@@ -1,7 +1,7 @@
 """Plays of real servers under load. Without a bug both checkers find nothing; with the bug that a play is named after at
 least one finds something.
 
-`python3 tests/cluster/plays.py [--sound] [--runs N] [NAME..]`; a name is that of a bug (cluster/servers/bugs.py).
+By hand: `PYTHONPATH=.:python python3 tests/cluster/plays.py [--sound] [--runs N] [NAME..]`; a name is that of a bug (cluster/servers/bugs.py).
 """
 from __future__ import annotations
 
@@ -276,6 +276,15 @@ async def server_faults(scripted: Scripted, floors: dict[str, int]) -> list[str]
     return checker.faults
 
 
+def tried(name: str, bug: str | None) -> tuple[list[str], list[str], dict]:
+    """Plays it; with a bug once more if it did no harm, as often as TRIES says."""
+    servers, clients, figures = asyncio.run(played(name, bug))
+    for _ in range(TRIES - 1 if bug else 0):
+        if not servers and not clients:
+            servers, clients, figures = asyncio.run(played(name, bug))
+    return servers, clients, figures
+
+
 def main() -> int:
     """The command line."""
     parser = argparse.ArgumentParser(description="Plays of real servers, with and without planted bugs.")
@@ -287,10 +296,7 @@ def main() -> int:
     for name in told.names or PLAYS:
         for bug in [None] * told.runs + ([] if told.sound else [name] * told.runs):
             began = time.monotonic()
-            servers, clients, figures = asyncio.run(played(name, bug))
-            for _ in range(TRIES - 1 if bug else 0):
-                if not servers and not clients:
-                    servers, clients, figures = asyncio.run(played(name, bug))
+            servers, clients, figures = tried(name, bug)
             is_wrong = not (servers or clients) if bug else bool(servers or clients or figures["end"] or figures["failures"])
             wrong += is_wrong
             how, end = "with the bug" if bug else "sound", "   WRONG" if is_wrong else ""

@@ -12,12 +12,14 @@ import socket
 import subprocess
 import sys
 import tempfile
+import unittest
+from collections.abc import Awaitable, Callable
 from pathlib import Path
 
+from cluster.clients.load import Generator
+from cluster.wire import Address, Channel, Cluster, Failed, listen
+
 ROOT = Path(__file__).resolve().parents[2]
-sys.path[:0] = [str(ROOT), str(ROOT / "python")]
-from cluster.clients.load import Generator  # noqa: E402  (the paths come first)
-from cluster.wire import Address, Channel, Cluster, Failed, listen  # noqa: E402
 
 JOURNAL = "00000000000000a7"
 LOADS, ROOM = 1, 1000
@@ -184,3 +186,28 @@ class Scripted:
             return "answered"
         except Failed as failed:
             return failed.kind
+
+
+class ServersTest(unittest.TestCase):
+    """A test of real servers, which need Redis."""
+
+    @classmethod
+    def setUpClass(cls) -> None:
+        if not shutil.which("redis-server"):
+            raise unittest.SkipTest("there is no redis-server")
+
+    def finds(self, play: Callable[[], Awaitable[dict[str, bool]]]) -> None:
+        """Wants all that a play finds to be so. A machine with other work may be late once: then it is played again."""
+        found = self.found(play)
+        if not all(found.values()):
+            found = self.found(play)
+        for what, is_so in found.items():
+            with self.subTest(what):
+                self.assertTrue(is_so)
+
+    def found(self, play: Callable[[], Awaitable[dict[str, bool]]]) -> dict[str, bool]:
+        """What a play finds; nothing is so if it does not come to its end."""
+        try:
+            return asyncio.run(asyncio.wait_for(play(), 300))
+        except TimeoutError:
+            return {"it comes to its end": False}

@@ -134,7 +134,3 @@ class GivenUpTest(unittest.TestCase):
     def test_without_leases_nobody_waits(self):
         self.given_up.lease = 0.0
         self.assertEqual(self.given_up.may_still_serve(self.state, 0.0), (set(), 0.0))
-
-
-if __name__ == "__main__":
-    unittest.main()

@@ -210,7 +210,3 @@ class KeysTest(unittest.TestCase):
         keys = [key_of(it) for it in (1, 9, 10, 99, 100, 999_999_999)]
         self.assertEqual(keys, sorted(keys))
         self.assertTrue(all(it < end_of("smplan/journal/") for it in keys))
-
-
-if __name__ == "__main__":
-    unittest.main()

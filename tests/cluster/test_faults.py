@@ -565,7 +565,3 @@ class SituationsTest(unittest.TestCase):
 
     def test_situations_are_json(self):
         self.assertEqual(json.loads(json.dumps(situations_of([], Counter(), Counter()))), {})
-
-
-if __name__ == "__main__":
-    unittest.main()

@@ -75,7 +75,3 @@ class ServiceTest(unittest.TestCase):
 
     def test_the_end_is_not_looked_at(self):
         self.assertEqual(without_service([request(0, 9000, final=True, reply=1)]), {})
-
-
-if __name__ == "__main__":
-    unittest.main()

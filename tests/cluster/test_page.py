@@ -55,7 +55,3 @@ class PageTest(unittest.IsolatedAsyncioTestCase):
         self.assertEqual([it["names"] for it in rows], ["b", "t", "s (1 of 2)", "s: a, t: none"])
         self.assertEqual([it["names"] for it in reopening_rows({"reopening": {"base": 8, "is": "fence", "waiting": [None, "a"]}})], ["the map's owner, a"])
         self.assertEqual(reopening_rows({}), [])
-
-
-if __name__ == "__main__":
-    unittest.main()

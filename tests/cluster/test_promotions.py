@@ -1,20 +1,13 @@
-"""The operator's promotions of shards that a reopening left without a primary, over the reference.
-
-`python3 tests/cluster/test_promotions.py`
-"""
+"""The operator's promotions of shards that a reopening left without a primary, over the reference."""
 import json
-import sys
 import unittest
-from pathlib import Path
 from types import SimpleNamespace
 
-ROOT = Path(__file__).resolve().parents[2]
-sys.path[:0] = [str(ROOT), str(ROOT / "python"), str(ROOT / "tools")]
-from cluster.faults.absences import AbsenceStory  # noqa: E402  (the paths come first)
-from cluster.faults.reopenings import ReopeningStory, lacking, without  # noqa: E402  (the paths come first)
-from cluster.launch.plans import move_stream, plan_of, swap_stream  # noqa: E402
-from cluster.launch.shape import Shape  # noqa: E402
-from smpland_model.session import Session  # noqa: E402
+from cluster.faults.absences import AbsenceStory
+from cluster.faults.reopenings import ReopeningStory, lacking, without
+from cluster.launch.plans import move_stream, plan_of, swap_stream
+from cluster.launch.shape import Shape
+from smpland_model.session import Session
 
 
 class SessionOperator:
@@ -124,7 +117,3 @@ class RefillTest(unittest.IsolatedAsyncioTestCase):
         state = {"shards": [{"shard": name, "cells": [{"state": it} for it in row]} for name, row in rows.items()]}
         document = {"shards": [{"name": it, "want": 2} for it in rows]}
         self.assertEqual([it["shard"] for it in lacking(state, document)], ["s", "u"])
-
-
-if __name__ == "__main__":
-    unittest.main()

@@ -95,7 +95,3 @@ class BytesTest(unittest.IsolatedAsyncioTestCase):
         redis, _ = await self.open()
         with self.assertRaises(ConnectionError):
             await asyncio.wait_for(redis.call("COUNT", 1), 5)
-
-
-if __name__ == "__main__":
-    unittest.main()

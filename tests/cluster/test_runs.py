@@ -23,7 +23,3 @@ class DirectoryTest(unittest.TestCase):
         made = new_directory("storm-1-", None)
         self.assertTrue(made.name.startswith("storm-1-"))
         made.rmdir()
-
-
-if __name__ == "__main__":
-    unittest.main()

@@ -83,7 +83,3 @@ class SqliteTest(unittest.IsolatedAsyncioTestCase):
         rest = (await again.call("HSCAN", "h", cursor, "COUNT", 30))[1]
         self.assertEqual(len(found + rest), 100)
         again.close()
-
-
-if __name__ == "__main__":
-    unittest.main()

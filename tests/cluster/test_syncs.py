@@ -40,5 +40,25 @@ class CutTest(unittest.IsolatedAsyncioTestCase):
         self.assertLess(await self.count_left("no"), 10)
 
 
-if __name__ == "__main__":
-    unittest.main()
+@unittest.skipUnless(shutil.which("redis-server"), "there is no redis-server")
+class TornTest(unittest.IsolatedAsyncioTestCase):
+    """A redis-server is killed while it writes a transaction to its log."""
+
+    async def test_a_torn_transaction_is_never_carried_out(self):
+        folder: Path = new_directory("cluster-torn-", None)
+        self.addCleanup(shutil.rmtree, folder)
+        log = folder / "appendonlydir" / "appendonly.aof.1.incr.aof"
+        for turn in range(3):
+            child = start_redis(folder)
+            redis = await open_redis(folder)
+            if turn < 2:
+                for command in (("MULTI",), ("RPUSH", "values", "one"), ("SET", "count", 1), ("EXEC",)):
+                    await redis.call(*command)
+            found = await redis.call("LRANGE", "values", 0, -1)
+            redis.close()
+            child.kill()
+            child.wait()
+            if not turn:
+                text = log.read_bytes()
+                log.write_bytes(text[: text.index(b"count") + 2])
+        self.assertEqual(found, [b"one"])

@@ -112,7 +112,3 @@ class WrittenTest(unittest.TestCase):
         journal = Journal(['{"do":"restarted","permit":3}', '{"do":"confirm"}'], told=[{"id": "x", "up": "a"}, {"settle": []}])
         lines = [json.loads(it) for it in written_lines(journal, ["k1", "k2"], {"k1": 5})]
         self.assertEqual([(it["t"] == 5, it["reply"]) for it in lines], [(True, {"up": "a"}), (False, {})])
-
-
-if __name__ == "__main__":
-    unittest.main()

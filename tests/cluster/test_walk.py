@@ -78,7 +78,3 @@ class ChapterTest(unittest.TestCase):
         chapter = self.chapter()
         chapter.failed.append("drain a ended with 1")
         self.assertEqual(["x: drain a ended with 1"], chapter.faults([]))
-
-
-if __name__ == "__main__":
-    unittest.main()

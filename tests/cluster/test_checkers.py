@@ -3,15 +3,12 @@ wrong one is found out."""
 from __future__ import annotations
 
 import json
-import sys
 import tempfile
-from pathlib import Path
+import unittest
 
-ROOT = Path(__file__).resolve().parents[2]
-sys.path[:0] = [str(ROOT), str(ROOT / "python")]
-from cluster.checkers.clients import check  # noqa: E402  (the paths come first)
-from cluster.checkers.servers import STEP, Checker  # noqa: E402
-from cluster.checkers.truth import Past, Truth  # noqa: E402
+from cluster.checkers.clients import check
+from cluster.checkers.servers import STEP, Checker
+from cluster.checkers.truth import Past, Truth
 
 # -- what clients saw: a line is (client, start, end, value or list, reply)
 
@@ -340,45 +337,35 @@ WRONG_SERVERS = {
 }
 
 
-def main() -> int:
-    """Tries all."""
-    wrong = 0
-    for name, told in RIGHT_CLIENTS.items():
-        wrong += report(name, found_by_clients(client_lines(*told)), None)
-    for text, told in WRONG_CLIENTS.items():
-        lines = client_lines(*told)
-        if text == "nobody could read":
-            del lines[-1]["final"]
-        wrong += report(text, found_by_clients(lines), text)
-    for name, told in RIGHT_TEXTS.items():
-        wrong += report(name, found_by_clients(text_lines(*told)), None)
-    for text, told in WRONG_TEXTS.items():
-        wrong += report(text, found_by_clients(text_lines(*told)), text)
-    for name, told in RIGHT_REGISTERS.items():
-        wrong += report(name, found_by_clients(register_lines(*told)), None)
-    for text, told in WRONG_REGISTERS.items():
-        wrong += report(text, found_by_clients(register_lines(*told)), text)
-    for name, tell in RIGHT_SERVERS.items():
-        wrong += report(name, tell(History()), None)
-    for text, tell in WRONG_SERVERS.items():
-        wrong += report(text, tell(History()), text)
-    for name, tell in RIGHT_TRUTHS.items():
-        wrong += report(name, tell(History()), None)
-    for text, tell in WRONG_TRUTHS.items():
-        wrong += report(text, tell(History()), text)
-    rights, wrongs = (RIGHT_CLIENTS, RIGHT_TEXTS, RIGHT_REGISTERS, RIGHT_SERVERS, RIGHT_TRUTHS), (
-        WRONG_CLIENTS, WRONG_TEXTS, WRONG_REGISTERS, WRONG_SERVERS, WRONG_TRUTHS)
-    print(f"{sum(map(len, rights))} right histories, {sum(map(len, wrongs))} wrong ones, {wrong} taken for the other")
-    return 1 if wrong else 0
+class CheckersTest(unittest.TestCase):
+    """Right histories, and wrong ones with a part of what is found in each."""
 
+    def compare(self, find, right, wrong):
+        """Wants nothing to be found in the right ones."""
+        for name, told in right.items():
+            with self.subTest(name):
+                self.assertEqual(find(name, told), [])
+        for text, told in wrong.items():
+            with self.subTest(text):
+                found = find(text, told)
+                self.assertTrue(any(text in it for it in found), found)
 
-def report(name: str, found: list[str], text: str | None) -> bool:
-    """Whether a checker took a history for what it is not."""
-    is_wrong = bool(found) if text is None else not any(text in it for it in found)
-    if is_wrong:
-        print(f"{name}: {found}")
-    return is_wrong
+    def test_what_clients_saw(self):
+        def find(name, told):
+            lines = client_lines(*told)
+            if name == "nobody could read":
+                del lines[-1]["final"]
+            return found_by_clients(lines)
+        self.compare(find, RIGHT_CLIENTS, WRONG_CLIENTS)
 
+    def test_texts(self):
+        self.compare(lambda _, told: found_by_clients(text_lines(*told)), RIGHT_TEXTS, WRONG_TEXTS)
 
-if __name__ == "__main__":
-    sys.exit(main())
+    def test_registers(self):
+        self.compare(lambda _, told: found_by_clients(register_lines(*told)), RIGHT_REGISTERS, WRONG_REGISTERS)
+
+    def test_what_servers_did(self):
+        self.compare(lambda _, tell: tell(History()), RIGHT_SERVERS, WRONG_SERVERS)
+
+    def test_what_is_true_of_the_past(self):
+        self.compare(lambda _, tell: tell(History()), RIGHT_TRUTHS, WRONG_TRUTHS)

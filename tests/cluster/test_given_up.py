@@ -1,18 +1,15 @@
 """A server that was given up is told so by the others, also by one that was restored meanwhile, and serves nobody any longer; with a lease it does
 not either if nobody tells it. Who takes part in a reopening is told nothing that makes it forget its slots. A server that has
 lost its data takes no restore by which it is to serve.
-
-`python3 tests/cluster/given_up.py`
 """
 from __future__ import annotations
 
 import asyncio
 import json
 import shutil
-import sys
 import time
 
-from scripted import JOURNAL, Scripted
+from scripted import JOURNAL, Scripted, ServersTest
 
 from cluster.resp import ErrorReply, Redis
 from cluster.wire import Failed
@@ -139,13 +136,14 @@ async def without_data() -> dict[str, bool]:
         it.close()
 
 
-def main() -> int:
-    """Runs all, and returns 0 if all is so."""
-    result = asyncio.run(told_by_peers()) | asyncio.run(with_lease()) | asyncio.run(without_data())
-    for what, is_so in result.items():
-        print(f"{what}: {'so' if is_so else 'NOT SO'}")
-    return 0 if all(result.values()) else 1
+class GivenUpTest(ServersTest):
+    """Servers that were given up, or have lost what they had."""
 
+    def test_a_server_that_others_give_up(self):
+        self.finds(told_by_peers)
 
-if __name__ == "__main__":
-    sys.exit(main())
+    def test_a_server_that_no_controller_answers(self):
+        self.finds(with_lease)
+
+    def test_servers_that_have_lost_their_slots(self):
+        self.finds(without_data)

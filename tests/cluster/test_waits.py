@@ -1,15 +1,12 @@
 """A secondary that is killed is waited for once, for three seconds: not anew by each new owner of its shard, be it by a
 handover, a change of roles or a reopening in a handover. Who was connected until a handover is waited for behind it.
-
-`python3 tests/cluster/waits.py`
 """
 from __future__ import annotations
 
 import asyncio
-import sys
 import time
 
-from scripted import Scripted
+from scripted import Scripted, ServersTest
 
 from cluster.resp import Redis
 from cluster.servers.limits import DEAD_AFTER
@@ -82,13 +79,8 @@ async def found_of(it: Scripted) -> dict[str, bool]:
     return found
 
 
-def main() -> int:
-    """Runs it, and returns 0 if all is so."""
-    found = asyncio.run(waits())
-    for what, is_so in found.items():
-        print(f"{what}: {'so' if is_so else 'NOT SO'}")
-    return 0 if all(found.values()) else 1
+class WaitsTest(ServersTest):
+    """A secondary that is killed."""
 
-
-if __name__ == "__main__":
-    sys.exit(main())
+    def test_it_is_waited_for_once(self):
+        self.finds(waits)

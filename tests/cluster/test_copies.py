@@ -1,16 +1,15 @@
-"""A shard of 50 MB is handed over while it is used: it is copied piece by piece, and requests go on. A shard with a value that is too large is not
-moved: the order is told why, and requests go on, although the order comes again and again.
-
-`python3 tests/cluster/copies.py [MEGABYTES]`
+"""A shard of 10 MB is handed over while it is used: it is copied piece by piece, and requests go on. A shard with a value that is too large is not
+moved: the order is told why, and requests go on, although the order comes again and again. $MEGABYTES may say how
+large the first one is.
 """
 from __future__ import annotations
 
 import asyncio
+import os
 import random
-import sys
 import time
 
-from scripted import Scripted
+from scripted import Scripted, ServersTest
 
 from cluster.resp import ErrorReply, Redis
 from cluster.servers.engines import open_redis
@@ -18,7 +17,7 @@ from cluster.wire import Failed
 
 # How many bytes each text of the shard has, and how many there are; and the end of a value that no line takes.
 BYTES = 200_000
-TEXTS = int(sys.argv[1] if len(sys.argv) > 1 else "50") * 1_000_000 // BYTES
+TEXTS = int(os.environ.get("MEGABYTES", "10")) * 1_000_000 // BYTES
 END = 48 << 20
 # What a request waits at most meanwhile: so many seconds, or so many times as long as before. (a machine with other work is slow)
 QUICK, TIMES = 0.2, 10
@@ -82,7 +81,7 @@ class Users:
 
 
 async def moved() -> dict[str, bool]:
-    """What is found of a shard of 50 MB that is handed over."""
+    """What is found of a large shard that is handed over."""
     it = Scripted("ab")
     try:
         await it.start()
@@ -109,9 +108,12 @@ async def moved() -> dict[str, bool]:
         met = sum(start <= at < end for at, _ in users.waits)
         print(f"{TEXTS * BYTES / 1e6:.0f} MB were handed over in {end - start:.1f} s; the slowest of {met} requests took {1000 * slowest:.0f} ms, "
               f"and {1000 * usual:.0f} ms before")
+        for one in (redis, *users.redis.values()):
+            one.close()
         new = await Redis.open_port("127.0.0.1", it.cluster.servers["b"].clients.port)
         found = {key: await new.call("GET", key) for key in texts}
         pushed, count = await new.call("LRANGE", "s:list", "0", "-1"), int(await new.call("GET", "s:count"))
+        new.close()
         wanted = texts | users.set
         unsure = {key for key in wanted if found[key] != wanted[key] and found[key].startswith(b"anew")}
         return {
@@ -161,7 +163,9 @@ async def refused() -> dict[str, bool]:
         await it.open({"s": {"a": "primary"}})
         redis = await Redis.open_port("127.0.0.1", it.cluster.servers["a"].clients.port)
         await redis.call("SET", "s:large", "x")
-        await (await open_redis(it.dir / "a")).call("SETRANGE", "d:s:large", END, "x")
+        store = await open_redis(it.dir / "a")
+        await store.call("SETRANGE", "d:s:large", END, "x")
+        store.close()
         usual = await slowest_read(redis, 2)
         order = it.handover("s", "a", "b", ["a"])[0]
         first = await said_by(it, order)
@@ -174,13 +178,11 @@ async def refused() -> dict[str, bool]:
         it.close()
 
 
-def main() -> int:
-    """Runs both, and returns 0 if all is so."""
-    result = asyncio.run(moved()) | asyncio.run(refused())
-    for what, is_so in result.items():
-        print(f"{what}: {'so' if is_so else 'NOT SO'}")
-    return 0 if all(result.values()) else 1
+class CopiesTest(ServersTest):
+    """Shards that are large."""
 
+    def test_a_shard_is_handed_over_while_it_is_used(self):
+        self.finds(moved)
 
-if __name__ == "__main__":
-    sys.exit(main())
+    def test_a_shard_with_a_value_that_is_too_large(self):
+        self.finds(refused)

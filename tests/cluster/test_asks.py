@@ -1,14 +1,11 @@
 """A server that has lost its slots asks for them until it has them, also when a late fence of the opening in force has come
 to it: no settle follows that fence.
-
-`python3 tests/cluster/asks.py`
 """
 from __future__ import annotations
 
 import asyncio
-import sys
 
-from scripted import JOURNAL, Scripted
+from scripted import JOURNAL, Scripted, ServersTest
 
 CELLS = {"s": {"a": "primary", "c": "secondary"}}
 SECONDS = 10.0
@@ -22,8 +19,8 @@ async def nonce_of(it: Scripted, server: str, other_than: str | None) -> str:
     return it.asked[server]
 
 
-async def asks_behind_a_fence() -> bool:
-    """Whether the server asks again behind the fence, and then takes its slots."""
+async def asks_behind_a_fence() -> dict[str, bool]:
+    """What is found of a server that a late fence has come to."""
     it = Scripted("ac")
     try:
         await it.start()
@@ -37,20 +34,13 @@ async def asks_behind_a_fence() -> bool:
         restore = {"server": "c", "nonce": nonce, "journal": JOURNAL, "fence": it.base, "base": it.number, "slots": it.slots("c", CELLS)}
         await it.channels["c"].ask(5, restore=restore)
         audit = (await it.channels["c"].ask(5, audit={}))["audit"]
-        return int(nonce, 16) == int(told["unknown"], 16) and audit["known"] and not audit["fenced"]
+        return {"it asks on": int(nonce, 16) == int(told["unknown"], 16), "it is restored": audit["known"] and not audit["fenced"]}
     finally:
         it.close()
 
 
-def main() -> int:
-    """Runs it, and returns 0 if it is so."""
-    try:
-        is_so = asyncio.run(asks_behind_a_fence())
-    except TimeoutError:
-        is_so = False
-    print(f"an Unknown server that a late fence has come to {'asks on, and is restored' if is_so else 'DOES NOT ASK ON'}")
-    return 0 if is_so else 1
+class AsksTest(ServersTest):
+    """A server that has lost its slots."""
 
-
-if __name__ == "__main__":
-    sys.exit(main())
+    def test_an_unknown_server_that_a_late_fence_has_come_to(self):
+        self.finds(asks_behind_a_fence)
