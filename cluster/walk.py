@@ -18,6 +18,7 @@ import time
 from collections.abc import Iterable
 from contextlib import asynccontextmanager
 from dataclasses import dataclass, field
+from functools import partial
 from pathlib import Path
 
 from cluster.controllers.etcd import EtcdFault
@@ -159,7 +160,7 @@ class Walk(Run):
         pipe, joined = asyncio.subprocess.PIPE, asyncio.subprocess.STDOUT
         process = await asyncio.create_subprocess_exec(
             sys.executable, "-m", "smplan.control_commands", *words[:at], *urls, *words[at:],
-            stdin=asyncio.subprocess.DEVNULL, stdout=pipe, stderr=joined, env={**os.environ, **ENVIRONMENT}, preexec_fn=die_with_parent)
+            stdin=asyncio.subprocess.DEVNULL, stdout=pipe, stderr=joined, env={**os.environ, **ENVIRONMENT}, preexec_fn=partial(die_with_parent, os.getpid()))
         assert process.stdout is not None
         async for line in process.stdout:
             chapter.told.append((time.monotonic_ns(), line.decode().rstrip()))

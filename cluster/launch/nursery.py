@@ -20,10 +20,10 @@ import smplan.control_serve  # noqa: F401  (all of these are there for the copie
 from .processes import die_with_parent
 
 
-def become(log: str, module: str, words: list[str]) -> int:
+def become(parent: int, log: str, module: str, words: list[str]) -> int:
     """Runs a module in the copy, whose output goes to a log, and returns its exit status."""
     os.setsid()
-    die_with_parent()
+    die_with_parent(parent)
     signal.signal(signal.SIGCHLD, signal.SIG_DFL)
     random.seed()
     for path, way, at in ((os.devnull, os.O_RDONLY, 0), (log, os.O_WRONLY | os.O_APPEND | os.O_CREAT, 1), (log, os.O_WRONLY | os.O_APPEND, 2)):
@@ -43,11 +43,12 @@ def main() -> None:
     """Begins what it is told to, until its input ends."""
     signal.signal(signal.SIGCHLD, signal.SIG_IGN)
     gc.freeze()
+    nursery = os.getpid()
     for line in sys.stdin:
         log, module, *words = json.loads(line)
         child = os.fork()
         if not child:
-            status = become(log, module, words)
+            status = become(nursery, log, module, words)
             sys.stdout.flush()
             os._exit(status)
         print(child, flush=True)

@@ -9,6 +9,7 @@ import secrets
 import signal
 import socket
 from dataclasses import dataclass, field
+from functools import partial
 from pathlib import Path
 
 
@@ -16,9 +17,11 @@ LIBC = ctypes.CDLL(None)
 PR_SET_PDEATHSIG = 1
 
 
-def die_with_parent() -> None:
-    """Has the kernel end this process with the one that started it, however that ends."""
+def die_with_parent(parent: int) -> None:
+    """Has the kernel end this process with the one that started it, however that ends, and ends it now if that has ended by now."""
     LIBC.prctl(PR_SET_PDEATHSIG, signal.SIGKILL)
+    if os.getppid() != parent:
+        os._exit(1)
 
 
 class NotReady(Exception):
@@ -72,7 +75,8 @@ class Nursery:
             if self.running is None:
                 pipe = asyncio.subprocess.PIPE
                 self.running = await asyncio.create_subprocess_exec(
-                    *self.command, stdin=pipe, stdout=pipe, env={**os.environ, **self.environment}, start_new_session=True, preexec_fn=die_with_parent)
+                    *self.command, stdin=pipe, stdout=pipe, env={**os.environ, **self.environment}, start_new_session=True,
+                    preexec_fn=partial(die_with_parent, os.getpid()))
             assert self.running.stdin is not None and self.running.stdout is not None
             self.running.stdin.write(json.dumps([str(log), *words]).encode() + b"\n")
             told = await self.running.stdout.readline()
@@ -121,7 +125,7 @@ class Process:
             else:
                 self.running = await asyncio.create_subprocess_exec(
                     *self.command, *more, stdin=asyncio.subprocess.PIPE if self.has_input else asyncio.subprocess.DEVNULL, stdout=log, stderr=log,
-                    env={**os.environ, **self.environment}, start_new_session=True, preexec_fn=die_with_parent,
+                    env={**os.environ, **self.environment}, start_new_session=True, preexec_fn=partial(die_with_parent, os.getpid()),
                 )
         if self.says_ready:
             await self.wait_ready(begin, timeout)

@@ -9,6 +9,7 @@ import signal
 import subprocess
 import time
 from collections.abc import Awaitable
+from functools import partial
 from pathlib import Path
 
 from ..resp import ErrorReply, Redis
@@ -35,9 +36,11 @@ def kind_of(folder: Path) -> str:
     return SQLITE if (folder / FILE).exists() else REDIS
 
 
-def die_with_parent() -> None:
-    """In the child: ends it when its parent ends (PR_SET_PDEATHSIG)."""
+def die_with_parent(parent: int) -> None:
+    """In the child: ends it when its parent ends (PR_SET_PDEATHSIG), and now if that has ended by now."""
     ctypes.CDLL(None).prctl(1, signal.SIGKILL)
+    if os.getppid() != parent:
+        os._exit(1)
 
 
 def cut_torn(folder: Path) -> None:
@@ -59,7 +62,8 @@ def start_redis(folder: Path, syncs: str = "always") -> "subprocess.Popen[bytes]
                "--save", "", "--auto-aof-rewrite-percentage", "0", "--logfile", "redis.log"]
     environment = {**os.environ, "LD_PRELOAD": os.environ["SM_SYNCS"]} if os.environ.get("SM_SYNCS") else None
     # (the child keeps the lock: who starts next waits until it has ended)
-    child = subprocess.Popen(command, cwd=folder, env=environment, preexec_fn=die_with_parent, stdout=subprocess.DEVNULL, pass_fds=(lock,))
+    die = partial(die_with_parent, os.getpid())
+    child = subprocess.Popen(command, cwd=folder, env=environment, preexec_fn=die, stdout=subprocess.DEVNULL, pass_fds=(lock,))
     os.close(lock)
     return child
 

@@ -13,7 +13,7 @@ import time
 from dataclasses import dataclass
 from typing import Awaitable, Callable
 
-from scripted import JOURNAL, Scripted
+from scripted import JOURNAL, PATIENCE, PLAYING, Scripted, until
 
 from cluster.checkers.clients import check as check_clients
 from cluster.checkers.servers import Checker
@@ -84,13 +84,12 @@ async def late_restore(it: Scripted) -> None:
         it.kill("c")
         it.asked.clear()
         await it.start("c", loses_slots=True)
-        while "c" not in it.asked:
-            await asyncio.sleep(0.05)
+        await until(lambda: "c" in it.asked)
         nonces.append(it.asked["c"])
     for nonce in nonces:
         restore = {"server": "c", "nonce": nonce, "journal": JOURNAL, "fence": it.base, "base": it.number, "slots": slots}
         try:
-            await it.channels["c"].ask(5, restore=restore)
+            await it.channels["c"].ask(PATIENCE, restore=restore)
         except Failed:
             pass
     await asyncio.sleep(0.3)
@@ -121,7 +120,7 @@ async def late_settle(it: Scripted) -> None:
     settles = await reopened(it, CELLS)
     await it.move("s", "a", "b", ["a", "c"])
     for settle in settles:
-        await it.channels[settle["server"]].ask(5, settle=settle)
+        await it.channels[settle["server"]].ask(PATIENCE, settle=settle)
     await asyncio.sleep(0.5)
 
 
@@ -253,7 +252,7 @@ async def played(name: str, bug: str | None) -> tuple[list[str], list[str], dict
             await asyncio.sleep(0.7)
             told = None
             try:
-                await asyncio.wait_for(play.act(scripted), 60)
+                await asyncio.wait_for(play.act(scripted), PLAYING)
             except (Failed, TimeoutError, AssertionError) as error:
                 told = repr(error)
             stopping.set()

@@ -4,11 +4,11 @@ published map in a file."""
 from __future__ import annotations
 
 import asyncio
+import functools
 import json
 import os
 import shutil
 import signal
-import socket
 import subprocess
 import sys
 import tempfile
@@ -17,32 +17,44 @@ from collections.abc import Awaitable, Callable
 from pathlib import Path
 
 from cluster.clients.load import Generator
+from cluster.launch.processes import Ports, die_with_parent
 from cluster.wire import Address, Channel, Cluster, Failed, listen
 
 ROOT = Path(__file__).resolve().parents[2]
 
 JOURNAL = "00000000000000a7"
 LOADS, ROOM = 1, 1000
+# How many seconds is waited for a server's answer or anything else that is to come, for a server that begins, and for a whole play: far more than any takes,
+# since other work on the machine makes all of them slow.
+PATIENCE, BEGINNING, PLAYING = 60, 90, 600
 
 
-def free_ports(count: int) -> list[int]:
-    """Ports that nobody has."""
-    sockets = [socket.socket() for _ in range(count)]
-    for it in sockets:
-        it.bind(("127.0.0.1", 0))
-    ports = [it.getsockname()[1] for it in sockets]
-    for it in sockets:
-        it.close()
-    return ports
+async def until(is_so: Callable[[], object], seconds: float = PATIENCE) -> None:
+    """Waits until something is so; raises TimeoutError if it does not come to that."""
+    async with asyncio.timeout(seconds):
+        while not is_so():
+            await asyncio.sleep(0.01)
+
+
+async def until_at_rest(seconds: float = PATIENCE) -> None:
+    """Waits until nothing else runs here: then all connections that servers and proxies of this process carried have ended."""
+    async with asyncio.timeout(seconds):
+        while others := asyncio.all_tasks() - {asyncio.current_task()}:
+            await asyncio.wait(others)
+    await asyncio.sleep(0)
 
 
 class Scripted:
     """Some servers, and who tells them what to do."""
 
-    def __init__(self, names: str, bug: str | None = None, think: float = 0.0, lag: float = 0.0, store: str = "redis") -> None:
+    def __init__(self, names: str, bug: str | None = None, think: float = 0.0, lag: float = 0.0, store: str = "redis",
+                 times: float = 1.0) -> None:
         self.names, self.bug, self.think, self.lag, self.store = list(names), bug, think, lag, store
+        # How many times as long servers wait for one that is gone or silent.
+        self.times = times
         self.dir = Path(tempfile.mkdtemp(prefix="cluster-"))
-        ports = iter(free_ports(3 * len(self.names) + 1))
+        self.ports = Ports()
+        ports = iter(self.ports.take(3 * len(self.names) + 1))
         servers = {
             name: {"number": number, **{it: f"127.0.0.1:{next(ports)}" for it in ("control", "clients", "peers")}}
             for number, name in enumerate(self.names)
@@ -76,17 +88,28 @@ class Scripted:
         if self.listener is None:
             self.listener = await listen(self.desk, self.hear)
         for name in names or self.names:
-            command = [sys.executable, "-m", "cluster.servers", "--name", name, "--cluster", str(self.file), "--dir", str(self.dir / name)]
+            run = ["-m", "cluster.servers"] if self.times == 1.0 else [str(ROOT / "tests/cluster/patient.py"), str(self.times)]
+            command = [sys.executable, *run, "--name", name, "--cluster", str(self.file), "--dir", str(self.dir / name)]
             command += ["--bug", self.bug, "--slow"] if self.bug else []
             command += ["--store", self.store, *(["--think", str(self.think)] if self.think else [])]
             command += ["--lag", str(self.lag)] if self.lag else []
             command += ["--lose-slots"] if loses_slots else []
             environment = os.environ | {"PYTHONPATH": f"{ROOT / 'python'}:{ROOT}"}
-            self.processes[name] = subprocess.Popen(command, cwd=ROOT, env=environment, stdout=subprocess.PIPE)
+            with self.told_by(name).open("wb") as told:
+                self.processes[name] = subprocess.Popen(
+                    command, cwd=ROOT, env=environment, stdout=told, preexec_fn=functools.partial(die_with_parent, os.getpid()))
         for name in names or self.names:
-            line = await asyncio.wait_for(asyncio.to_thread(self.processes[name].stdout.readline), 90)
-            if line != b"ready\n":
-                raise AssertionError(f"{name} did not start")
+            await until(functools.partial(self.is_ready, name), BEGINNING)
+
+    def told_by(self, name: str) -> Path:
+        """The file of what a server prints."""
+        return self.dir / f"{name}.told"
+
+    def is_ready(self, name: str) -> bool:
+        """Whether a server says that it is ready; raises AssertionError if it has ended."""
+        if self.processes[name].poll() is not None:
+            raise AssertionError(f"{name} did not start")
+        return self.told_by(name).read_bytes() == b"ready\n"
 
     async def hear(self, message: dict) -> dict:
         """A server asks for its slots."""
@@ -98,7 +121,6 @@ class Scripted:
         process = self.processes.pop(name)
         process.send_signal(signal.SIGKILL)
         process.wait()
-        process.stdout.close()
 
     def close(self, keeps: bool = False) -> None:
         """Ends all, and deletes their data."""
@@ -106,6 +128,9 @@ class Scripted:
             self.kill(name)
         for channel in self.channels.values():
             channel.close()
+        if self.listener is not None:
+            self.listener.close()
+        self.ports.end()
         if not keeps:
             shutil.rmtree(self.dir, ignore_errors=True)
 
@@ -115,7 +140,7 @@ class Scripted:
         """Fences servers for a next epoch, and returns what they answer."""
         self.base += 1 << 21
         self.number = self.base
-        asks = [self.channels[it].ask(10, fence={"server": it, "base": self.base, "journal": JOURNAL}) for it in names or self.names]
+        asks = [self.channels[it].ask(PATIENCE, fence={"server": it, "base": self.base, "journal": JOURNAL}) for it in names or self.names]
         return {it["fenced"]["server"]: it["fenced"] for it in await asyncio.gather(*asks)}
 
     def settles(self, fenced: dict[str, dict], cells: dict[str, dict[str, str]]) -> list[dict]:
@@ -130,7 +155,7 @@ class Scripted:
     async def settle(self, fenced: dict[str, dict], cells: dict[str, dict[str, str]]) -> None:
         """Settles servers that were fenced."""
         for settle in self.settles(fenced, cells):
-            await self.channels[settle["server"]].ask(10, settle=settle)
+            await self.channels[settle["server"]].ask(PATIENCE, settle=settle)
         self.publish({shard: next((it for it, state in row.items() if state == "primary"), None) for shard, row in cells.items()})
 
     async def open(self, cells: dict[str, dict[str, str]]) -> None:
@@ -143,7 +168,7 @@ class Scripted:
         return {"journal": JOURNAL, "epoch": self.base >> 21, "fence": self.base, "plan": 0, "stream": 0, "number": self.number, "server": server,
                 "call": call, "shard": shard, "load": LOADS, "room": ROOM, **more}
 
-    async def send(self, order: dict, seconds: float = 30) -> None:
+    async def send(self, order: dict, seconds: float = PATIENCE) -> None:
         """Sends an order again and again until it is answered."""
         loop = asyncio.get_running_loop()
         deadline = loop.time() + seconds
@@ -196,11 +221,11 @@ class ServersTest(unittest.TestCase):
         if not shutil.which("redis-server"):
             raise unittest.SkipTest("there is no redis-server")
 
-    def finds(self, play: Callable[[], Awaitable[dict[str, bool]]]) -> None:
-        """Wants all that a play finds to be so. A machine with other work may be late once: then it is played again."""
+    def finds(self, play: Callable[[], Awaitable[dict[str, bool]]], again: Callable[[], Awaitable[dict[str, bool]]] | None = None) -> None:
+        """Wants all that a play finds to be so. A machine with other work may be late once: then it is played again, or another one is that takes more time."""
         found = self.found(play)
         if not all(found.values()):
-            found = self.found(play)
+            found = self.found(again or play)
         for what, is_so in found.items():
             with self.subTest(what):
                 self.assertTrue(is_so)
@@ -208,6 +233,6 @@ class ServersTest(unittest.TestCase):
     def found(self, play: Callable[[], Awaitable[dict[str, bool]]]) -> dict[str, bool]:
         """What a play finds; nothing is so if it does not come to its end."""
         try:
-            return asyncio.run(asyncio.wait_for(play(), 300))
+            return asyncio.run(asyncio.wait_for(play(), PLAYING))
         except TimeoutError:
             return {"it comes to its end": False}

@@ -3,19 +3,14 @@ to it: no settle follows that fence.
 """
 from __future__ import annotations
 
-import asyncio
-
-from scripted import JOURNAL, Scripted, ServersTest
+from scripted import JOURNAL, PATIENCE, Scripted, ServersTest, until
 
 CELLS = {"s": {"a": "primary", "c": "secondary"}}
-SECONDS = 10.0
 
 
 async def nonce_of(it: Scripted, server: str, other_than: str | None) -> str:
     """The nonce under which a server asks, once it is another one than this."""
-    async with asyncio.timeout(SECONDS):
-        while it.asked.get(server, other_than) == other_than:
-            await asyncio.sleep(0.05)
+    await until(lambda: it.asked.get(server, other_than) != other_than)
     return it.asked[server]
 
 
@@ -29,11 +24,11 @@ async def asks_behind_a_fence() -> dict[str, bool]:
         it.asked.clear()
         await it.start("c", loses_slots=True)
         first = await nonce_of(it, "c", None)
-        told = (await it.channels["c"].ask(5, fence={"server": "c", "base": it.base, "journal": JOURNAL}))["fenced"]
+        told = (await it.channels["c"].ask(PATIENCE, fence={"server": "c", "base": it.base, "journal": JOURNAL}))["fenced"]
         nonce = await nonce_of(it, "c", first)
         restore = {"server": "c", "nonce": nonce, "journal": JOURNAL, "fence": it.base, "base": it.number, "slots": it.slots("c", CELLS)}
-        await it.channels["c"].ask(5, restore=restore)
-        audit = (await it.channels["c"].ask(5, audit={}))["audit"]
+        await it.channels["c"].ask(PATIENCE, restore=restore)
+        audit = (await it.channels["c"].ask(PATIENCE, audit={}))["audit"]
         return {"it asks on": int(nonce, 16) == int(told["unknown"], 16), "it is restored": audit["known"] and not audit["fenced"]}
     finally:
         it.close()

@@ -126,7 +126,7 @@ class LeaseTest(unittest.IsolatedAsyncioTestCase):
 
     async def test_one_leads(self):
         etcd = FakeEtcd()
-        first, second = Lease(etcd, "k0"), Lease(etcd, "k1")
+        first, second = (Lease(etcd, name, seconds=60) for name in ("k0", "k1"))
         self.assertTrue(await first.campaign())
         self.assertFalse(await second.campaign())
         self.assertEqual((first.is_leader, second.is_leader), (True, False))
@@ -137,7 +137,7 @@ class LeaseTest(unittest.IsolatedAsyncioTestCase):
         lease = Lease(etcd, "k0", seconds=0.2)
         await lease.campaign()
         etcd.leases.clear()
-        await asyncio.wait_for(lease.keep(), 2)
+        await asyncio.wait_for(lease.keep(), 60)
         self.assertFalse(lease.is_leader)
 
 

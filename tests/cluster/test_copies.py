@@ -9,7 +9,7 @@ import os
 import random
 import time
 
-from scripted import Scripted, ServersTest
+from scripted import PATIENCE, Scripted, ServersTest
 
 from cluster.resp import ErrorReply, Redis
 from cluster.servers.engines import open_redis
@@ -19,8 +19,9 @@ from cluster.wire import Failed
 BYTES = 200_000
 TEXTS = int(os.environ.get("MEGABYTES", "10")) * 1_000_000 // BYTES
 END = 48 << 20
-# What a request waits at most meanwhile: so many seconds, or so many times as long as before. (a machine with other work is slow)
-QUICK, TIMES = 0.2, 10
+# What a request waits at most meanwhile: so many seconds, or so many times as long as at rest, or this part of the time that the copy takes. (a machine with
+# other work is slow; who held requests back for a copy would do so for all of it)
+QUICK, TIMES, PART = 0.2, 10, 0.5
 dice = random.Random(1)
 
 
@@ -75,9 +76,21 @@ class Users:
             await self.ask("INCR", "s:count")
             await self.ask("GET", "s:count")
 
-    def slowest(self, since: float, until: float) -> float:
-        """The longest that a request waited which began between two moments."""
-        return max((wait for begun, wait in self.waits if since <= begun < until), default=0.0)
+    def slowest(self, start: float, end: float) -> tuple[float, float]:
+        """The longest that a request waited which had its reply before a handover, and the longest of those that met it."""
+        before = [wait for begun, wait in self.waits if begun + wait < start]
+        return max(before, default=0.0), max((wait for begun, wait in self.waits if begun + wait >= start and begun < end), default=0.0)
+
+
+async def answered(it: Scripted, order: dict) -> float:
+    """Sends an order until it is answered; how many seconds that takes."""
+    begun = time.monotonic()
+    while True:
+        try:
+            await it.channels[order["server"]].ask(PATIENCE, order=order)
+            return time.monotonic() - begun
+        except Failed:
+            await asyncio.sleep(0.05)
 
 
 async def moved() -> dict[str, bool]:
@@ -90,24 +103,16 @@ async def moved() -> dict[str, bool]:
         texts = await fill(redis)
         users = Users(it)
         using = asyncio.create_task(users.use())
-        begun = time.monotonic()
         await asyncio.sleep(2)
         start = time.monotonic()
-        for order in it.handover("s", "a", "b", ["a"]):
-            while True:
-                try:
-                    await it.channels[order["server"]].ask(60, order=order)
-                    break
-                except Failed:
-                    await asyncio.sleep(0.05)
+        copying, *_ = [await answered(it, order) for order in it.handover("s", "a", "b", ["a"])]
         end = time.monotonic()
         await asyncio.sleep(0.5)
         using.cancel()
         await asyncio.gather(using, return_exceptions=True)
-        usual, slowest = users.slowest(begun, start), users.slowest(start, end)
+        usual, slowest = users.slowest(start, end)
         met = sum(start <= at < end for at, _ in users.waits)
-        print(f"{TEXTS * BYTES / 1e6:.0f} MB were handed over in {end - start:.1f} s; the slowest of {met} requests took {1000 * slowest:.0f} ms, "
-              f"and {1000 * usual:.0f} ms before")
+        figures = f"{TEXTS * BYTES / 1e6:.0f} MB were copied in {copying:.1f} s; the slowest of {met} requests took {slowest:.2f} s, and {usual:.2f} s before"
         for one in (redis, *users.redis.values()):
             one.close()
         new = await Redis.open_port("127.0.0.1", it.cluster.servers["b"].clients.port)
@@ -120,7 +125,7 @@ async def moved() -> dict[str, bool]:
             "all texts are there": all(found[key] == wanted[key] for key in wanted if key not in unsure) and len(unsure) <= 1,
             "each push is there once": pushed[:len(users.pushed)] == users.pushed and len(pushed) <= len(users.pushed) + 1,
             "each increment is there once": len(users.pushed) - 1 <= count <= len(users.pushed) + 1,
-            "requests go on": slowest < max(QUICK, TIMES * usual),
+            f"requests go on: {figures}": slowest < max(QUICK, TIMES * usual, PART * copying),
         }
     finally:
         it.close()
@@ -129,7 +134,7 @@ async def moved() -> dict[str, bool]:
 async def said_by(it: Scripted, order: dict) -> str:
     """What a new owner says when it is told to prepare."""
     try:
-        await it.channels["b"].ask(30, order=order)
+        await it.channels["b"].ask(PATIENCE, order=order)
         return "answered"
     except Failed as failed:
         return str(failed)
@@ -170,10 +175,11 @@ async def refused() -> dict[str, bool]:
         order = it.handover("s", "a", "b", ["a"])[0]
         first = await said_by(it, order)
         said, slowest = await asyncio.gather(refusals(it, order, 5), slowest_read(redis, 5))
+        usual = max(usual, await slowest_read(redis, 2))
         redis.close()
-        print(f"{first}; {len(said)} times again; the slowest read took {slowest:.2f} s, and {usual:.2f} s before")
-        return {"the order is told how large the value is": all("bytes" in text for text in [first, *said]),
-                "reads go on": slowest < max(QUICK, TIMES * usual)}
+        silent = [text for text in [first, *said] if "bytes" not in text]
+        figures = f"the slowest took {slowest:.2f} s while the order came {len(said)} times, and {usual:.2f} s at rest"
+        return {f"the order is told how large the value is: {silent[:1]}": not silent, f"reads go on: {figures}": slowest < max(QUICK, TIMES * usual)}
     finally:
         it.close()
 

@@ -6,7 +6,7 @@ from __future__ import annotations
 import asyncio
 import json
 
-from scripted import Scripted, ServersTest
+from scripted import PLAYING, Scripted, ServersTest
 
 from cluster.clients.load import Generator, Load
 
@@ -38,7 +38,7 @@ class MoveTest(ServersTest):
     """A primary that moves while it is used."""
 
     def test_each_acknowledged_push_is_in_the_final_list_once(self):
-        lines, failures = asyncio.run(asyncio.wait_for(moved(4), 300))
+        lines, failures = asyncio.run(asyncio.wait_for(moved(4), PLAYING))
         final = {it["key"]: it["reply"] for it in lines if it.get("final") and it["op"] == "read"}
         acknowledged = [it for it in lines if it["op"] == "push" and "reply" in it]
         self.assertTrue(acknowledged)

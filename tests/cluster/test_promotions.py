@@ -14,7 +14,7 @@ class SessionOperator:
     """An operator of the reference. After each line that begins a plan, some orders are answered."""
 
     def __init__(self, shards):
-        self.session, self.patience, self.replies, self.orders = Session(), 12.0, {}, []
+        self.session, self.patience, self.replies, self.orders = Session(), 360.0, {}, []
         servers = [{"name": it, "region": "r", "room": 10} for it in "abc"]
         self.send({"do": "open", "document": {"limit": 1, "servers": servers, "shards": shards}, "journal": "1", "epoch": 1})
 
@@ -79,7 +79,7 @@ class SecondariesTest(unittest.IsolatedAsyncioTestCase):
         shards = [{"name": it, "load": 1, "want": 2, "cap": 1, "spread": 1, "listed": "a", "cells": cells} for it in ("s", "t")]
         operator = SessionOperator(shards)
         story = AbsenceStory(SimpleNamespace(shape=Shape()), operator, None, 1, lambda text: None)
-        self.assertTrue(await story.take_primaries("a"))
+        self.assertTrue(await story.take_primaries("a", 60.0))
         found = {it["shard"]: {cell["server"]: cell["state"] for cell in it["cells"]} for it in operator.state()["shards"]}
         self.assertEqual(found, dict.fromkeys(("s", "t"), {"a": "secondary", "b": "primary"}))
 

@@ -3,6 +3,8 @@ import asyncio
 import unittest
 from collections import Counter
 
+from scripted import until_at_rest
+
 from cluster.faults.dice import Dice, Rates
 from cluster.faults.proxies import Link, open_proxy
 from cluster.launch.processes import Ports
@@ -41,16 +43,12 @@ class BytesTest(unittest.IsolatedAsyncioTestCase):
     """Commands through a proxy of bytes."""
 
     async def asyncSetUp(self):
-        self.ports = Ports()
-        self.far, self.near = self.ports.take(2)
+        ports = Ports()
+        self.addCleanup(ports.end)
+        self.addAsyncCleanup(until_at_rest)
+        self.far, self.near = ports.take(2)
         self.server = await asyncio.start_server(self.count, "127.0.0.1", self.far)
-
-    async def asyncTearDown(self):
-        self.redis.close()
-        await asyncio.sleep(0.1)
-        self.server.close()
-        self.proxy.close()
-        self.ports.end()
+        self.addCleanup(self.server.close)
 
     async def count(self, reader, writer):
         """Answers each command with its second word, which is a number."""
@@ -63,9 +61,10 @@ class BytesTest(unittest.IsolatedAsyncioTestCase):
     async def open(self, **rates):
         """A connection through a proxy with such rates, and the proxy's link."""
         link = Link("client c a", Dice(1, "client c a", Rates(**rates), Counter()), "127.0.0.1", self.far)
-        self.proxy = await open_proxy(self.near, "bytes", link)
-        self.redis = await Redis.open_port("127.0.0.1", self.near)
-        return self.redis, link
+        self.addCleanup((await open_proxy(self.near, "bytes", link)).close)
+        redis = await Redis.open_port("127.0.0.1", self.near)
+        self.addCleanup(redis.close)
+        return redis, link
 
     async def test_late_bytes_stay_in_order(self):
         redis, link = await self.open(delay=0.5, longest=0.02)
@@ -73,25 +72,25 @@ class BytesTest(unittest.IsolatedAsyncioTestCase):
         for start in range(0, 200, 5):
             replies += [redis.send("COUNT", start + it) for it in range(5)]
             await asyncio.sleep(0)
-        self.assertEqual(await asyncio.wait_for(asyncio.gather(*replies), 20), list(range(200)))
+        self.assertEqual(await asyncio.wait_for(asyncio.gather(*replies), 60), list(range(200)))
         self.assertTrue(link.dice.counts["client delayed"])
 
     async def test_a_loss_ends_the_connection(self):
         redis, _ = await self.open(drop=1.0)
         with self.assertRaises(ConnectionError):
-            await asyncio.wait_for(redis.call("COUNT", 1), 5)
+            await asyncio.wait_for(redis.call("COUNT", 1), 60)
         self.assertTrue(redis.is_closed)
 
     async def test_nothing_gets_through_a_link_that_is_cut(self):
         redis, link = await self.open()
-        self.assertEqual(await asyncio.wait_for(redis.call("COUNT", 1), 5), 1)
+        self.assertEqual(await asyncio.wait_for(redis.call("COUNT", 1), 60), 1)
         link.is_cut = True
         with self.assertRaises(ConnectionError):
-            await asyncio.wait_for(redis.call("COUNT", 2), 5)
+            await asyncio.wait_for(redis.call("COUNT", 2), 60)
 
     async def test_nobody_listens_at_the_far_end(self):
         self.server.close()
         await self.server.wait_closed()
         redis, _ = await self.open()
         with self.assertRaises(ConnectionError):
-            await asyncio.wait_for(redis.call("COUNT", 1), 5)
+            await asyncio.wait_for(redis.call("COUNT", 1), 60)

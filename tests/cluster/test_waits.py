@@ -1,26 +1,29 @@
 """A secondary that is killed is waited for once, for three seconds: not anew by each new owner of its shard, be it by a
 handover, a change of roles or a reopening in a handover. Who was connected until a handover is waited for behind it.
+
+A machine with other work may take so long for anything that it looks like such a wait: then servers wait for longer.
 """
 from __future__ import annotations
 
 import asyncio
+import functools
 import time
 
-from scripted import Scripted, ServersTest
+from scripted import PATIENCE, Scripted, ServersTest
 
 from cluster.resp import Redis
 from cluster.servers.limits import DEAD_AFTER
 
 CELLS = {"s": {"a": "primary", "c": "secondary", "d": "secondary", "e": "secondary"}}
-# What a write takes at most beside the wait for who is away.
-QUICK = 1.5
+# Which part of the wait for who is away a write takes at most beside it, and how many times as long that wait is when the play is played again.
+QUICK, TIMES = 0.5, 6.0
 
 
 async def push(it: Scripted, server: str, value: str) -> float:
     """Pushes a value at the shard's owner, and returns for how many seconds that waited."""
     redis, begun = await Redis.open_port("127.0.0.1", it.cluster.servers[server].clients.port), time.monotonic()
     try:
-        async with asyncio.timeout(10):
+        async with asyncio.timeout(PATIENCE):
             await redis.call("DO", value, "RPUSH", "s:k", value)
         return time.monotonic() - begun
     finally:
@@ -42,9 +45,9 @@ async def reopen_in_handover(it: Scripted, old: str, new: str, others: list[str]
     await it.settle(await it.fence(*it.processes), {"s": {new: "primary", **dict.fromkeys(others, "secondary")}})
 
 
-async def waits() -> dict[str, bool]:
-    """What is found of the waits."""
-    it = Scripted("abcde")
+async def waits(times: float = 1.0) -> dict[str, bool]:
+    """What is found of the waits, which are so many times as long as they are usually."""
+    it = Scripted("abcde", times=times)
     try:
         return await found_of(it)
     finally:
@@ -53,29 +56,30 @@ async def waits() -> dict[str, bool]:
 
 async def found_of(it: Scripted) -> dict[str, bool]:
     """What is found of the waits at servers that this starts."""
-    found = {}
+    found, wait = {}, DEAD_AFTER * it.times
+    quick = QUICK * wait
     await it.start()
     await it.open(CELLS)
     await asyncio.sleep(1)
-    found["a write waits for nobody who is there"] = await push(it, "a", "1") < QUICK
-    it.kill("c")
+    found["a write waits for nobody who is there"] = await push(it, "a", "1") < quick
     killed = time.monotonic()
+    it.kill("c")
     await push(it, "a", "2")
-    found["a write waits for a secondary that was killed"] = time.monotonic() - killed > DEAD_AFTER - 0.2
+    found["a write waits for a secondary that was killed"] = time.monotonic() - killed > wait
     await it.move("s", "a", "b", ["a", "d", "e"])
-    found["the new owner of a handover does not wait for it anew"] = await push(it, "b", "3") < QUICK
+    found["the new owner of a handover does not wait for it anew"] = await push(it, "b", "3") < quick
     await asyncio.sleep(1)
     await exchange(it, "b", "d", ["b", "d", "e"])
-    found["nor does a secondary that becomes the primary"] = await push(it, "d", "4") < QUICK
+    found["nor does a secondary that becomes the primary"] = await push(it, "d", "4") < quick
     await asyncio.sleep(1)
     await reopen_in_handover(it, "d", "a", ["b", "e"])
-    found["nor does a new owner that a reopening makes the primary"] = await push(it, "a", "5") < QUICK
+    found["nor does a new owner that a reopening makes the primary"] = await push(it, "a", "5") < quick
     await asyncio.sleep(1)
-    it.kill("e")
     killed = time.monotonic()
+    it.kill("e")
     await it.move("s", "a", "d", ["a", "b"])
     await push(it, "d", "6")
-    found["who was connected until a handover is waited for behind it"] = time.monotonic() - killed > DEAD_AFTER - 0.2
+    found["who was connected until a handover is waited for behind it"] = time.monotonic() - killed > wait
     return found
 
 
@@ -83,4 +87,4 @@ class WaitsTest(ServersTest):
     """A secondary that is killed."""
 
     def test_it_is_waited_for_once(self):
-        self.finds(waits)
+        self.finds(waits, functools.partial(waits, TIMES))
