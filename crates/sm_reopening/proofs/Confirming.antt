@@ -23,7 +23,7 @@ use Rattle.sm_reopening.specs.declared.state.ServerState.{ServerState}
 use Rattle.sm_reopening.specs.States.{FitsShards, fits_told, fresh_state, is_gone, is_leaving, net_inventory, no_slot, slot_in, state_by}
 use Rattle.sm_reopening.specs.Ongoing.{first_awaited, is_waited_for, is_complete, left_out_of, may_carry, told_positions, past_state, recorded_place, recorded_setup, net_reopening, shards_of, inventory_slot, told_slot}
 use Rattle.sm_reopening.specs.Survivors.{standing_of, stands_above}
-use Rattle.sm_reopening.specs.Faults.{IsFairAt, IsFairCell, IsFairSlot, IsTimely, MayConfirm}
+use Rattle.sm_reopening.specs.Faults.{IsFairAt, IsFairCell, IsFairSlot, IsTimely, KeepsSlot, MayConfirm, is_appointed, is_barred}
 use Rattle.sm_reopening.proofs.Standings.{below_claim}
 
 -- a server past all numbers is as one that has told nothing
@@ -93,8 +93,8 @@ fair_everywhere x s ready fair k v = elim (cases_lt v (length x.servers.items)) 
       )
 ]
   where
-    kept_absent : (c next : Cell) → c ≡ Absent → next ≡ Absent → Keeps c next
-    kept_absent Absent next e n = n
+    kept_absent : (c next : Cell) → c ≡ Absent → next ≡ Absent → KeepsSlot x k c next
+    kept_absent Absent next e n = (n, λ a. absurd (cc))
     kept_absent _ next e n = absurd (cc)
 
 -- who is not awaited has told, or may be carried over, if it is asked
@@ -125,7 +125,7 @@ may_confirm x s ready timely fair =
         servers = ready.servers;
         map = complete.0;
         answered = λ v asked. elim (told v asked) [ inl t ↦ inl t | inr m ↦ inr (and_parts (is_carried (net_reopening x) (past_state x) v) (not (left_out_of x v)) m).0 ];
-        kept = λ k v cells reached e. (fair k v).1.kept (record { cell = cells k; position = told_positions x k v; reached = reached k }) (ap (λ t. inventory_slot t (told_positions x k v) k) e);
+        kept = λ k v cells reached e. ((fair k v).1.kept (record { cell = cells k; position = told_positions x k v; reached = reached k }) (ap (λ t. inventory_slot t (told_positions x k v) k) e)).0;
         carried = λ k v e. (fair k v).0.carried e;
         down = timely.down;
         lost = λ k v e. (fair k v).0.lost e;
@@ -138,6 +138,7 @@ may_confirm x s ready timely fair =
         | inr m ↦ absurd (let stays = not-true (left_out_of x v) (and_parts (is_carried (net_reopening x) (past_state x) v) (not (left_out_of x v)) m).1 in cc)
       ];
       left = λ k v slot left t. (fair k v).1.left slot left t;
+      appointed = λ k v slot t. ((fair k v).1.kept slot t).1;
     }
   where
     none_of : (o : Option ℕ) → is_none o ≡ true → o ≡ None
@@ -171,7 +172,7 @@ is_fair x s may k v = (
   record { lost = may.allowed.lost k v; carried = may.allowed.carried k v; best = λ e u. may.best k u v e },
   record {
     left = λ slot left t. may.left k v slot left t;
-    kept = λ slot t. kept_by slot ((net_reopening x).told (Server v)) refl t;
+    kept = λ slot t. (kept_by slot ((net_reopening x).told (Server v)) refl t, may.appointed k v slot t);
     handed = λ slot t h. handed_by slot ((net_reopening x).told (Server v)) refl t h;
   },
 )

@@ -1,18 +1,25 @@
 -- The shards that may have lost acknowledged writes. A primary may have acknowledged some alone.
-use Rattle.std.specs.Prelude.{ℕ, ◌&&◌, ◌||◌, ◌==◌, Bool, is_none, is_some, length, nat_lt}
+use Rattle.std.specs.Prelude.{ℕ, ◌&&◌, ◌||◌, ◌==◌, Bool, is_none, is_some, length, nat_lt, not}
 use Rattle.sm_server.specs.Cell.{is_secondary}
 use Rattle.sm_placement.specs.Lead.{has_part}
 use Rattle.sm_placement.specs.Opening.{first_below}
-use Rattle.sm_network.specs.Reopening.{Server}
 use Rattle.sm_reopening.specs.declared.ongoing.OngoingReopening.{OngoingReopening}
 use Rattle.sm_reopening.specs.Ongoing.{net_reopening, recorded_place, recorded_setup}
-use Rattle.sm_reopening.specs.Proposal.{Documented, has_whole, is_bare}
-use Rattle.sm_reopening.specs.Settles.{nonce_of}
+use Rattle.sm_reopening.specs.Proposal.{Documented, has_no_slots, has_whole, is_bare, may_be_first}
 use Rattle.sm_reopening.specs.Survivors.{standing_of}
 
--- the server is the shard's primary still: it has told so, or is carried over as it is recorded
+-- a server to which a reopening that was replaced has sent a settle has no slots any more
+abbrev pub has_lost_settled : OngoingReopening → ℕ → Bool
+has_lost_settled x v = (net_reopening x).promised v && has_no_slots x v
+
+-- some server is one
+abbrev pub is_settled_lost : OngoingReopening → Bool
+is_settled_lost x = is_some (first_below (net_reopening x).servers (has_lost_settled x))
+
+-- The server is the shard's primary still: it has told so, or is carried over as it is recorded. If a settle's taker has lost its slots, so
+-- that it may have been primary since, only another one counts to which a settle was sent.
 abbrev pub is_primary_still : OngoingReopening → ℕ → ℕ → Bool
-is_primary_still x s v = nat_lt 3 (standing_of x s v).claim
+is_primary_still x s v = nat_lt 3 (standing_of x s v).claim && ((net_reopening x).promised v || not (is_settled_lost x))
 
 -- the server is recorded with a part in the shard's lead: as its primary, or in a handover
 abbrev pub has_recorded_part : OngoingReopening → ℕ → ℕ → Bool
@@ -30,14 +37,11 @@ may_have_served x s v =
 abbrev pub may_have_served_any : OngoingReopening → ℕ → Bool
 may_have_served_any x v = (net_reopening x).promised v || (length (recorded_setup x).servers == 0)
 
--- the server has no slots any more: it is lost, or Unknown
-abbrev pub has_no_slots : OngoingReopening → ℕ → Bool
-has_no_slots x v = (net_reopening x).lost v || is_some (nonce_of ((net_reopening x).told (Server v)))
-
 -- a server that may have served the shard is lost or Unknown, or tells nothing of it
 abbrev pub has_gone : OngoingReopening → ℕ → ℕ → Bool
 has_gone x s v =
-    (may_have_served x s v && ((standing_of x s v).claim == 0)) || (may_have_served_any x v && has_no_slots x v)
+    (may_have_served x s v && ((standing_of x s v).claim == 0))
+    || ((may_have_served_any x v && has_no_slots x v) || may_be_first x s v)
 
 -- acknowledged writes of the shard may be lost: no primary is left, and a server that may have served it is gone
 abbrev pub may_lack_writes : OngoingReopening → ℕ → Bool

@@ -1,5 +1,5 @@
 -- The settlement that a reopening proposes.
-use Rattle.std.specs.Prelude.{◌≡◌, ℕ, ◌&&◌, ◌||◌, ◌==◌, Bool, true, false, not, Option, Some, None, is_none, is_some, nat_lt, if◌then◌else◌}
+use Rattle.std.specs.Prelude.{◌≡◌, ℕ, ◌&&◌, ◌||◌, ◌==◌, Bool, true, false, not, Option, Some, None, is_none, is_some, length, nat_lt, if◌then◌else◌}
 use Rattle.sm_server.specs.declared.call.Cell.{Cell}
 use Rattle.sm_server.specs.declared.call.Cell.TheVariants.{Absent, Secondary, Primary}
 use Rattle.sm_server.specs.declared.call.Role.{Role}
@@ -11,7 +11,7 @@ use Rattle.sm_network.specs.Reopening.{Server}
 use Rattle.sm_network.specs.ReopeningLaws.{is_carried}
 use Rattle.sm_reopening.specs.declared.party.FoundSlot.{FoundSlot}
 use Rattle.sm_reopening.specs.declared.ongoing.OngoingReopening.{OngoingReopening}
-use Rattle.sm_reopening.specs.Ongoing.{left_out_of, past_state, recorded_place, net_reopening, told_slot}
+use Rattle.sm_reopening.specs.Ongoing.{left_out_of, past_state, recorded_place, recorded_setup, net_reopening, told_slot}
 use Rattle.sm_reopening.specs.Settles.{nonce_of}
 use Rattle.sm_reopening.specs.Survivors.{HasNoSurvivor, IsHeirOf, heir_of, standing_of}
 
@@ -33,13 +33,40 @@ has_told_part None = false
 abbrev pub role_counted : OngoingReopening → Documented → ℕ → ℕ → Option Role
 role_counted x d s v = if is_some (nonce_of ((net_reopening x).told (Server v))) then d s v else None
 
--- a server makes the shard one with a primary: it is recorded as a primary or in a handover, or told so, or documented as the primary
-abbrev pub leads_shard : OngoingReopening → Documented → ℕ → ℕ → Bool
-leads_shard x d s v = has_part ((recorded_place x).cells s v) || (has_told_part (told_slot x s v) || is_primary_role (d s v))
+-- the server is recorded as the shard's primary or in a handover of it, or has told so
+abbrev pub leads_shard : OngoingReopening → ℕ → ℕ → Bool
+leads_shard x s v = has_part ((recorded_place x).cells s v) || has_told_part (told_slot x s v)
 
--- the shard is one with a primary
+-- the shard has a lead: by the record, or by what was told
+abbrev pub has_known_lead : OngoingReopening → ℕ → Bool
+has_known_lead x s = is_some (first_below (net_reopening x).servers (leads_shard x s))
+
+-- a replica: the primary or a secondary
+abbrev pub has_replica_role : Cell → Bool
+has_replica_role cell = is_primary cell || is_secondary cell
+
+-- what was told is a replica
+abbrev pub has_told_replica : Option FoundSlot → Bool
+has_told_replica (Some slot) = has_replica_role slot.cell
+has_told_replica None = false
+
+-- the server holds a replica of the shard: by what it told, or as recorded if it is carried over
+abbrev pub holds_replica : OngoingReopening → ℕ → ℕ → Bool
+holds_replica x s v =
+    (is_carried (net_reopening x) (past_state x) v && has_replica_role ((recorded_place x).cells s v)) || has_told_replica (told_slot x s v)
+
+-- some server does
+abbrev pub is_held : OngoingReopening → ℕ → Bool
+is_held x s = is_some (first_below (net_reopening x).servers (holds_replica x s))
+
+-- the document has a primary for the shard
+abbrev pub is_documented : OngoingReopening → Documented → ℕ → Bool
+is_documented x d s = is_some (first_below (net_reopening x).servers (λ v. is_primary_role (d s v)))
+
+-- The shard gets a primary: it has a lead; or nobody holds a replica, and the document has a primary for it. Between secondaries without a lead no
+-- reopening chooses, since their positions may be of different primaries: a plan's change does.
 abbrev pub is_led : OngoingReopening → Documented → ℕ → Bool
-is_led x d s = is_some (first_below (net_reopening x).servers (leads_shard x d s))
+is_led x d s = has_known_lead x s || (not (is_held x s) && is_documented x d s)
 
 -- The primary that is proposed for a shard: who inherits it; without a survivor the lowest Unknown server that the document has as the primary;
 -- and none for a shard that has none.
@@ -61,19 +88,9 @@ first_or None other = other
 abbrev pub primary_of : OngoingReopening → Documented → ℕ → Option ℕ
 primary_of x d s = if is_led x d s then first_or (heir_of x s) (documented_primary x d s) else None
 
--- a replica: the primary or a secondary
-abbrev pub has_replica_role : Cell → Bool
-has_replica_role cell = is_primary cell || is_secondary cell
-
--- what was told is a replica
-abbrev pub has_told_replica : Option FoundSlot → Bool
-has_told_replica (Some slot) = has_replica_role slot.cell
-has_told_replica None = false
-
--- the server has a replica of the shard: by what it told, as recorded if it is carried over, or by the document if it is Unknown
+-- the server has a replica of the shard: it holds one, or has one by the document if it is Unknown
 abbrev pub keeps_replica : OngoingReopening → Documented → ℕ → ℕ → Bool
-keeps_replica x d s v =
-    (is_carried (net_reopening x) (past_state x) v && has_replica_role ((recorded_place x).cells s v)) || (has_told_replica (told_slot x s v) || is_some (role_counted x d s v))
+keeps_replica x d s v = holds_replica x s v || is_some (role_counted x d s v)
 
 -- the server is this one
 abbrev pub is_the : Option ℕ → ℕ → Bool
@@ -92,9 +109,24 @@ proposed_cell x d s primary v =
 abbrev pub has_whole : OngoingReopening → ℕ → ℕ → Bool
 has_whole x s v = nat_lt 1 (standing_of x s v).claim
 
--- the server has, or had, something of the shard
+-- the server has no slots any more: it is lost, or Unknown
+abbrev pub has_no_slots : OngoingReopening → ℕ → Bool
+has_no_slots x v = (net_reopening x).lost v || is_some (nonce_of ((net_reopening x).told (Server v)))
+
+-- the shard is recorded, and nobody has something of it
+abbrev pub is_recorded_empty : OngoingReopening → ℕ → Bool
+is_recorded_empty x s =
+    nat_lt s (length (recorded_setup x).shards)
+    && is_none (first_below (net_reopening x).servers (λ v. not (is_absent ((recorded_place x).cells s v))))
+
+-- A recorded server that has no slots any more may have been the shard's first primary: its order was carried out, and nobody has recorded that.
+abbrev pub may_be_first : OngoingReopening → ℕ → ℕ → Bool
+may_be_first x s v = (nat_lt v (length (recorded_setup x).servers) && has_no_slots x v) && is_recorded_empty x s
+
+-- the server has, had, or may have had something of the shard
 abbrev pub had_something : OngoingReopening → Documented → ℕ → ℕ → Bool
-had_something x d s v = not (is_absent ((recorded_place x).cells s v)) || (is_some (d s v) || nat_lt 0 (standing_of x s v).claim)
+had_something x d s v =
+    (not (is_absent ((recorded_place x).cells s v)) || may_be_first x s v) || (is_some (d s v) || nat_lt 0 (standing_of x s v).claim)
 
 -- no server is left that has all of the shard, and there was one
 abbrev pub is_bare : OngoingReopening → Documented → ℕ → Bool

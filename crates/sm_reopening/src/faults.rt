@@ -1,14 +1,15 @@
 //! Why a settlement may not be confirmed.
 ghost use Rattle.std.specs.Prelude.{◌≡◌, ◌<◌, ◌≤◌, ◌↔◌, ◌&&◌, ℕ, IfSome, IfErr, true, false, not, is_some, OnOk, OnErr, IsTrue, length};
-ghost use Rattle.sm_server.specs.Cell.{is_absent, is_primary};
+ghost use Rattle.sm_server.specs.Cell.{is_absent, is_primary, is_secondary};
 ghost use Rattle.sm_placement.specs.Layout.{place_of};
 ghost use Rattle.sm_placement.specs.Lead.{IsSettled};
 ghost use Rattle.sm_placement.specs.Opening.{first_below, is_handing};
 ghost use Rattle.sm_placement.specs.Setup.{sizes_of};
 ghost use Rattle.sm_network.specs.Reopening.{Confirm, entered};
 ghost use Rattle.sm_network.specs.ReopeningLaws.{Keeps, is_carried};
-ghost use Rattle.sm_reopening.specs.Ongoing.{IsSameButTold, left_out_of, told_positions, past_state, recorded_place, net_reopening, shards_of};
-ghost use Rattle.sm_reopening.specs.Faults.{IsFairAt, IsFairCell, IsFairSlot, IsFaultOf, IsTimely, MayConfirm, is_carried_up, moved_fault};
+ghost use Rattle.sm_reopening.specs.Ongoing.{IsSameButTold, told_positions, past_state, recorded_place, net_reopening, shards_of};
+ghost use Rattle.sm_reopening.specs.Faults.{IsFairAt, IsFairCell, IsFairSlot, IsFaultOf, IsTimely, KeepsSlot, MayConfirm};
+ghost use Rattle.sm_reopening.specs.Faults.{is_appointed, is_barred, is_carried_up, is_stranger, moved_fault};
 ghost use Rattle.sm_reopening.specs.Survivors.{standing_of, stands_above};
 
 use crate::ongoing::OngoingReopening;
@@ -33,11 +34,12 @@ pub enum ConfirmFault {
     CarriedOver { shard: ShardId, server: ServerId },
     /// The server is lost, and would have something of the shard.
     AtLost { shard: ShardId, server: ServerId },
-    /// The document leaves the server out, which has something of the shard.
+    /// The server has something of the shard, and the document leaves it out, or it is no server of the record.
     StillThere { shard: ShardId, server: ServerId },
     /// The server is the shard's primary, and would not be.
     Primary { shard: ShardId, server: ServerId },
-    /// The server's replica of the shard would be dropped, or it would get one. Plans do that.
+    /// The server's replica of the shard would be dropped, or it would get one; or it would become the primary of a shard
+    /// that has none. Plans do that.
     Moved { shard: ShardId, server: ServerId },
     /// The server would be the shard's primary, and another one has a better claim, or more of the writes.
     LowerChoice { shard: ShardId, server: ServerId },
@@ -68,6 +70,13 @@ fn keeps(told: &Cell, next: &Cell) -> bool
             matches!(next, Cell::Primary | Cell::Absent)
         }
     }
+}
+
+/// Whether a secondary becomes the primary.
+fn is_appointed(told: &Cell, next: &Cell) -> bool
+    ensures { result ≡ is_appointed told.now next.now }
+{
+    matches!(told, Cell::Secondary) && matches!(next, Cell::Primary)
 }
 
 /// Returns the fault of a cell that is not kept.
@@ -178,11 +187,33 @@ impl OngoingReopening {
         None
     }
 
-    /// Returns whether a server that is left out has told a cell.
-    fn is_still_there(&self, told: &Cell, server: ServerId) -> bool
-        ensures { result ≡ (left_out_of self.now server && not (is_absent told.now)) }
+    /// Whether a server is no server of the record, and was sent no settle by a reopening that was replaced.
+    fn is_stranger(&self, server: ServerId) -> bool
+        ensures { result ≡ is_stranger self.now server }
     {
-        self.is_left_out(server) && !told.is_absent()
+        let recorded = self.past.config().server_count();
+        recorded > 0 && server.number() >= recorded && !self.was_sent(server)
+    }
+
+    /// Whether a server has to have nothing.
+    fn is_barred(&self, server: ServerId) -> bool
+        ensures { result ≡ is_barred self.now server }
+    {
+        self.is_left_out(server) || self.is_stranger(server)
+    }
+
+    /// Whether a server that has to have nothing has told a cell.
+    fn is_still_there(&self, told: &Cell, server: ServerId) -> bool
+        ensures { result ≡ (is_barred self.now server && not (is_absent told.now)) }
+    {
+        self.is_barred(server) && !told.is_absent()
+    }
+
+    /// Whether a server that told one cell of a shard may be settled with the other one.
+    fn keeps_slot(&self, told: &Cell, next: &Cell, shard: ShardId) -> bool
+        ensures { IsTrue result ↔ KeepsSlot self.now shard told.now next.now }
+    {
+        keeps(told, next) && (!is_appointed(told, next) || self.has_known_lead(shard))
     }
 
     /// Returns what is wrong with the cell of a server and a shard, by what the server has told.
@@ -201,7 +232,7 @@ impl OngoingReopening {
         if self.is_still_there(&slot.cell, server) {
             return Some(ConfirmFault::StillThere { shard, server });
         }
-        if !keeps(&slot.cell, &settled_cell(settlement, shard, server)) {
+        if !self.keeps_slot(&slot.cell, &settled_cell(settlement, shard, server), shard) {
             return Some(moved(&slot.cell, shard, server));
         }
         if needs_primary(&slot.cell, settlement, shard) {

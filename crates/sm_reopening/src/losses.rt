@@ -2,8 +2,9 @@
 ghost use Rattle.std.specs.Prelude.{◌≡◌, None};
 ghost use Rattle.sm_placement.specs.Layout.{grid_of};
 ghost use Rattle.sm_placement.specs.Opening.{first_below};
-ghost use Rattle.sm_reopening.specs.Losses.{has_gone, has_no_slots, has_recorded_part, is_named_lost};
+ghost use Rattle.sm_reopening.specs.Losses.{has_gone, has_lost_settled, has_recorded_part, is_named_lost};
 ghost use Rattle.sm_reopening.specs.Losses.{is_primary_still, may_have_served, may_have_served_any, may_lack_writes};
+ghost use Rattle.sm_reopening.specs.Losses.{is_settled_lost};
 ghost use Rattle.sm_reopening.specs.Ongoing.{net_reopening};
 
 use crate::ongoing::OngoingReopening;
@@ -11,11 +12,39 @@ use crate::proposal::has_part;
 use sm_server::{Cell, Role, ServerId, ShardId};
 
 impl OngoingReopening {
-    /// Whether a server is a shard's primary still, as it has told, or as it is recorded and carried over.
+    /// Whether a server to which a reopening that was replaced has sent a settle has no slots any more.
+    fn has_lost_settled(&self, server: ServerId) -> bool
+        ensures { result ≡ has_lost_settled self.now server }
+    {
+        self.was_sent(server) && self.has_no_slots(server)
+    }
+
+    /// The lowest such server.
+    #[tactic(auto, using(sm_placement::proofs::Searches::find_range_more))]
+    fn first_lost_settled(&self) -> Option<ServerId>
+        ensures { result ≡ first_below (net_reopening self.now).servers (has_lost_settled self.now) }
+    {
+        for number in 0..self.server_count() {
+            if self.has_lost_settled(ServerId::new(number)) {
+                return Some(ServerId::new(number));
+            }
+        }
+        None
+    }
+
+    /// Whether there is one.
+    fn is_settled_lost(&self) -> bool
+        ensures { result ≡ is_settled_lost self.now }
+    {
+        self.first_lost_settled().is_some()
+    }
+
+    /// Whether a server is a shard's primary still, as it has told, or as it is recorded and carried over; and no other
+    /// one may have been primary since.
     fn is_primary_still(&self, shard: ShardId, server: ServerId) -> bool
         ensures { result ≡ is_primary_still self.now shard server }
     {
-        self.standing(shard, server).claim > 3
+        self.standing(shard, server).claim > 3 && (self.was_sent(server) || !self.is_settled_lost())
     }
 
     /// The lowest server that is a shard's primary still.
@@ -69,13 +98,6 @@ impl OngoingReopening {
         self.was_sent(server) || self.past.config().server_count() == 0
     }
 
-    /// Whether a server has no slots any more.
-    fn has_no_slots(&self, server: ServerId) -> bool
-        ensures { result ≡ has_no_slots self.now server }
-    {
-        self.is_lost(server) || self.nonce(server).is_some()
-    }
-
     /// Whether a server that may have served a shard is lost or Unknown, or tells nothing of it.
     fn has_gone(&self, shard: ShardId, server: ServerId) -> bool
         ensures { result ≡ has_gone self.now shard server }
@@ -83,6 +105,7 @@ impl OngoingReopening {
         let is_absent = self.standing(shard, server).claim == 0;
         (self.may_have_served(shard, server) && is_absent)
             || (self.may_have_served_any(server) && self.has_no_slots(server))
+            || self.may_be_first(shard, server)
     }
 
     /// The lowest server that may have served a shard, and is gone.

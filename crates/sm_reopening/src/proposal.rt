@@ -1,10 +1,15 @@
 //! Proposals of what may be settled.
-ghost use Rattle.std.specs.Prelude.{◌≡◌, None, slice_index_or};
+ghost use Rattle.std.specs.Prelude.{◌≡◌, None, not, slice_index_or};
 ghost use Rattle.sm_placement.specs.Layout.{grid_of};
 ghost use Rattle.sm_placement.specs.Lead.{has_part};
 ghost use Rattle.sm_placement.specs.Opening.{first_below};
-ghost use Rattle.sm_reopening.specs.Ongoing.{net_reopening};
-ghost use Rattle.sm_reopening.specs.Proposal.{IsProposedPrimary, had_something, has_told_part, has_told_replica, has_whole, is_bare, is_primary_role, has_replica_role, is_silent_heir, keeps_replica, leads_shard, primary_of, proposed_cell, role_counted};
+ghost use Rattle.sm_server.specs.Cell.{is_absent};
+ghost use Rattle.sm_reopening.specs.Ongoing.{net_reopening, recorded_place};
+ghost use Rattle.sm_reopening.specs.Proposal.{IsProposedPrimary, had_something, has_known_lead, has_no_slots, has_replica_role};
+ghost use Rattle.sm_reopening.specs.Proposal.{has_told_part, has_told_replica, has_whole, holds_replica, is_bare};
+ghost use Rattle.sm_reopening.specs.Proposal.{is_documented, is_held, is_led, is_primary_role, is_recorded_empty};
+ghost use Rattle.sm_reopening.specs.Proposal.{is_silent_heir, keeps_replica, leads_shard, may_be_first, primary_of};
+ghost use Rattle.sm_reopening.specs.Proposal.{proposed_cell, role_counted};
 
 use crate::ongoing::OngoingReopening;
 use crate::party::{FoundSlot, Membership};
@@ -104,26 +109,90 @@ impl OngoingReopening {
         self.documented_role(documented, shard, server)
     }
 
-    /// Returns whether a server makes its shard one with a primary.
-    fn leads(&self, documented: &[Option<Role>], shard: ShardId, server: ServerId) -> bool
-        ensures { result ≡ leads_shard self.now (grid_of (net_reopening self.now).servers None documented.now) shard server }
+    /// Whether a server is recorded, or has told, that it has a part in a shard's lead.
+    fn leads(&self, shard: ShardId, server: ServerId) -> bool
+        ensures { result ≡ leads_shard self.now shard server }
     {
-        has_part(&self.recorded_cell(shard, server))
-            || has_told_part(self.slot(shard, server))
-            || is_primary_role(self.documented_role(documented, shard, server))
+        has_part(&self.recorded_cell(shard, server)) || has_told_part(self.slot(shard, server))
     }
 
-    /// Returns the lowest server that makes a shard one with a primary.
+    /// The lowest such server.
     #[tactic(auto, using(sm_placement::proofs::Searches::find_range_more))]
-    fn first_leading(&self, documented: &[Option<Role>], shard: ShardId) -> Option<ServerId>
-        ensures { result ≡ first_below (net_reopening self.now).servers (leads_shard self.now (grid_of (net_reopening self.now).servers None documented.now) shard) }
+    fn first_leading(&self, shard: ShardId) -> Option<ServerId>
+        ensures { result ≡ first_below (net_reopening self.now).servers (leads_shard self.now shard) }
     {
         for number in 0..self.server_count() {
-            if self.leads(documented, shard, ServerId::new(number)) {
+            if self.leads(shard, ServerId::new(number)) {
                 return Some(ServerId::new(number));
             }
         }
         None
+    }
+
+    /// Whether a shard has a lead.
+    pub(crate) fn has_known_lead(&self, shard: ShardId) -> bool
+        ensures { result ≡ has_known_lead self.now shard }
+    {
+        self.first_leading(shard).is_some()
+    }
+
+    /// Whether a server holds a replica of a shard, as it has told, or as it is recorded and carried over.
+    fn holds_replica(&self, shard: ShardId, server: ServerId) -> bool
+        ensures { result ≡ holds_replica self.now shard server }
+    {
+        (self.is_carried(server) && is_replica(&self.recorded_cell(shard, server)))
+            || has_told_replica(self.slot(shard, server))
+    }
+
+    /// The lowest server that holds a replica of a shard.
+    #[tactic(auto, using(sm_placement::proofs::Searches::find_range_more))]
+    fn first_holder(&self, shard: ShardId) -> Option<ServerId>
+        ensures { result ≡ first_below (net_reopening self.now).servers (holds_replica self.now shard) }
+    {
+        for number in 0..self.server_count() {
+            if self.holds_replica(shard, ServerId::new(number)) {
+                return Some(ServerId::new(number));
+            }
+        }
+        None
+    }
+
+    /// Whether some server holds a replica of a shard.
+    fn is_held(&self, shard: ShardId) -> bool
+        ensures { result ≡ is_held self.now shard }
+    {
+        self.first_holder(shard).is_some()
+    }
+
+    /// The lowest server that the document has as a shard's primary.
+    #[tactic(auto, using(sm_placement::proofs::Searches::find_range_more))]
+    fn first_documented(&self, documented: &[Option<Role>], shard: ShardId) -> Option<ServerId>
+        ensures { result ≡ first_below (net_reopening self.now).servers
+            (λ v. is_primary_role (grid_of (net_reopening self.now).servers None documented.now shard v)) }
+    {
+        for number in 0..self.server_count() {
+            let server = ServerId::new(number);
+            if is_primary_role(self.documented_role(documented, shard, server)) {
+                return Some(server);
+            }
+        }
+        None
+    }
+
+    /// Whether the document has a primary for a shard.
+    fn is_documented(&self, documented: &[Option<Role>], shard: ShardId) -> bool
+        ensures { result
+            ≡ is_documented self.now (grid_of (net_reopening self.now).servers None documented.now) shard }
+    {
+        self.first_documented(documented, shard).is_some()
+    }
+
+    /// Whether a shard gets a primary.
+    fn is_led(&self, documented: &[Option<Role>], shard: ShardId) -> bool
+        ensures { result ≡ is_led self.now (grid_of (net_reopening self.now).servers None documented.now) shard }
+    {
+        self.has_known_lead(shard)
+            || (!self.is_held(shard) && self.is_documented(documented, shard))
     }
 
     /// Returns the lowest Unknown server that the document has as a shard's primary.
@@ -146,7 +215,7 @@ impl OngoingReopening {
         ensures proposed { IsProposedPrimary self.now (grid_of (net_reopening self.now).servers None documented.now) shard result }
         ensures exact { result ≡ primary_of self.now (grid_of (net_reopening self.now).servers None documented.now) shard }
     {
-        if self.first_leading(documented, shard).is_none() {
+        if !self.is_led(documented, shard) {
             return None;
         }
         let heir = self.heir(shard);
@@ -160,10 +229,7 @@ impl OngoingReopening {
     fn keeps_replica(&self, documented: &[Option<Role>], shard: ShardId, server: ServerId) -> bool
         ensures { result ≡ keeps_replica self.now (grid_of (net_reopening self.now).servers None documented.now) shard server }
     {
-        let is_recorded = self.is_carried(server) && is_replica(&self.recorded_cell(shard, server));
-        is_recorded
-            || has_told_replica(self.slot(shard, server))
-            || self.role_counted(documented, shard, server).is_some()
+        self.holds_replica(shard, server) || self.role_counted(documented, shard, server).is_some()
     }
 
     /// Returns the cell that is proposed for a server, if the shard goes to this primary.
@@ -209,11 +275,50 @@ impl OngoingReopening {
         None
     }
 
-    /// Returns whether a server has, or had, something of a shard.
+    /// Whether a server has no slots any more: it is lost, or Unknown.
+    pub(crate) fn has_no_slots(&self, server: ServerId) -> bool
+        ensures { result ≡ has_no_slots self.now server }
+    {
+        self.is_lost(server) || self.nonce(server).is_some()
+    }
+
+    /// The lowest server that is recorded with something of a shard.
+    #[tactic(auto, using(sm_placement::proofs::Searches::find_range_more))]
+    fn first_recorded(&self, shard: ShardId) -> Option<ServerId>
+        ensures { result ≡ first_below (net_reopening self.now).servers
+            (λ v. not (is_absent ((recorded_place self.now).cells shard v))) }
+    {
+        for number in 0..self.server_count() {
+            let server = ServerId::new(number);
+            if !self.recorded_cell(shard, server).is_absent() {
+                return Some(server);
+            }
+        }
+        None
+    }
+
+    /// Whether a shard is recorded, and nobody has something of it.
+    fn is_recorded_empty(&self, shard: ShardId) -> bool
+        ensures { result ≡ is_recorded_empty self.now shard }
+    {
+        shard.number() < self.past.config().shard_count() && self.first_recorded(shard).is_none()
+    }
+
+    /// Whether a server may have been a shard's first primary, which nobody has recorded.
+    pub(crate) fn may_be_first(&self, shard: ShardId, server: ServerId) -> bool
+        ensures { result ≡ may_be_first self.now shard server }
+    {
+        server.number() < self.past.config().server_count()
+            && self.has_no_slots(server)
+            && self.is_recorded_empty(shard)
+    }
+
+    /// Whether a server has, had, or may have had something of a shard.
     fn had_something(&self, documented: &[Option<Role>], shard: ShardId, server: ServerId) -> bool
         ensures { result ≡ had_something self.now (grid_of (net_reopening self.now).servers None documented.now) shard server }
     {
         !self.recorded_cell(shard, server).is_absent()
+            || self.may_be_first(shard, server)
             || self.documented_role(documented, shard, server).is_some()
             || self.standing(shard, server).claim > 0
     }

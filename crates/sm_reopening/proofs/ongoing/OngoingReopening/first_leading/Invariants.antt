@@ -2,11 +2,10 @@ use Rattle.std.proofs.Common.{◌≡◌, ◌-◌}
 use Rattle.std.specs.List.{find, range_with_len}
 use Rattle.sm_placement.specs.Opening.{first_below}
 use Rattle.sm_reopening.specs.Ongoing.{net_reopening}
-use Rattle.std.specs.Prelude.{None}
-use Rattle.sm_placement.specs.Layout.{grid_of}
 use Rattle.sm_reopening.specs.Proposal.{leads_shard}
 use Rattle.sm_reopening.proofs.ongoing.OngoingReopening.first_leading.Given as goal
 
 abbrev pub invariant-loop-number : goal.invariant-loop-number
 invariant-loop-number l =
-    find (leads_shard l.self (grid_of (net_reopening l.self).servers None l.documented) l.shard) (range_with_len l.number ((net_reopening l.self).servers - l.number)) ≡ first_below ((net_reopening l.self).servers) (leads_shard l.self (grid_of (net_reopening l.self).servers None l.documented) l.shard)
+    find (leads_shard l.self l.shard) (range_with_len l.number ((net_reopening l.self).servers - l.number))
+    ≡ first_below ((net_reopening l.self).servers) (leads_shard l.self l.shard)

@@ -17,14 +17,14 @@ none_found : (o : Option ℕ) → is_some o ≡ false → o ≡ None
 none_found None e = refl
 none_found (Some x) e = absurd (cc)
 
-pub returns-then-is_none-clause-proposed : goal.returns-then-is_none-clause-proposed
-returns-then-is_none-clause-proposed c =
-    let led = sym (ap is_some c.first_leading.ensures) ∙ c.is_none.ensures ∙ ap not c.if-is_none.true in
+pub returns-then-not-is_led-clause-proposed : goal.returns-then-not-is_led-clause-proposed
+returns-then-not-is_led-clause-proposed c =
+    let led = sym c.is_led.ensures ∙ c.if-not-is_led.true in
     record { heir = λ u l i. absurd (let z = sym led ∙ l in cc); documented = λ l n. absurd (let z = sym led ∙ l in cc); none = λ e. refl }
 
 pub returns-then-is_some-clause-proposed : goal.returns-then-is_some-clause-proposed
 returns-then-is_some-clause-proposed c =
-    let led = sym (ap is_some c.first_leading.ensures) ∙ c.is_none.ensures ∙ ap not c.if-is_none.false in
+    let led = sym c.is_led.ensures ∙ c.if-not-is_led.false in
     let some : is_some c.heir-heir.result ≡ true = sym c.is_some.ensures ∙ c.if-is_some.true in
     record {
       heir = λ u l i. is_heir c.args.self.now c.args.shard u c.heir-heir.result c.heir-heir.ensures.heir some i;
@@ -34,7 +34,7 @@ returns-then-is_some-clause-proposed c =
 
 pub returns-clause-proposed : goal.returns-clause-proposed
 returns-clause-proposed c =
-    let led = sym (ap is_some c.first_leading.ensures) ∙ c.is_none.ensures ∙ ap not c.if-is_none.false in
+    let led = sym c.is_led.ensures ∙ c.if-not-is_led.false in
     let nobody : c.heir-heir.result ≡ None = none_found c.heir-heir.result (sym c.is_some.ensures ∙ c.if-is_some.false) in
     record {
       heir = λ u l i. absurd (let n = c.heir-heir.ensures.none.0 nobody u in let k = i.claims in omega arith);
@@ -51,16 +51,16 @@ or_some : (o other : Option ℕ) → is_some o ≡ true → first_or o other ≡
 or_some (Some u) other e = refl
 or_some None other e = absurd (cc)
 
-pub returns-then-is_none-clause-exact : goal.returns-then-is_none-clause-exact
-returns-then-is_none-clause-exact c =
-    let led = sym (ap is_some c.first_leading.ensures) ∙ c.is_none.ensures ∙ ap not c.if-is_none.true in
+pub returns-then-not-is_led-clause-exact : goal.returns-then-not-is_led-clause-exact
+returns-then-not-is_led-clause-exact c =
+    let led = sym c.is_led.ensures ∙ c.if-not-is_led.true in
     sym (by_lead c.args.self.now (grid_of (net_reopening c.args.self.now).servers None c.args.documented.now) c.args.shard false led)
 
 pub returns-then-is_some-clause-exact : goal.returns-then-is_some-clause-exact
 returns-then-is_some-clause-exact c =
     let x : OngoingReopening = c.args.self.now in
     let d : Documented = grid_of (net_reopening x).servers None c.args.documented.now in
-    let led = sym (ap is_some c.first_leading.ensures) ∙ c.is_none.ensures ∙ ap not c.if-is_none.false in
+    let led = sym c.is_led.ensures ∙ c.if-not-is_led.false in
     let some : is_some c.heir-heir.result ≡ true = sym c.is_some.ensures ∙ c.if-is_some.true in
     let heir = heir_exact x c.args.shard c.heir-heir.result c.heir-heir.ensures.heir c.heir-heir.ensures.none.0 in
     sym (by_lead x d c.args.shard true led ∙ ap (λ o. first_or o (documented_primary x d c.args.shard)) (sym heir) ∙ or_some c.heir-heir.result (documented_primary x d c.args.shard) some)
@@ -69,7 +69,7 @@ pub returns-clause-exact : goal.returns-clause-exact
 returns-clause-exact c =
     let x : OngoingReopening = c.args.self.now in
     let d : Documented = grid_of (net_reopening x).servers None c.args.documented.now in
-    let led = sym (ap is_some c.first_leading.ensures) ∙ c.is_none.ensures ∙ ap not c.if-is_none.false in
+    let led = sym c.is_led.ensures ∙ c.if-not-is_led.false in
     let nobody : c.heir-heir.result ≡ None = none_found c.heir-heir.result (sym c.is_some.ensures ∙ c.if-is_some.false) in
     let heir = heir_exact x c.args.shard c.heir-heir.result c.heir-heir.ensures.heir c.heir-heir.ensures.none.0 in
     c.documented_primary.ensures ∙ sym (by_lead x d c.args.shard true led ∙ ap (λ o. first_or o (documented_primary x d c.args.shard)) (sym heir ∙ nobody))
