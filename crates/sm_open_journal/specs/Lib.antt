@@ -3,6 +3,7 @@ pub mod Bits
 pub mod Calls
 pub mod Cells
 pub mod Copies
+pub mod Document
 pub mod Failed
 pub mod Given
 pub mod History

@@ -40,8 +40,8 @@ fn write_permit(
 }
 
 impl Opened {
-    /// Returns the permit under which a server is down, if it is.
-    fn permit_of(&self, server: ServerId) -> Option<u64>
+    /// The permit under which a server is down, if it is.
+    pub(crate) fn permit_of(&self, server: ServerId) -> Option<u64>
         ensures { result ≡ permit_of self.now.driver.permits server }
     {
         self.driver

@@ -11,7 +11,7 @@ use sm_server::{ServerId, ShardId};
 use std::alloc::AllocError;
 
 /// Whether a server has a shard's data.
-fn has_data(placement: &Placement, server: ServerId, shard: ShardId) -> bool
+pub fn has_data(placement: &Placement, server: ServerId, shard: ShardId) -> bool
     ensures { result ≡ has_data placement.now.setup (place_of placement.now) server shard }
 {
     match owner_of(placement, shard) {

@@ -15,6 +15,7 @@ use Rattle.sm_commands.specs.declared.command.Question.{Question}
 use Rattle.sm_commands.specs.declared.command.Question.TheVariants as question
 use Rattle.sm_open_journal.specs.declared.opened.Opened.{Opened}
 use Rattle.sm_open_journal.specs.Bits.{bits_member, hexadecimal}
+use Rattle.sm_open_journal.specs.Document.{document_member}
 use Rattle.sm_open_journal.specs.Failed.{failed_member}
 use Rattle.sm_open_journal.specs.Messages.{orders_member}
 use Rattle.sm_open_journal.specs.Notices.{carried_member}
@@ -104,8 +105,8 @@ TellsFailed id number answer None None before after = TellsRefused before after
 
 -- ---- questions
 
--- The reply to a question. What `document`, `state`, `audit`, `moves` and `drain` are told is tested alone: the functions of sm_open_journal that write
--- documents, states and audits promise no text, and a plan that is made is written by way of its text.
+-- The reply to a question. What `state`, `audit`, `moves` and `drain` are told is tested alone: the functions of sm_open_journal that write states and
+-- audits promise no text, and a plan that is made is written by way of its text.
 abbrev pub TellsAnswer : Question → Session → List Token → List Token → Type 0
 TellsAnswer question.Hello s before after = after ≡ before ++ object_member (codes "hello") (hello_members s)
 TellsAnswer question.Orders s before after = after ≡ before ++ all_orders s.opened s.under_way
@@ -113,7 +114,7 @@ TellsAnswer question.Map s before after = TellsOf s.opened (λ o before after. a
 TellsAnswer (question.Since place) s before after =
     TellsOf s.opened (λ o before after. after ≡ before ++ since_member o (is_some s.under_way) s.place place) before after
 TellsAnswer (question.State _) s before after = Unit {0}
-TellsAnswer question.Document s before after = Unit {0}
+TellsAnswer question.Document s before after = TellsOf s.opened (λ o before after. after ≡ before ++ document_member o) before after
 TellsAnswer (question.InForce (plans.Check plan)) s before after =
     TellsOf (journal_in_force s) (λ o. TellsCheck o.driver.machine (view plan.now)) before after
 TellsAnswer (question.InForce (plans.Failed plan stream number answer)) s before after =

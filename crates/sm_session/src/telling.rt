@@ -78,7 +78,9 @@ impl Session {
     }
 
     /// Writes the service as a document.
-    fn tell_document(&self, alloc: Global, writer: &mut Writer) -> Result<(), AllocError> {
+    fn tell_document(&self, alloc: Global, writer: &mut Writer) -> Result<(), AllocError>
+        ensures { OnOk result (TellsAnswer asked.Document self.now writer.old.tokens writer.new.tokens) }
+    {
         match &self.opened {
             Some(opened) => write_document(opened, writer),
             None => self.refuse_closed(alloc, writer),
