@@ -217,7 +217,7 @@ given_step f g h a servers replicas n x s v l is before now =
 
 -- ---- what is confirmed
 
--- a settlement that is confirmed has what was chosen, if its placement does
+-- a confirmed settlement has the cells that were chosen, if the placement that was to be confirmed has them
 pub confirmed_as : {A : Type 0} (old new : ReopeningModel) (chosen : List Choice) (place : Place) (result : Result A ConfirmRefusal) →
     OnOk result ((s : Settlement) × MayConfirm old.ongoing s × (net_reopening new.ongoing ≡ entered (Confirm s) (net_reopening old.ongoing)) × (s.place ≡ place)) →
     IsAsChosen old chosen place →

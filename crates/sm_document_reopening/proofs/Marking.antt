@@ -1,9 +1,9 @@
 -- Marks by number, and the numbers that are marked.
-use Rattle.std.proofs.Common.{◌≡◌, ◌≢◌, ◌∙◌, ◌+◌, ◌<◌, ◌∷◌, ◌++◌, [], ℕ, Bool, true, false, List, length, get_or, set, map, sym, ap, arith, refl, inl, inr, take}
+use Rattle.std.proofs.Common.{◌≡◌, ◌≢◌, ◌∙◌, ◌+◌, ◌<◌, ◌∷◌, ◌++◌, [], ℕ, Bool, true, false, List, length, set, map, sym, ap, arith, refl, inl, inr}
 use Rattle.std.specs.Prelude.{◌==◌, ◌||◌, slice_index_or}
 use Rattle.std.specs.List.{filter, range_with_len}
 use Rattle.std.proofs.lemmas.Bool.{cases_eq, cases_Bool, eq-eqb, ne_eqb}
-use Rattle.std.proofs.lemmas.List.{get_or-set_same, append-nil, get_or-set_other, map-append, map-id, take_more}
+use Rattle.std.proofs.lemmas.List.{get_or-set_same, append-nil, get_or-set_other, map-append, map-id}
 use Rattle.std.proofs.lemmas.List.Elements.{filter-append}
 use Rattle.std.proofs.lemmas.List.FromFn.{map-range_with_len_more}
 
@@ -46,13 +46,6 @@ kept_passed p n xs is fails = is ∙ sym (append-nil (filter p (range_with_len 0
   where
     left : (p : ℕ → Bool) (n : ℕ) → p n ≡ false → filter p (n ∷ []) ≡ []
     left p n e = rw e refl
-
--- those that pass of a list's first items, and of the next one
-pub kept_next : {A : Type 0} (p : A → Bool) (xs ys zs : List A) (n : ℕ) (x : A) → n < length xs → x ≡ get_or xs n x → ys ≡ filter p (take n xs) →
-    zs ≡ ys ++ filter p (x ∷ []) → zs ≡ filter p (take (n + 1) xs)
-kept_next {A} p xs ys zs n x l is before now =
-    now ∙ ap (λ (ks : List A). ks ++ filter p (x ∷ [])) before ∙ sym (filter-append p (take n xs) (x ∷ []))
-    ∙ ap (λ (k : A). filter p (take n xs ++ k ∷ [])) is ∙ ap (filter p) (sym (take_more xs n x l))
 
 -- the same under a function: n is added
 pub made_pushed : {A : Type 0} (g : ℕ → A) (p : ℕ → Bool) (n : ℕ) (xs ys : List A) → xs ≡ map g (filter p (range_with_len 0 n)) → p n ≡ true → ys ≡ xs ++ g n ∷ [] → ys ≡ map g (filter p (range_with_len 0 (n + 1)))

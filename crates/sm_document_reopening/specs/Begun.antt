@@ -33,7 +33,7 @@ pub record IsGround (numbered document : Setup) (g : Ground) : Type 0 where
   pub named_servers : AreNumbered (names_of_servers g.numbering) g.servers.items (names_of_servers document)
   pub named_shards : AreNumbered (names_of_shards g.numbering) g.shards.items (names_of_shards document)
 
--- a reopening of all that is numbered, of which nothing is confirmed
+-- a reopening of all that is numbered, with nothing confirmed
 pub record IsBegun (document : Setup) (epoch : ℕ) (b : Begun) : Type 0 where
   pub servers : length b.ground.numbering.servers ≡ (net_reopening b.ongoing).servers
   pub shards : length b.ground.numbering.shards ≡ shards_of b.ongoing

@@ -1,4 +1,4 @@
--- The confirmed roles: those that are proposed, but for the shards of which an operator has chosen others.
+-- The confirmed roles: those that an operator has chosen for some shards, and those that are proposed for the others.
 -- `role_assigned`, `given_too` and `roles_with` are internal: you need not read them for the public contracts.
 use Rattle.std.specs.Prelude.{◌≡◌, ◌<◌, ℕ, ◌&&◌, ◌==◌, Bool, List, [], ◌∷◌, Option, Some, None, length, option_map, slice_get, if◌then◌else◌}
 use Rattle.std.specs.Option.{option_map_or, option_or}

@@ -27,9 +27,9 @@ documented_roles r = grid_of (net_reopening r.ongoing).servers None r.documented
 abbrev pub proposed_primary : ReopeningModel → ℕ → Option ℕ
 proposed_primary r s = primary_of r.ongoing (documented_roles r) s
 
--- the shards of the document that the proposal names as lost
+-- the shards that the proposal names as lost: those that the document leaves out, too
 abbrev pub lost_shards : ReopeningModel → List ℕ
-lost_shards r = filter (is_named_lost r.ongoing (documented_roles r)) (document_shards r)
+lost_shards r = filter (is_named_lost r.ongoing (documented_roles r)) (range_with_len 0 (length r.numbering.shards))
 
 -- one shard is among others
 abbrev pub is_shard_among : List ℕ → ℕ → Bool

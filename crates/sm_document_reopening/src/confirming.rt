@@ -163,7 +163,7 @@ impl DocumentReopening {
         Ok((settlement, next))
     }
 
-    /// The roles that are proposed, but for the shards of which others were chosen.
+    /// The roles that were chosen for some shards, and those that are proposed for the others.
     fn chosen_roles(&self, alloc: Global, chosen: &[Choice]) -> Result<Roles, AllocError>
         ensures { IfOk result (λ roles. (s v : ℕ)
             → s < length self.now.numbering.shards → v < length self.now.numbering.servers

@@ -48,7 +48,8 @@ pub struct ShortFloor {
 #[derive(Drop)]
 pub struct Proposal {
     pub(crate) roles: Roles,
-    /// The shards of the document of which no server is left that has all, or that may lack acknowledged writes.
+    /// The shards that may lack acknowledged writes, or that no server is left with all of. Those that the document
+    /// leaves out may be among them.
     pub lost: Vec<ShardId>,
     pub floors: Vec<ShortFloor>,
     /// The servers that have not answered, and stay as they are recorded.
@@ -156,24 +157,15 @@ impl DocumentReopening {
         Ok(())
     }
 
-    /// The shards, of these, that are named as lost.
-    fn lost_among(&self, alloc: Global, shards: &[ShardId]) -> Result<Vec<ShardId>, AllocError>
-        ensures { IfOk result (λ lost.
-            lost.items ≡ filter (is_named_lost self.now.ongoing (documented_roles self.now)) shards.now) }
-    {
-        let mut lost = Vec::new(alloc);
-        for shard in shards {
-            self.push_lost(&mut lost, *shard)?;
-        }
-        Ok(lost)
-    }
-
-    /// The shards of the document that are named as lost, in the order of their numbers.
+    /// The shards that are named as lost, in the order of their numbers: those that the document leaves out, too.
     pub fn lost_shards(&self, alloc: Global) -> Result<Vec<ShardId>, AllocError>
         ensures { IfOk result (λ lost. lost.items ≡ lost_shards self.now) }
     {
-        let shards = self.shards_in_order(alloc)?;
-        self.lost_among(alloc, &shards)
+        let mut lost = Vec::new(alloc);
+        for number in 0..self.numbering.shard_count() {
+            self.push_lost(&mut lost, ShardId::new(number))?;
+        }
+        Ok(lost)
     }
 
     /// Returns the first shard that the proposal names as lost and that is not named here, or otherwise that is named

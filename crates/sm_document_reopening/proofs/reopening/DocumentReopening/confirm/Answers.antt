@@ -1,4 +1,4 @@
--- What is confirmed has the roles that were chosen.
+-- The confirmed settlement has the cells of the roles that were chosen.
 use Rattle.std.proofs.Common.{◌∙◌, ap}
 use Rattle.sm_placement.specs.Layout.{place_of}
 use Rattle.sm_document_reopening.specs.Roles.{cell_by_role}

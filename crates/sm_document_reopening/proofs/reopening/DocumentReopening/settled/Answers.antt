@@ -1,4 +1,4 @@
--- A reopening of which a party has taken its settle is one.
+-- A reopening stays one when a party has taken its settle.
 use Rattle.std.proofs.Common.{◌≡◌, ◌∙◌, ap, inl, inr}
 use Rattle.sm_network.specs.Reopening.{Took, entered}
 use Rattle.sm_reopening.specs.Ongoing.{net_reopening}
