@@ -2,7 +2,8 @@
 SHELL := bash
 .SHELLFLAGS := -e -o pipefail -c
 .DEFAULT_GOAL := help
-.PHONY: help run try build agent vectors test edits page-test storm bench install uninstall dist deb cluster cluster-storm postgresql bench-postgresql check-caught check-program check-tests
+.PHONY: help run try build agent vectors test edits page-test storm bench install uninstall dist deb cluster cluster-storm postgresql bench-postgresql
+.PHONY: check-edits check-rattle check-caught check-program check-tools check-tests
 
 PREFIX ?= /usr/local
 
@@ -70,20 +71,22 @@ test: ## the gate, in more than an hour: all proofs from nothing, all tests, wro
 	cp crates/smplan/out/smplan build/smplan
 	cp crates/smpland/out/smpland build/smpland
 	scripts/build/keep-verdict build/rt.log
-	scripts/check/rattle
-	scripts/edits/try-edits --edits tests/must-fail --until "$$(($$(date +%s) + 240))"
-	$(MAKE) --jobs=2 --output-sync=line check-caught check-program check-tests
+	$(MAKE) --jobs=2 --output-sync=line check-edits check-rattle
+	$(MAKE) --jobs=2 --output-sync=line check-program check-tests check-tools check-caught
 	@if [ -s build/left-out ]; then echo "This machine lacks something, so that tests were left out:"; sort -u build/left-out; else echo "No test was left out."; fi
 
-# (wrong versions that only tests catch, of which none is begun after eight minutes: `make edits` tries all; the scripts over the program that
-# stands in build; and those over tests)
+# (the parts run two at a time. Of wrong versions none is begun after four minutes: `make edits` tries all)
+check-edits:
+	scripts/edits/try-edits --edits tests/must-fail --until "$$(($$(date +%s) + 240))"
+
+check-rattle:
+	scripts/check/rattle
+
 check-caught:
-	scripts/edits/caught-by-tests --until "$$(($$(date +%s) + 480))"
+	scripts/edits/caught-by-tests --until "$$(($$(date +%s) + 240))"
 
 check-program:
 	scripts/test program
-	scripts/check/readme
-	scripts/test driving_model data_model
 	scripts/check/smpland-model build/smplan build/smpland -
 	scripts/check/driver-example
 	scripts/check/smpland
@@ -91,15 +94,19 @@ check-program:
 	scripts/check/smpland-faults 10
 	scripts/check/early
 	scripts/check/command-line
+	scripts/check/memory
+	scripts/check/threads
+	scripts/check/storm 20
+	build/board_trials-unproved looks check
+
+check-tools:
+	scripts/check/readme
+	scripts/test driving_model data_model
 	scripts/test python
 	scripts/check/dist
 	scripts/check/deb
 	scripts/check/pages --or-leave-out
 	scripts/check/cluster
-	scripts/check/memory
-	scripts/check/threads
-	scripts/check/storm 20
-	build/board_trials-unproved looks check
 
 check-tests:
 	$(MAKE) agent vectors
