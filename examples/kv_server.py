@@ -72,13 +72,14 @@ class Server(Store):
         except (OSError, KeyError):
             return LOST
 
-    def replicate(self, shard, but=0):
-        """Whether all that is here is at each live replica, at `copies` with this one, and in a handover at the old owner, live or not."""
+    def replicate(self, shard, but=0, named=()):
+        """Whether all that is here is at each live replica, at `copies` with this one, and, live or not, at the named ones and in a handover at the old
+        owner."""
         mine, old = self.mark(shard), self.slot(shard).party or self.old_owner(shard)
         told = {it: self.ask(it, "pull", shard, self.number, self.reopened()) for it in self.peers if it not in (self.number, but)}
         marks = [it for it in told.values() if it not in (None, LOST)]
         is_copied = all(it == mine for it in marks) and agent.copied(self.copies, mine, marks, mine.position)
-        return is_copied and (old in (0, but) or told.get(old) == mine)
+        return is_copied and all(told.get(it) == mine for it in {*named, old} - {0, but})
 
     # -- orders
 
@@ -130,7 +131,7 @@ class Server(Store):
         if order.call == Call.DROP:
             return self.has_leave(shard)
         if order.call == Call.CHANGE:
-            return self.has_greatest(shard) if order.new_role == Role.PRIMARY else self.replicate(shard)
+            return self.has_greatest(shard) if order.new_role == Role.PRIMARY else self.replicate(shard, named=self.replicas(shard)[1])
         begins = order.call == Call.ADD and order.role == Role.PRIMARY and self.slot(shard).cell == Cell.ABSENT
         return not begins or not self.replicas(shard)[1]
 

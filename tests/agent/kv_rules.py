@@ -395,7 +395,7 @@ class ComparesPositions(Server):
 def change_of_a_returned_one(kind):
     a, b, c = returned(kind)
     with lost(a, "pull"):
-        want(answered(b, order(101, Call.CHANGE, role=Role.PRIMARY, new_role=Role.SECONDARY, fence=100)), True)
+        want(answered(b, order(101, Call.DROP, fence=100)), True)
     answered(a, order(102, Call.CHANGE, role=Role.SECONDARY, new_role=Role.PRIMARY, fence=100))
     want(a.value(SHARD, "j"), "z")
 
@@ -419,6 +419,22 @@ def change_beside_a_new_disk(kind):
     change = order(20, Call.CHANGE, role=Role.SECONDARY, new_role=Role.PRIMARY)
     c.order(SHARD, change, 0, (2, 3))
     want(c.work(SHARD, change), False)
+
+
+class LeavesTheSilentBehind(Server):
+    """Becomes a secondary though a replica that does not answer lacks a write."""
+    def replicate(self, shard, but=0, named=()):
+        return super().replicate(shard, but)
+
+
+def change_beside_a_silent_one(kind):
+    """The write is acknowledged without the silent one. Afterwards nobody serves, from whom that could take it."""
+    a, b, c = three(kind)
+    push(a, "r1", "x")
+    change = order(5, Call.CHANGE, role=Role.PRIMARY, new_role=Role.SECONDARY)
+    with lost(c, "pull"):
+        want((push(a, "r2", "y"), answered(a, change)), ("xy", False))
+    want((a.work(SHARD, change), c.value(SHARD, "k")), (True, "xy"))
 
 
 class GoesOnAnywhere(Server):
@@ -563,7 +579,7 @@ def lost_disk(kind):
 
 class AcknowledgesAlone(Server):
     """Acknowledges a write as soon as it is executed."""
-    def replicate(self, shard, but=0):
+    def replicate(self, shard, but=0, named=()):
         return True
 
 
@@ -579,9 +595,9 @@ def lost_for_good(kind):
 
 class AsksForOne(Server):
     """Acknowledges a write that nobody else has, though more copies are asked for."""
-    def replicate(self, shard, but=0):
+    def replicate(self, shard, but=0, named=()):
         wanted, self.copies = self.copies, 1
-        has_all = super().replicate(shard, but)
+        has_all = super().replicate(shard, but, named)
         self.copies = wanted
         return has_all
 
@@ -676,7 +692,7 @@ RULES = ((CommitsFirst, crash_amid_copy), (KeepsTheRest, late_after_settle), (Fo
          (IgnoresTheCut, write_under_way), (TakesBehindTheCut, crash_behind_the_cut), (GivesBelowItsCut, new_disk_below_the_cut),
          (DropsAtOnce, drop_without_its_primary), (GivesLeaveAnyway, drop_below_the_cut), (TakesAnyLeave, leave_comes_late),
          (TellsWhileItAsks, written_while_it_asks), (WaitsForever, both_are_dropped), (GoesOnFromItsCache, dropped_and_added),
-         (ComparesPositions, change_of_a_returned_one), (TakesNoneForLess, change_beside_a_new_disk),
+         (ComparesPositions, change_of_a_returned_one), (TakesNoneForLess, change_beside_a_new_disk), (LeavesTheSilentBehind, change_beside_a_silent_one),
          (GoesOnAnywhere, follower_of_another_list), (DeletesWhatItBringsBack, only_copy_comes_back),
          (BeginsBeside, first_primary_beside_a_secondary), (KeepsWork, crash_and_repeat), (DeletesAtDrop, late_order), (ComesBackEmpty, lost_state),
          (KeepsItsNonce, given_up), (TakesWhatItLost, lost_disk), (AcknowledgesAlone, lost_for_good), (AsksForOne, acknowledged_at_one),
