@@ -76,7 +76,7 @@ class Documents:
         less of them, or other rooms and loads."""
         rare = 0 if is_careful else 1
         servers = [dict(it) for it in document["servers"] if it["name"] not in lost and not self.chance(0.08 * rare)]
-        shards = [dict(it) for it in document["shards"] if not self.chance(0.06 * rare)]
+        shards = [dict(it) for it in document["shards"] if not self.chance(self.often_left_out(rows.get(it["name"], []), lost, rare))]
         has = {it["name"] for it in servers} | set(lost)
         servers += [self.server(it) for it in SERVERS if it not in has and self.chance(0.15)]
         named = {it["name"] for it in shards}
@@ -95,11 +95,17 @@ class Documents:
         told = limits | {"servers": servers, "shards": shards}
         return self.bent(told) if self.chance(0.1 * rare) else told
 
+    def often_left_out(self, row: list[Json], lost: list[str], rare: int) -> float:
+        """Returns how often a document leaves out a shard with these cells: more often if all of them are lost."""
+        return 0.3 if row and all(it["server"] in lost for it in row) else 0.06 * rare
+
     def change_shard(self, shard: Json, rows: dict[str, list[Json]], servers: set[str], often: float) -> None:
         """Gives a shard the cells that are recorded, or others, and other numbers now and then."""
         cells = rows.get(shard["name"], shard["cells"]) if self.chance(0.7) else shard["cells"]
         kept = [{"server": it["server"], "state": it["state"]} for it in cells if it["server"] in servers]
         shard["cells"] = [it for it in kept if it["state"] in ("primary", "secondary")]
+        if shard["cells"] and self.chance(0.3) and all(it["state"] == "secondary" for it in shard["cells"]):
+            shard["cells"][0]["state"] = "primary"
         shard["listed"] = next((it["server"] for it in shard["cells"] if it["state"] == "primary"), None)
         if self.chance(0.1):
             shard |= {"want": self.dice.randint(0, 3), "cap": 0}

@@ -99,10 +99,10 @@ class Reopenings:
         if server is None:
             return line
         number = controller.numbering.server_numbers.get(server, -1)
-        is_recorded = controller.record is not None and number in controller.record.document.servers
-        if self.chance(0.15 if is_recorded or controller.record is None else 0.9):
+        is_stranger = controller.record is not None and number not in controller.record.document.servers
+        if self.chance((0.9 if self.is_careful else 0.5) if is_stranger else 0.15):
             return line | {"unknown": f"{self.dice.randrange(1, 2**64):x}"}
-        error = 0 if self.is_careful else self.dice.choice([0, 0, 0.1, 0.4])
+        error = 0 if self.is_careful else self.dice.choice([0, 0.4, 0.4] if is_stranger else [0, 0, 0.1, 0.4])
         return line | {"slots": self.slots.of(server, error, is_asked=True)}
 
     def settled(self) -> Json:

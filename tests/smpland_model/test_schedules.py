@@ -64,6 +64,8 @@ class Pair:
             # (there the two look at faults in another order)
             case.assertIn("refused", found)
             expected = found
+        if self.has_other_primary(expected, found):
+            raise Divergence
         self.leave_open(expected, found)
         what = f"{command} -> {outcome.reply}; {json.dumps(line)} -> {told}"
         case.assertEqual(expected, self.same_permit(found), what)
@@ -77,6 +79,16 @@ class Pair:
         """Returns the shards that nobody serves while a server is down: it has their data."""
         record = self.model.record
         return sorted(shard_name(it) for it in range(len(record.cells)) if owner_of(record.lead(it)) == server)
+
+    def has_other_primary(self, expected: dict, found: dict) -> bool:
+        """Returns whether the model makes a secondary the primary of a shard that lines leave without one: nobody has
+        told, or is recorded with, a part in its lead."""
+        if "proposal" not in expected or "proposal" not in found:
+            return False
+        rows = list(zip(expected["proposal"]["cells"], found["proposal"]["cells"]))
+        controller = self.session.controller
+        numbers = [controller.numbering.shard_numbers[shard_name(it)] for it in range(len(rows))]
+        return any(ours != theirs and not controller.reopening.is_led(it) for it, (ours, theirs) in zip(numbers, rows))
 
     def leave_open(self, expected: dict, found: dict) -> None:
         """Takes shards for which both propose no primary out of those that are lost: the model names them, though a

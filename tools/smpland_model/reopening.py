@@ -1,7 +1,8 @@
 """A reopening as the crate sm_reopening has it: who inherits a shard, what is proposed, and why cells may not be settled.
 
-Over the model's it has two things more. A shard whose primary is lost goes to a secondary even if the document names no
-primary for it. And no replica comes or goes by a reopening, but at servers that are Unknown.
+Over the model's it has more. A shard whose primary is lost goes to a secondary even if the document names no primary
+for it, and one without a lead gets none. No replica comes or goes by a reopening, but at servers that are Unknown. A
+server that was given up has to be empty before it is back. And more shards are named as lost.
 """
 from __future__ import annotations
 
@@ -90,14 +91,22 @@ class NamedReopening(Reopening):
         is_unknown = isinstance(self.inventories.get(server), Unknown)
         return self.document.cells[shard][server] if is_unknown else ABSENT
 
+    def has_lead(self, shard: int) -> bool:
+        """Returns whether a server has a part in the shard's lead, as it is recorded or has told."""
+        recorded = [self.recorded(shard, it) for it in self.servers]
+        told = [slot.cell for it in self.servers if (slot := self.told(shard, it))]
+        return any(it not in (ABSENT, SECONDARY) for it in recorded + told)
+
+    def has_replica(self, shard: int) -> bool:
+        """Returns whether a server has told that it has a replica of the shard, or is silent and recorded with one."""
+        silent = [self.recorded(shard, it) for it in self.servers if self.is_silent(it)]
+        told = [slot.cell for it in self.servers if (slot := self.told(shard, it))]
+        return any(it in (PRIMARY, SECONDARY) for it in silent + told)
+
     def is_led(self, shard: int) -> bool:
-        """Returns whether the shard is one that has a primary, by the record, by what was told, or by the document."""
-        for server in self.servers:
-            slot = self.told(shard, server)
-            cells = [self.recorded(shard, server)] + ([slot.cell] if slot else [])
-            if any(it not in (ABSENT, SECONDARY) for it in cells) or self.document.cells[shard][server] == PRIMARY:
-                return True
-        return False
+        """Returns whether the shard is to have a primary: it has a lead, or else nobody has a replica, and the document
+        names a primary. Secondaries without a lead do not show which of them has each write, so none is chosen."""
+        return self.has_lead(shard) or (PRIMARY in self.document.cells[shard] and not self.has_replica(shard))
 
     def heir_of(self, shard: int) -> int | None:
         """Returns the server that is proposed as the shard's primary."""
@@ -131,12 +140,12 @@ class NamedReopening(Reopening):
         return SECONDARY if any(it in (PRIMARY, SECONDARY) for it in replicas) else ABSENT
 
     def propose(self, choice: int = 0) -> Proposal:
-        """Returns what may be confirmed. Shards that the document leaves out are to be nowhere."""
+        """Returns what may be confirmed. Shards that the document leaves out are to be nowhere, and may be lost too."""
         cells = [(ABSENT,) * len(self.servers)] * len(self.document.loads)
         for shard in self.shards:
             heir = self.heir_of(shard)
             cells[shard] = tuple(self.proposed(shard, it, heir) for it in self.servers)
-        lost = tuple(it for it in self.shards if self.is_named_lost(it))
+        lost = tuple(it for it in range(len(self.document.loads)) if self.is_named_lost(it))
         return Proposal(self.base, tuple(cells), lost, self.short_floors(cells), tuple(self.missing))
 
     def is_bare(self, survey: object, shard: int, heir: int | None) -> bool:
@@ -144,9 +153,14 @@ class NamedReopening(Reopening):
         standings = [self.standing(shard, it)[0] for it in self.servers]
         cells = [(self.recorded(shard, it), self.document.cells[shard][it]) for it in self.servers]
         has_been = any(it != (ABSENT, ABSENT) for it in cells)
+        has_been = has_been or any(self.may_be_first(shard, it) for it in self.servers)
         return max(standings, default=0) < 2 and (has_been or max(standings, default=0) > 0)
 
     # What may be lost: a primary may have acknowledged writes alone.
+
+    def has_no_slots(self, server: int) -> bool:
+        """Returns whether a server has its slots no more: it is lost, or Unknown."""
+        return server in self.lost or isinstance(self.inventories.get(server), Unknown)
 
     def may_have_served(self, shard: int, server: int) -> bool:
         """Returns whether a server may have served a shard, as it is recorded: it has a part in the shard's lead, or is
@@ -156,23 +170,51 @@ class NamedReopening(Reopening):
             return all(self.recorded(shard, it) in (ABSENT, SECONDARY) for it in self.servers)
         return cell != ABSENT
 
+    def may_be_first(self, shard: int, server: int) -> bool:
+        """Returns whether a server that has its slots no more may have become the first primary of a recorded shard of
+        which nobody is recorded to have anything: an order to add it there may have been carried out unanswered."""
+        if self.record is None or shard >= len(self.record.cells) or server >= len(self.record.document.rooms):
+            return False
+        return self.has_no_slots(server) and all(it == ABSENT for it in self.record.cells[shard])
+
     def has_gone(self, shard: int, server: int) -> bool:
-        """Returns whether a server that may have served a shard is lost or Unknown, or tells nothing of it. Any shard may
-        have been served by one to which a replaced reopening sent a settle, and by each if nothing is recorded."""
-        if self.may_have_served(shard, server) and self.standing(shard, server)[0] == 0:
+        """Returns whether a server that may have served a shard is lost or Unknown, or tells nothing of it. Any shard
+        may have been served by one that a replaced reopening sent a settle, and by each if nothing is recorded."""
+        has_served = self.may_have_served(shard, server) and self.standing(shard, server)[0] == 0
+        if has_served or self.may_be_first(shard, server):
             return True
-        has_no_slots = server in self.lost or isinstance(self.inventories.get(server), Unknown)
-        return has_no_slots and (server in self.already_settled or self.record is None)
+        return self.has_no_slots(server) and (server in self.already_settled or self.record is None)
+
+    def has_lost_settled(self) -> bool:
+        """Returns whether a server to which a replaced reopening sent a settle has its slots no more."""
+        return any(self.has_no_slots(it) for it in self.already_settled)
+
+    def is_primary_still(self, shard: int, server: int) -> bool:
+        """Returns whether a server is the shard's primary, and no other one can have followed it. One that has its
+        slots no more may have, by a settle of a replaced reopening, unless this one was sent a settle too."""
+        is_alone = server in self.already_settled or not self.has_lost_settled()
+        return self.standing(shard, server)[0] > 3 and is_alone
 
     def is_named_lost(self, shard: int) -> bool:
-        """Returns whether the proposal names a shard as lost: no server is left that has all of it; or it has no primary,
-        and one that may have served it is gone."""
+        """Returns whether the proposal names a shard as lost: no server is left that has all of it; or it has no
+        primary that surely is still one, and one that may have served it is gone."""
         if self.is_bare(None, shard, None):
             return True
-        claims = [self.standing(shard, it)[0] for it in self.servers]
-        return max(claims, default=0) in (2, 3) and any(self.has_gone(shard, it) for it in self.servers)
+        best = max((self.standing(shard, it)[0] for it in self.servers), default=0)
+        is_served = any(self.is_primary_still(shard, it) for it in self.servers)
+        return best >= 2 and not is_served and any(self.has_gone(shard, it) for it in self.servers)
 
     # What may be settled.
+
+    def is_stranger(self, server: int) -> bool:
+        """Returns whether a server is not recorded, and was sent no settle by a replaced reopening: what it has is from
+        before it was given up, or of another service."""
+        count = len(self.record.document.rooms) if self.record else 0
+        return 0 < count <= server and server not in self.already_settled
+
+    def has_to_be_empty(self, server: int) -> bool:
+        """Returns whether a server may have nothing: the document leaves it out, or it is a stranger."""
+        return server not in self.document.servers or self.is_stranger(server)
 
     def fault_of(self, cells: Cells) -> Refused | None:
         """The model's own test, which `fault` has in other words."""
@@ -208,6 +250,12 @@ class NamedReopening(Reopening):
             for name in names:
                 yield words.own("StillThere", shard=name, server=self.numbering.servers[server])
 
+    def is_kept(self, shard: int, told: Cell, settled: Cell) -> bool:
+        """Returns whether a server that told a cell may be settled with another one. A secondary becomes the primary
+        of a shard only if that has a lead."""
+        is_chosen = told == SECONDARY and settled == PRIMARY
+        return keeps(told, settled) and (not is_chosen or self.has_lead(shard))
+
     def of_cell(self, shard: int, server: int, row: tuple[Cell, ...]) -> str | None:
         """Returns what is wrong with a cell, in one word."""
         if self.is_silent(server) and row[server] != self.recorded(shard, server):
@@ -218,8 +266,8 @@ class NamedReopening(Reopening):
         slot = self.told(shard, server)
         if slot is None:
             return None
-        if server not in self.document.servers and slot.cell != ABSENT:
+        if self.has_to_be_empty(server) and slot.cell != ABSENT:
             return "StillThere"
-        if not keeps(slot.cell, row[server]):
+        if not self.is_kept(shard, slot.cell, row[server]):
             return "Primary" if slot.cell == PRIMARY else "Moved"
         return "NoPrimary" if slot.cell.kind in HANDED and primary_of(row) is None else None
