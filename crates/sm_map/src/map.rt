@@ -191,6 +191,3 @@ impl Words {
         (publisher, pass, entry)
     }
 }
-
-#[cfg(test)]
-mod tests;
