@@ -3,9 +3,6 @@
 
 ghost use Rattle.std.specs.Prelude.{◌≡◌, IfOk, map, string_bytes};
 
-#[cfg(test)]
-mod tests;
-
 use sm_command_line::{LineFault, Word, command_of, report_word};
 use sm_report::Status;
 use std::alloc::{AllocError, Global};
