@@ -49,8 +49,8 @@ agent: ## proves and builds a server's side as a library for C: build/libsm_agen
 	gcc -shared -Wl,--whole-archive build/libsm_agent.a -Wl,--no-whole-archive -o build/libsm_agent.so
 
 vectors: ## writes build/agent-vectors.txt, by which a port to another language is tested (tests/agent/README.md)
-	@mkdir -p build
-	cd crates/agent_vectors && rt run -- 20000 > ../../build/agent-vectors.txt
+	scripts/build/unproved agent_vectors
+	build/agent_vectors-unproved 20000 > build/agent-vectors.txt
 
 ## To change it (docs/CONTRIBUTING.md)
 
