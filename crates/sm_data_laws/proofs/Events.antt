@@ -1,5 +1,5 @@
 -- Each event that is allowed keeps what holds.
-use Rattle.std.proofs.Common.{◌≡◌, ℕ, ◌+◌, ◌<◌, ◌≤◌, inl, inr, Bool, true, false, not, ◌&&◌, List, [], ◌∷◌, ◌++◌, Option, Some, None, is_some, length, refl, sym, ap, ◌∙◌, subst, arith, length-append, if◌then◌else◌}
+use Rattle.std.proofs.Common.{◌≡◌, ℕ, ◌+◌, ◌<◌, ◌≤◌, ◌⊎◌, inl, inr, Bool, true, false, not, ◌&&◌, List, [], ◌∷◌, ◌++◌, Option, Some, None, is_some, length, refl, sym, ap, ◌∙◌, subst, arith, length-append, if◌then◌else◌}
 use Rattle.std.proofs.lemmas.Bool.{and_from, and_parts, cases_Bool, cases_eq, false≢true, not-true, both_ways}
 use Rattle.sm_placement.specs.Sums.{count_below, put}
 use Rattle.sm_placement.proofs.Sums.{put-apart, put-here}
@@ -9,11 +9,11 @@ use Rattle.sm_copies.specs.Lists.{ListEntry, begins, beginning, told_of, view_of
 use Rattle.sm_copies.proofs.Counts.{enough-before}
 use Rattle.sm_copies.proofs.Lists.{begins-last, begins-length, begins-self, begins-shorter, begins-through, begins-whole, empty-or-not, view-behind}
 use Rattle.sm_copies.proofs.Views.{resumes-front}
-use Rattle.sm_data_laws.specs.Shard.{Choice, Event, Acknowledges, Changes, Chooses, Copies, Executes, Follows, Goes, Hands, MayHappen, Joins, Leave, Loses, Lowers, Raises, Removes, Restarts, Shard, Stays, Tells, Hears, NOTHING_HEARD, Word, asked_copies, with_view, counted, left_by, is_copy, lacks, list_of, told}
+use Rattle.sm_data_laws.specs.Shard.{Choice, Event, Acknowledges, Changes, Chooses, Copies, Ends, Executes, Follows, Goes, Hands, MayHappen, Joins, Leave, Loses, Lowers, Raises, Removes, Restarts, Shard, Stays, Succeeds, Tells, Hears, HasNoPrimary, HasPrimary, IsLater, NOTHING_HEARD, Word, asked_copies, with_view, counted, left_by, is_copy, lacks, list_of, told}
 use Rattle.sm_data_laws.proofs.Lists.{copy-is, has-all, lacks-nothing, put-cases}
 use Rattle.sm_data_laws.proofs.Counts.{count-either, count-more, enough-more}
 use Rattle.sm_data_laws.proofs.Growth.{grown-copies, grown-enough, grown-lists, grown-whole}
-use Rattle.sm_data_laws.proofs.Invariant.{IsKept, HasUpTo, IsTrueOf, IsTrueWord, IsWhole, begun-below, greatest-has-all, primary-has-all, true-stays, word-is-true, words-end, words-stay}
+use Rattle.sm_data_laws.proofs.Invariant.{IsKept, HasUpTo, IsTrueOf, IsTrueWord, IsWhole, begun-below, greater-has-all, greatest-has-all, primary-front, primary-has-all, true-stays, word-is-true, words-end, words-stay}
 use Rattle.sm_data_laws.proofs.Told.{told-enough}
 
 -- a whole copy is there
@@ -32,13 +32,18 @@ unheard view list copies s = record { below = omega arith; has = λ v. record { 
     none [] xs l = refl
     none (y ∷ ys) xs l = absurd (omega arith)
 
+-- a shard with a primary has not none
+ends-once : (w : Shard) → HasPrimary w → HasNoPrimary w → ⊥
+ends-once w a b = (let l : w.ended ≤ w.view = a in let m : w.view < w.ended = b in absurd (omega arith))
+
 -- A list grows in its view: the primary executes a write.
 executes : (w : Shard) → IsKept w → (write : ℕ) → MayHappen w (Executes write) → IsKept (left_by w (Executes write))
 executes w k write a =
-    let c = some-copy (w.copies w.primary) a in
+    let c = some-copy (w.copies w.primary) a.0 in
+    let there : HasPrimary w = a.1 in
     let g = list_of (w.copies w.primary) in
     let e : ListEntry = record { view = w.view; write = write } in
-    let same : g ≡ w.lists w.view = list-of (w.copies w.primary) c.0 c.1 ∙ k.front c.0 c.1 in
+    let same : g ≡ w.lists w.view = list-of (w.copies w.primary) c.0 c.1 ∙ primary-front w k c.0 c.1 in
     let is : w.copies w.primary ≡ Some g = c.1 ∙ ap (λ (ys : List ListEntry). Some ys) (sym (list-of (w.copies w.primary) c.0 c.1)) in
     let behind : begins (w.lists w.view) g ≡ true = subst (λ (ys : List ListEntry). begins (w.lists w.view) ys ≡ true) (sym same) (begins-self (w.lists w.view)) in
     let from : begins g (w.lists (view_of g)) ≡ true = k.copies w.primary g is in
@@ -64,10 +69,14 @@ executes w k write a =
     record {
       lists = grown-lists w.lists k.lists w.view g e refl behind from old;
       copies = grown-copies w.lists k.lists w.view g e refl behind from old w.copies w.primary k.copies;
-      front = λ xs h. elim (put-cases w.copies w.primary (Some (g ++ e ∷ [])) w.primary (Some xs) h) [
+      front = λ t xs lead h. elim (put-cases w.copies w.primary (Some (g ++ e ∷ [])) t (Some xs) h) [
         | inl p ↦ (let x : g ++ e ∷ [] ≡ xs = cc in sym x ∙ sym now)
-        | inr p ↦ absurd (p.0 refl)
+        | inr p ↦ elim lead [
+          | inl q ↦ absurd (p.0 q)
+          | inr q ↦ absurd (ends-once w there q.1)
+        ]
       ];
+      earlier = k.earlier;
       unbegun = λ u l. put-apart w.lists w.view (g ++ e ∷ []) u (λ q. absurd (omega arith)) ∙ k.unbegun u l;
       own = ap view_of now ∙ view-behind g e;
       present = (let n : length (put w.lists w.view (g ++ e ∷ []) w.view) ≡ length (g ++ e ∷ []) = ap length now in omega (arith, length-append g (e ∷ [])));
@@ -86,11 +95,11 @@ copy-below w k g b = elim (empty-or-not g) [
 ]
 
 -- A server begins a view as primary, with a copy that has all that is to stay acknowledged.
-begins-view : (w : Shard) → IsKept w → (s v : ℕ) (copy : List ListEntry) → w.copies s ≡ Some copy → w.view < v →
+begins-view : (w : Shard) → IsKept w → (s v : ℕ) (copy : List ListEntry) → w.copies s ≡ Some copy → IsLater w v →
     (replicas leaving : ℕ → Bool) (needed : ℕ) (acknowledged : List ListEntry) → begins acknowledged copy ≡ true → view_of acknowledged ≤ w.view → IsWhole w.lists acknowledged →
     needed ≤ count_below w.servers (λ t. replicas t && (not (leaving t) && not (lacks acknowledged (w.copies t)))) →
     IsKept (record (with_view w s v) { replicas = replicas; leaving = leaving; needed = needed; acknowledged = acknowledged })
-begins-view w k s v copy is later replicas leaving needed acknowledged all low whole enough =
+begins-view w k s v copy is (later, ended) replicas leaving needed acknowledged all low whole enough =
     let g = list_of (w.copies s) in
     let e : ListEntry = beginning v in
     let same : g ≡ copy = list-of (w.copies s) copy is in
@@ -105,10 +114,14 @@ begins-view w k s v copy is later replicas leaving needed acknowledged all low w
     record {
       lists = grown-lists w.lists k.lists v g e refl behind from early;
       copies = grown-copies w.lists k.lists v g e refl behind from early w.copies s k.copies;
-      front = λ xs h. elim (put-cases w.copies s (Some (g ++ e ∷ [])) s (Some xs) h) [
+      front = λ t xs lead h. elim (put-cases w.copies s (Some (g ++ e ∷ [])) t (Some xs) h) [
         | inl p ↦ (let x : g ++ e ∷ [] ≡ xs = cc in sym x ∙ sym now)
-        | inr p ↦ absurd (p.0 refl)
+        | inr p ↦ elim lead [
+          | inl q ↦ absurd (p.0 q)
+          | inr q ↦ (let l : v < w.ended = q.1 in absurd (omega arith))
+        ]
       ];
+      earlier = k.earlier;
       unbegun = λ u l. put-apart w.lists v (g ++ e ∷ []) u (λ q. absurd (omega arith)) ∙ k.unbegun u (omega arith);
       own = ap view_of now ∙ view-behind g e;
       present = (let n : length (put w.lists v (g ++ e ∷ []) v) ≡ length (g ++ e ∷ []) = ap length now in omega (arith, length-append g (e ∷ [])));
@@ -126,7 +139,7 @@ copies-anew w k s =
     λ t position old. record {
       bound = old.bound;
       part = λ xs ys h b l. elim (put-cases w.copies s (w.copies w.primary) t (Some xs) h) [
-        | inl p ↦ subst (λ (zs : List ListEntry). begins ys zs ≡ true) (sym (k.front xs p.1)) b
+        | inl p ↦ subst (λ (zs : List ListEntry). begins ys zs ≡ true) (sym (primary-front w k xs p.1)) b
         | inr p ↦ old.part xs ys p.1 b l
       ];
     } in
@@ -136,10 +149,11 @@ copies-anew w k s =
         | inl p ↦ k.copies w.primary xs p.1
         | inr p ↦ k.copies t xs p.1
       ];
-      front = λ xs h. elim (put-cases w.copies s (w.copies w.primary) w.primary (Some xs) h) [
-        | inl p ↦ k.front xs p.1
-        | inr p ↦ k.front xs p.1
+      front = λ t xs lead h. elim (put-cases w.copies s (w.copies w.primary) t (Some xs) h) [
+        | inl p ↦ primary-front w k xs p.1
+        | inr p ↦ k.front t xs lead p.1
       ];
+      earlier = k.earlier;
       unbegun = k.unbegun;
       present = k.present;
       own = k.own;
@@ -150,7 +164,7 @@ copies-anew w k s =
             x,
             y,
             lacks-nothing w.acknowledged (put w.copies s (w.copies w.primary) t) (λ copy q. elim (put-cases w.copies s (w.copies w.primary) t (Some copy) q) [
-              | inl p ↦ subst (λ (ys : List ListEntry). begins w.acknowledged ys ≡ true) (sym (k.front copy p.1)) (primary-has-all w k)
+              | inl p ↦ subst (λ (ys : List ListEntry). begins w.acknowledged ys ≡ true) (sym (primary-front w k copy p.1)) (primary-has-all w k)
               | inr p ↦ has-all w.acknowledged (w.copies t) copy z p.1
             ]),
           ));
@@ -175,7 +189,7 @@ follows : (w : Shard) → IsKept w → (s : ℕ) (list : List ListEntry) → May
 follows w k s list a =
     let copy = a.0 in
     let source = a.1 in
-    let is : source ≡ w.lists w.view = k.front source a.3 in
+    let is : source ≡ w.lists w.view = primary-front w k source a.3 in
     let on : begins copy list ≡ true = goes-on w k s copy source list a.2 is a.4 a.5 a.6 in
     let in-list : begins list (w.lists w.view) ≡ true = subst (λ (ys : List ListEntry). begins list ys ≡ true) is a.5 in
     let own : begins list (w.lists (view_of list)) ≡ true = k.lists.matched w.view list in-list in
@@ -196,17 +210,17 @@ follows w k s list a =
         | inl p ↦ (let x : list ≡ xs = cc in subst (λ (ys : List ListEntry). begins ys (w.lists (view_of ys)) ≡ true) x own)
         | inr p ↦ k.copies t xs p.1
       ];
-      front = λ xs h. elim (put-cases w.copies s (Some list) w.primary (Some xs) h) [
+      front = λ t xs lead h. elim (put-cases w.copies s (Some list) t (Some xs) h) [
         | inl p ↦
             let x : list ≡ xs = cc in
-            let both : Some source ≡ Some copy = sym a.3 ∙ ap w.copies p.0 ∙ a.2 in
-            let same : source ≡ copy = cc in
-            let n : length source ≡ length copy = ap length same in
+            let had : copy ≡ w.lists w.view = k.front t copy lead (ap w.copies p.0 ∙ a.2) in
+            let n : length source ≡ length copy = ap length (is ∙ sym had) in
             let l : length copy ≤ length list = a.6 in
             let m : length list ≤ length source = begins-length list source a.5 in
             sym x ∙ begins-whole list source a.5 (omega arith) ∙ is
-        | inr p ↦ k.front xs p.1
+        | inr p ↦ k.front t xs lead p.1
       ];
+      earlier = k.earlier;
       unbegun = k.unbegun;
       present = k.present;
       own = k.own;
@@ -238,6 +252,7 @@ tells w k s a =
       lists = k.lists;
       copies = k.copies;
       front = k.front;
+      earlier = k.earlier;
       unbegun = k.unbegun;
       present = k.present;
       own = k.own;
@@ -273,6 +288,7 @@ hears-word w k word h = record {
   lists = k.lists;
   copies = k.copies;
   front = k.front;
+  earlier = k.earlier;
   unbegun = k.unbegun;
   present = k.present;
   own = k.own;
@@ -289,22 +305,23 @@ hears w k which a =
 
 -- enough have a beginning of the primary's list that is acknowledged
 acknowledged-enough : (w : Shard) → IsKept w → (list : List ListEntry) → MayHappen w (Acknowledges list) → w.needed ≤ counted w (λ t. not (lacks list (w.copies t)))
-acknowledged-enough w k list (source, position, is, b, view, longer, acked, within) = elim (empty-or-not list) [
+acknowledged-enough w k list (source, position, is, b, view, longer, acked, within, there) = elim (empty-or-not list) [
   | inl e ↦ enough-more w.servers w.needed w.replicas w.leaving (λ t. not (lacks w.acknowledged (w.copies t))) w.replicas w.leaving (λ t. not (lacks list (w.copies t)))
       k.enough (λ t x y z. (x, y, lacks-nothing list (w.copies t) (λ copy q. rw e refl)))
-  | inr some ↦ told-enough w k w.leaving w.needed list (subst (λ (ys : List ListEntry). begins list ys ≡ true) (k.front source is) b)
-      (source, is, enough-before (asked_copies w w.needed) (told_of source) (told w) (length list) position within (acked.have (omega arith)))
+  | inr some ↦ told-enough w k w.leaving w.needed list (subst (λ (ys : List ListEntry). begins list ys ≡ true) (primary-front w k source is) b)
+      (source, is, enough-before (asked_copies w w.needed) (told_of source) (told w) (length list) position within (acked.have (omega arith)), there)
 ]
 
 -- A beginning of the primary's list is acknowledged.
 acknowledges : (w : Shard) → IsKept w → (list : List ListEntry) → MayHappen w (Acknowledges list) → IsKept (left_by w (Acknowledges list))
 acknowledges w k list a =
-    let in-list : begins list (w.lists w.view) ≡ true = subst (λ (ys : List ListEntry). begins list ys ≡ true) (k.front a.0 a.2) a.3 in
+    let in-list : begins list (w.lists w.view) ≡ true = subst (λ (ys : List ListEntry). begins list ys ≡ true) (primary-front w k a.0 a.2) a.3 in
     let v : view_of list ≡ w.view = a.4 in
     record {
       lists = k.lists;
       copies = k.copies;
       front = k.front;
+      earlier = k.earlier;
       unbegun = k.unbegun;
       present = k.present;
       own = k.own;
@@ -329,6 +346,7 @@ joins w k s = record {
   lists = k.lists;
   copies = k.copies;
   front = k.front;
+  earlier = k.earlier;
   unbegun = k.unbegun;
   present = k.present;
   own = k.own;
@@ -346,6 +364,7 @@ stays w k s = record {
   lists = k.lists;
   copies = k.copies;
   front = k.front;
+  earlier = k.earlier;
   unbegun = k.unbegun;
   present = k.present;
   own = k.own;
@@ -363,6 +382,7 @@ leave w k s a = record {
   lists = k.lists;
   copies = k.copies;
   front = k.front;
+  earlier = k.earlier;
   unbegun = k.unbegun;
   present = k.present;
   own = k.own;
@@ -383,12 +403,30 @@ taken-lacks list copies s t h = lacks-nothing list (put copies s None t) (λ cop
 taken-has : (list : List ListEntry) (copies : ℕ → Option (List ListEntry)) (s t position : ℕ) → HasUpTo list copies t position → HasUpTo list (put copies s None) t position
 taken-has list copies s t position old = record { bound = old.bound; part = λ xs ys h b l. old.part xs ys (taken copies s t xs h) b l }
 
+-- who has lost its copy leads no more
+taken-front : (w : Shard) → IsKept w → (s t : ℕ) (xs : List ListEntry) → (t ≡ w.primary) ⊎ ((put w.former s 0 t ≡ w.ended) × HasNoPrimary w) →
+    put w.copies s None t ≡ Some xs → xs ≡ w.lists w.view
+taken-front w k s t xs lead h = elim (put-cases w.copies s None t (Some xs) h) [
+  | inl p ↦ absurd (let e : None ≡ Some xs = p.1 in cc)
+  | inr p ↦ elim lead [
+    | inl q ↦ k.front t xs (inl q) p.1
+    | inr q ↦ k.front t xs (inr (sym (put-apart w.former s 0 t p.0) ∙ q.0, q.1)) p.1
+  ]
+]
+
+taken-earlier : (w : Shard) → IsKept w → (s t : ℕ) → put w.former s 0 t ≤ w.ended
+taken-earlier w k s t = elim (cases_eq t s) [
+  | inl q ↦ (let e : put w.former s 0 t ≡ 0 = put-here w.former s 0 t q in omega arith)
+  | inr d ↦ (let e : put w.former s 0 t ≡ w.former t = put-apart w.former s 0 t d in let l : w.former t ≤ w.ended = k.earlier t in omega arith)
+]
+
 -- A server loses its copy.
 loses : (w : Shard) → IsKept w → (s : ℕ) → IsKept (left_by w (Loses s))
 loses w k s = record {
   lists = k.lists;
   copies = λ t xs h. k.copies t xs (taken w.copies s t xs h);
-  front = λ xs h. k.front xs (taken w.copies s w.primary xs h);
+  front = λ t xs lead h. taken-front w k s t xs lead h;
+  earlier = taken-earlier w k s;
   unbegun = k.unbegun;
   present = k.present;
   own = k.own;
@@ -405,7 +443,8 @@ goes : (w : Shard) → IsKept w → (s : ℕ) → MayHappen w (Goes s) → IsKep
 goes w k s a = record {
   lists = k.lists;
   copies = λ t xs h. k.copies t xs (taken w.copies s t xs h);
-  front = λ xs h. k.front xs (taken w.copies s w.primary xs h);
+  front = λ t xs lead h. taken-front w k s t xs lead h;
+  earlier = taken-earlier w k s;
   unbegun = k.unbegun;
   present = k.present;
   own = k.own;
@@ -424,7 +463,14 @@ hands : (w : Shard) → IsKept w → (s : ℕ) → MayHappen w (Hands s) → IsK
 hands w k s a = record {
   lists = k.lists;
   copies = k.copies;
-  front = λ xs h. (let both : Some xs ≡ Some a.0 = sym h ∙ a.2 in let same : xs ≡ a.0 = cc in same ∙ k.front a.0 a.1);
+  front = λ t xs lead h. elim lead [
+    | inl q ↦
+        let both : Some xs ≡ Some a.0 = sym h ∙ ap w.copies q ∙ a.2 in
+        let same : xs ≡ a.0 = cc in
+        same ∙ primary-front w k a.0 a.1
+    | inr q ↦ absurd (ends-once w a.3 q.1)
+  ];
+  earlier = k.earlier;
   unbegun = k.unbegun;
   present = k.present;
   own = k.own;
@@ -439,7 +485,7 @@ hands w k s a = record {
 restarts : (w : Shard) → IsKept w → (v : ℕ) → MayHappen w (Restarts v) → IsKept (left_by w (Restarts v))
 restarts w k v a =
     let c = some-copy (w.copies w.primary) a.0 in
-    let all : begins w.acknowledged c.0 ≡ true = subst (λ (ys : List ListEntry). begins w.acknowledged ys ≡ true) (sym (k.front c.0 c.1)) (primary-has-all w k) in
+    let all : begins w.acknowledged c.0 ≡ true = subst (λ (ys : List ListEntry). begins w.acknowledged ys ≡ true) (sym (primary-front w k c.0 c.1)) (primary-has-all w k) in
     begins-view w k w.primary v c.0 c.1 a.1 w.replicas w.leaving w.needed w.acknowledged all k.below k.whole k.enough
 
 -- The primary asks for more replicas.
@@ -448,6 +494,7 @@ raises w k needed a = record {
   lists = k.lists;
   copies = k.copies;
   front = k.front;
+  earlier = k.earlier;
   unbegun = k.unbegun;
   present = k.present;
   own = k.own;
@@ -464,6 +511,7 @@ lowers w k needed a = record {
   lists = k.lists;
   copies = k.copies;
   front = k.front;
+  earlier = k.earlier;
   unbegun = k.unbegun;
   present = k.present;
   own = k.own;
@@ -480,6 +528,7 @@ removes w k gone needed a = record {
   lists = k.lists;
   copies = k.copies;
   front = k.front;
+  earlier = k.earlier;
   unbegun = k.unbegun;
   present = k.present;
   own = k.own;
@@ -542,6 +591,48 @@ chooses w k c a =
     begins-view w k c.heir c.view copy a.1.copy_is a.1.later c.replicas (λ _. false) c.needed (if c.named then [] else w.acknowledged) all
     (kept-below c.named w.acknowledged w.view k.below) (kept-whole c.named w.lists w.acknowledged k.whole) (omega arith)
 
+-- The primary ceases to be one.
+ends : (w : Shard) → IsKept w → (number : ℕ) → MayHappen w (Ends number) → IsKept (left_by w (Ends number))
+ends w k number a = record {
+  lists = k.lists;
+  copies = k.copies;
+  front = λ t xs lead h. elim lead [
+    | inl q ↦ k.front t xs (inl q) h
+    | inr q ↦ elim (cases_eq t w.primary) [
+      | inl same ↦ k.front t xs (inl same) h
+      | inr d ↦
+          let e : w.former t ≡ number = sym (put-apart w.former w.primary number t d) ∙ q.0 in
+          let l : w.former t ≤ w.ended = k.earlier t in
+          let m : w.ended < number = a.1.1 in
+          absurd (omega arith)
+    ]
+  ];
+  earlier = λ t. elim (cases_eq t w.primary) [
+    | inl q ↦ (let e : put w.former w.primary number t ≡ number = put-here w.former w.primary number t q in omega arith)
+    | inr d ↦
+        let e : put w.former w.primary number t ≡ w.former t = put-apart w.former w.primary number t d in
+        let l : w.former t ≤ w.ended = k.earlier t in
+        let m : w.ended < number = a.1.1 in
+        omega arith
+  ];
+  unbegun = k.unbegun;
+  present = k.present;
+  own = k.own;
+  below = k.below;
+  whole = k.whole;
+  enough = k.enough;
+  heard = k.heard;
+  words = k.words;
+}
+
+-- A replica becomes primary whose copy is no less than that of the former primary.
+succeeds : (w : Shard) → IsKept w → (s v former : ℕ) → MayHappen w (Succeeds s v former) → IsKept (left_by w (Succeeds s v former))
+succeeds w k s v former (copy, kept, is, there, last, greater, later, none) =
+    let same : kept ≡ w.lists w.view = k.front former kept (inr (last, none)) there in
+    let has : begins w.acknowledged kept ≡ true = subst (λ (ys : List ListEntry). begins w.acknowledged ys ≡ true) (sym same) (primary-has-all w k) in
+    let all : begins w.acknowledged copy ≡ true = greater-has-all w k former s kept copy there is has greater in
+    begins-view w k s v copy is later w.replicas w.leaving w.needed w.acknowledged all k.below k.whole k.enough
+
 -- Each event that may happen keeps the invariant.
 pub kept : (w : Shard) → IsKept w → (e : Event) → MayHappen w e → IsKept (left_by w e)
 kept w k (Executes write) a = executes w k write a
@@ -562,3 +653,5 @@ kept w k (Lowers needed) a = lowers w k needed a
 kept w k (Removes gone needed) a = removes w k gone needed a
 kept w k (Changes s v answered) a = changes w k s v answered a
 kept w k (Chooses c) a = chooses w k c a
+kept w k (Ends number) a = ends w k number a
+kept w k (Succeeds s v former) a = succeeds w k s v former a

@@ -7,7 +7,7 @@ use Rattle.sm_copies.specs.declared.order.ToldCopy.{ToldCopy}
 use Rattle.sm_copies.specs.Order.{IsAtLeast}
 use Rattle.sm_copies.specs.Lists.{ListEntry, begins, told_of, view_of}
 use Rattle.sm_copies.proofs.Lists.{begins-length, begins-shorter, begins-through, empty-or-not}
-use Rattle.sm_data_laws.specs.Shard.{IsGreatest, Shard, Word, counted, gone, lacks}
+use Rattle.sm_data_laws.specs.Shard.{HasNoPrimary, IsGreatest, Shard, Word, counted, gone, lacks}
 use Rattle.sm_data_laws.proofs.Lists.{has-all}
 use Rattle.sm_data_laws.proofs.Counts.{count-apart}
 
@@ -38,10 +38,15 @@ pub record IsTrueOf (view : ℕ) (list : List ListEntry) (copies : ℕ → Optio
 abbrev pub IsTrueWord : ℕ → List ListEntry → (ℕ → Option (List ListEntry)) → Word → Type 0
 IsTrueWord view list copies word = IsTrueOf view list copies word.server word.copy
 
+-- Who has the list of the view: the primary, or the last one as long as the shard has none, and that has kept its copy.
+abbrev pub IsLeader : Shard → ℕ → Type 0
+IsLeader w s = (s ≡ w.primary) ⊎ ((w.former s ≡ w.ended) × HasNoPrimary w)
+
 pub record IsKept (w : Shard) : Type 0 where
   pub lists : AreLists w.lists
   pub copies : AreCopies w.lists w.copies
-  pub front : (xs : List ListEntry) → w.copies w.primary ≡ Some xs → xs ≡ w.lists w.view
+  pub front : (s : ℕ) (xs : List ListEntry) → IsLeader w s → w.copies s ≡ Some xs → xs ≡ w.lists w.view
+  pub earlier : (s : ℕ) → w.former s ≤ w.ended
   pub unbegun : (u : ℕ) → w.view < u → w.lists u ≡ []
   pub present : 0 < length (w.lists w.view)
   pub own : view_of (w.lists w.view) ≡ w.view
@@ -54,6 +59,10 @@ pub record IsKept (w : Shard) : Type 0 where
 -- the primary has all that is acknowledged
 pub primary-has-all : (w : Shard) → IsKept w → begins w.acknowledged (w.lists w.view) ≡ true
 primary-has-all w k = k.whole w.view k.present k.below
+
+-- the primary's copy is the list of its view
+pub primary-front : (w : Shard) → IsKept w → (xs : List ListEntry) → w.copies w.primary ≡ Some xs → xs ≡ w.lists w.view
+primary-front w k xs e = k.front w.primary xs (inl refl) e
 
 -- a view that has begun is no later than the primary's
 pub begun-below : (w : Shard) → IsKept w → (u : ℕ) → 0 < length (w.lists u) → u ≤ w.view

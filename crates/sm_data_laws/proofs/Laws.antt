@@ -6,13 +6,13 @@ use Rattle.sm_placement.specs.Sums.{count_below, put}
 use Rattle.sm_placement.proofs.Sums.{put-apart}
 use Rattle.sm_copies.specs.Lists.{ListEntry, begins, beginning, view_of}
 use Rattle.sm_copies.proofs.Lists.{begins-self, begins-shorter, begins-through}
-use Rattle.sm_data_laws.specs.Shard.{Word, with_heard, MayHappenInTurn, Event, Acknowledges, Changes, Chooses, Copies, Executes, Follows, Goes, Hands, MayHappen, IsShardReached, Joins, Leave, Loses, Lowers, Raises, Removes, Restarts, Shard, Stays, Tells, Hears, left_by, lacks, names, new_shard, all_left}
+use Rattle.sm_data_laws.specs.Shard.{Word, with_heard, MayHappenInTurn, Event, Acknowledges, Changes, Chooses, Copies, Ends, Executes, Follows, Goes, Hands, MayHappen, IsShardReached, Joins, Leave, Loses, Lowers, Raises, Removes, Restarts, Shard, Stays, Succeeds, Tells, Hears, left_by, lacks, names, new_shard, all_left}
 use Rattle.sm_data_laws.specs.Laws.{AcknowledgedWritesStay, EnoughHaveThem, GreatestHasAll}
 use Rattle.sm_data_laws.proofs.Lists.{lacks-nothing, put-cases}
 use Rattle.sm_data_laws.proofs.Counts.{count-more}
 use Rattle.sm_data_laws.proofs.Growth.{grown-copies, grown-lists}
 use Rattle.sm_data_laws.proofs.Events.{kept, unheard}
-use Rattle.sm_data_laws.proofs.Invariant.{AreCopies, AreLists, IsKept, greatest-has-all, primary-has-all}
+use Rattle.sm_data_laws.proofs.Invariant.{AreCopies, AreLists, IsKept, greatest-has-all, primary-front, primary-has-all}
 
 -- a new shard
 new-kept : (servers : ℕ) (replicas : ℕ → Bool) (primary needed : ℕ) → needed ≤ count_below servers replicas → IsKept (new_shard servers replicas primary needed)
@@ -26,10 +26,11 @@ new-kept servers replicas primary needed enough =
     record {
       lists = grown-lists (λ _. []) none 0 [] (beginning 0) refl refl refl (omega arith);
       copies = grown-copies (λ _. []) none 0 [] (beginning 0) refl refl refl (omega arith) (λ _. None) primary no-copies;
-      front = λ xs h. elim (put-cases (λ _. None) primary (Some (beginning 0 ∷ [])) primary (Some xs) h) [
+      front = λ s xs lead h. elim (put-cases (λ _. None) primary (Some (beginning 0 ∷ [])) s (Some xs) h) [
         | inl p ↦ (let x : beginning 0 ∷ [] ≡ xs = cc in sym x)
-        | inr p ↦ absurd (p.0 refl)
+        | inr p ↦ absurd (let e : None ≡ Some xs = p.1 in cc)
       ];
+      earlier = λ s. omega arith;
       unbegun = λ u l. put-apart (λ _. []) 0 (beginning 0 ∷ []) u (λ q. absurd (omega arith));
       present = omega arith;
       own = refl;
@@ -60,7 +61,7 @@ stays-acknowledged w k (Follows s list) a n = begins-self w.acknowledged
 stays-acknowledged w k (Tells s) a n = begins-self w.acknowledged
 stays-acknowledged w k (Hears which) a n = subst (λ (o : Option Word). begins w.acknowledged (with_heard w o).acknowledged ≡ true) (sym a.1) (begins-self w.acknowledged)
 stays-acknowledged w k (Acknowledges list) a n =
-    begins-shorter w.acknowledged list a.0 (subst (λ (ys : List ListEntry). begins w.acknowledged ys ≡ true) (sym (k.front a.0 a.2)) (primary-has-all w k)) a.3 a.5
+    begins-shorter w.acknowledged list a.0 (subst (λ (ys : List ListEntry). begins w.acknowledged ys ≡ true) (sym (primary-front w k a.0 a.2)) (primary-has-all w k)) a.3 a.5
 stays-acknowledged w k (Joins s) a n = begins-self w.acknowledged
 stays-acknowledged w k (Leave s) a n = begins-self w.acknowledged
 stays-acknowledged w k (Goes s) a n = begins-self w.acknowledged
@@ -72,6 +73,8 @@ stays-acknowledged w k (Raises needed) a n = begins-self w.acknowledged
 stays-acknowledged w k (Lowers needed) a n = begins-self w.acknowledged
 stays-acknowledged w k (Removes gone needed) a n = begins-self w.acknowledged
 stays-acknowledged w k (Changes s v answered) a n = begins-self w.acknowledged
+stays-acknowledged w k (Ends number) a n = begins-self w.acknowledged
+stays-acknowledged w k (Succeeds s v former) a n = begins-self w.acknowledged
 stays-acknowledged w k (Chooses c) a n = subst (λ (b : Bool). begins w.acknowledged (if b then [] else w.acknowledged) ≡ true) (sym n) (begins-self w.acknowledged)
 
 all-acknowledged : (w : Shard) (es : List Event) → IsKept w → MayHappenInTurn w es → AllByRecursion (λ e. names e ≡ false) es → begins w.acknowledged (all_left es w).acknowledged ≡ true
@@ -87,7 +90,7 @@ acknowledged-writes-stay w es copy r a n is =
     let k : IsKept w = reached-kept w r in
     let l : IsKept (all_left es w) = all-kept w es k a in
     begins-through w.acknowledged (all_left es w).acknowledged copy (all-acknowledged w es k a n)
-    (subst (λ (ys : List ListEntry). begins (all_left es w).acknowledged ys ≡ true) (sym (l.front copy is)) (primary-has-all (all_left es w) l))
+    (subst (λ (ys : List ListEntry). begins (all_left es w).acknowledged ys ≡ true) (sym (primary-front (all_left es w) l copy is)) (primary-has-all (all_left es w) l))
 
 -- enough replicas have them
 pub enough-have-them : EnoughHaveThem

@@ -1,13 +1,62 @@
--- The worked play, step by step.
-use Rattle.std.proofs.Common.{◌≡◌, ℕ, ◌<◌, List, [], ◌∷◌, Some, None, take, zero, suc, refl, subst, arith, inl, inr}
+-- The worked plays, step by step.
+use Rattle.std.proofs.Common.{◌≡◌, ℕ, ◌<◌, List, [], ◌∷◌, ◌++◌, Some, None, zero, suc, refl, subst, arith, inl, inr}
 use Rattle.sm_copies.specs.Order.{IsAtLeast}
 use Rattle.sm_copies.specs.Lists.{ListEntry, beginning, told_of}
-use Rattle.sm_data_laws.specs.Shard.{Shard, all_left}
-use Rattle.sm_data_laws.specs.Plays.{OutlivesItsPrimary, PRIMARY_IS_LOST, SEVEN, THREE}
+use Rattle.sm_data_laws.specs.Shard.{Event, Loses, MayHappenInTurn, Shard, all_left, left_by}
+use Rattle.sm_data_laws.specs.Plays.{FORMER_IS_ASKED, OutlivesItsPrimary, PRIMARY_IS_LOST, SEVEN, SEVEN_IS_WRITTEN, SucceedsItsPrimary, THREE}
+
+-- what is allowed in turn, with what is allowed behind it
+in-turn : (w : Shard) (es fs : List Event) → MayHappenInTurn w es → MayHappenInTurn (all_left es w) fs → MayHappenInTurn w (es ++ fs)
+in-turn w [] fs a b = b
+in-turn w (e ∷ es) fs a b = (a.0, in-turn (left_by w e) es fs a.1 b)
+
+-- the write is executed, followed and acknowledged
+written : MayHappenInTurn THREE SEVEN_IS_WRITTEN
+written = (
+  (refl, omega arith),
+  (
+    (refl, omega arith),
+    (
+      (refl, omega arith),
+      (
+        (
+          beginning 0 ∷ [],
+          beginning 0 ∷ SEVEN ∷ [],
+          refl,
+          refl,
+          (0, record { view = 0; position = 0 }, refl, refl, omega arith),
+          refl,
+          omega arith,
+          omega arith,
+        ),
+        (
+          refl,
+          (
+            (record { server = 1; copy = told_of (beginning 0 ∷ SEVEN ∷ []) }, refl),
+            (
+              (
+                beginning 0 ∷ SEVEN ∷ [],
+                2,
+                refl,
+                refl,
+                refl,
+                omega arith,
+                record { have = λ p. (omega arith, omega arith); greatest = λ other h. h.0 },
+                omega arith,
+                omega arith,
+              ),
+              tt,
+            ),
+          ),
+        ),
+      ),
+    ),
+  ),
+)
 
 -- the shard when its primary is lost
 abbrev LOST : Shard
-LOST = all_left (take 8 PRIMARY_IS_LOST) THREE
+LOST = all_left (SEVEN_IS_WRITTEN ++ Loses 0 ∷ []) THREE
 
 -- server 1 has the greatest copy of those that are left
 greatest : (s : ℕ) (copy : List ListEntry) → s < 3 → LOST.copies s ≡ Some copy → IsAtLeast (told_of (beginning 0 ∷ SEVEN ∷ [])) (told_of copy)
@@ -21,54 +70,48 @@ greatest (suc (suc (suc s))) copy l h = absurd (omega arith)
 -- a write outlives its primary
 pub outlives-its-primary : OutlivesItsPrimary
 outlives-its-primary = record {
-  allowed = (
-    refl,
+  allowed = in-turn THREE SEVEN_IS_WRITTEN PRIMARY_IS_LOST written (
+    tt,
     (
-      refl,
       (
-        refl,
+        beginning 0 ∷ SEVEN ∷ [],
+        record { copy_is = refl; greatest = λ s copy l a h. greatest s copy l h; later = (omega arith, omega arith); needed = omega arith; named = λ n. omega arith },
+      ),
+      tt,
+    ),
+  );
+  has_primary = omega arith;
+  primary = refl;
+  acknowledged = refl;
+  copy = refl;
+}
+
+-- a secondary becomes primary by the former primary's copy
+pub succeeds-its-primary : SucceedsItsPrimary
+succeeds-its-primary = record {
+  allowed = in-turn THREE SEVEN_IS_WRITTEN FORMER_IS_ASKED written (
+    omega arith,
+    (
+      tt,
+      (
+        (refl, (omega arith, omega arith), omega arith),
         (
           (
-            beginning 0 ∷ [],
+            beginning 0 ∷ SEVEN ∷ [],
             beginning 0 ∷ SEVEN ∷ [],
             refl,
             refl,
-            (0, record { view = 0; position = 0 }, refl, refl, omega arith),
             refl,
+            inl refl,
+            (omega arith, omega arith),
             omega arith,
           ),
-          (
-            refl,
-            (
-              (record { server = 1; copy = told_of (beginning 0 ∷ SEVEN ∷ []) }, refl),
-              (
-                (
-                  beginning 0 ∷ SEVEN ∷ [],
-                  2,
-                  refl,
-                  refl,
-                  refl,
-                  omega arith,
-                  record { have = λ p. (omega arith, omega arith); greatest = λ other h. h.0 },
-                  omega arith,
-                ),
-                (
-                  tt,
-                  (
-                    (
-                      beginning 0 ∷ SEVEN ∷ [],
-                      record { copy_is = refl; greatest = λ s copy l a h. greatest s copy l h; later = omega arith; needed = omega arith; named = λ n. omega arith },
-                    ),
-                    tt,
-                  ),
-                ),
-              ),
-            ),
-          ),
+          tt,
         ),
       ),
     ),
   );
+  has_primary = omega arith;
   primary = refl;
   acknowledged = refl;
   copy = refl;

@@ -10,7 +10,7 @@ use Rattle.sm_copies.proofs.Counts.{count-step}
 use Rattle.sm_data_laws.specs.Shard.{HasHeardEnough, Shard, is_counted, lacks, told, told_below}
 use Rattle.sm_data_laws.proofs.Lists.{lacks-nothing}
 use Rattle.sm_data_laws.proofs.Counts.{count-more, count-one-more}
-use Rattle.sm_data_laws.proofs.Invariant.{IsKept}
+use Rattle.sm_data_laws.proofs.Invariant.{IsKept, primary-front}
 
 -- of whom a beginning of the primary's list was heard in its view, that has it
 heard-has : (w : Shard) → IsKept w → (list : List ListEntry) → begins list (w.lists w.view) ≡ true → (s : ℕ) → (w.heard s).view ≡ w.view →
@@ -73,15 +73,15 @@ counted-has r l o h e = (let a = and_parts r l h in and_from r (l && o) a.0 (and
 pub told-enough : (w : Shard) → IsKept w → (leaving : ℕ → Bool) (needed : ℕ) (list : List ListEntry) → begins list (w.lists w.view) ≡ true →
     HasHeardEnough (record w { leaving = leaving }) needed (length list) →
     needed ≤ count_below w.servers (λ t. w.replicas t && (not (leaving t) && not (lacks list (w.copies t))))
-told-enough w k leaving needed list b (source, is, have) =
+told-enough w k leaving needed list b (source, is, have, there) =
     enough-counted (record w { leaving = leaving }) (nat_lt w.primary w.servers && (w.replicas w.primary && not (leaving w.primary))) needed
     (counts (view_of source) (length list)) (λ t. w.replicas t && (not (leaving t) && not (lacks list (w.copies t)))) have.1 others own
   where
     view : view_of source ≡ w.view
-    view = ap view_of (k.front source is) ∙ k.own
+    view = ap view_of (primary-front w k source is) ∙ k.own
 
     has : not (lacks list (w.copies w.primary)) ≡ true
-    has = lacks-nothing list (w.copies w.primary) (λ copy q. subst (λ (ys : List ListEntry). begins list ys ≡ true) (sym (k.front copy q)) b)
+    has = lacks-nothing list (w.copies w.primary) (λ copy q. subst (λ (ys : List ListEntry). begins list ys ≡ true) (sym (primary-front w k copy q)) b)
 
     own : (nat_lt w.primary w.servers && (w.replicas w.primary && not (leaving w.primary))) ≡ true →
         (w.primary < w.servers) × ((w.replicas w.primary && (not (leaving w.primary) && not (lacks list (w.copies w.primary)))) ≡ true)

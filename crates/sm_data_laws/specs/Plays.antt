@@ -1,7 +1,7 @@
--- A worked play: the premises of the laws can be met.
-use Rattle.std.specs.Prelude.{◌≡◌, true, false, List, [], ◌∷◌, Some}
+-- Worked plays: the premises of the laws can be met, and each way to another primary can be gone.
+use Rattle.std.specs.Prelude.{◌≡◌, ℕ, true, false, List, [], ◌∷◌, ◌++◌, Some}
 use Rattle.sm_copies.specs.Lists.{ListEntry, beginning}
-use Rattle.sm_data_laws.specs.Shard.{Event, Acknowledges, Chooses, Copies, Executes, Follows, Hears, Loses, MayHappenInTurn, Shard, Tells, all_left, new_shard}
+use Rattle.sm_data_laws.specs.Shard.{Acknowledges, Chooses, Copies, Ends, Event, Executes, Follows, HasPrimary, Hears, Loses, Lowers, MayHappenInTurn, Shard, Succeeds, Tells, all_left, new_shard}
 
 -- three replicas, of which 0 is primary; two have each write
 abbrev pub THREE : Shard
@@ -11,18 +11,36 @@ THREE = new_shard 3 (λ _. true) 0 2
 abbrev pub SEVEN : ListEntry
 SEVEN = record { view = 0; write = 7 }
 
--- Both secondaries copy the shard. Server 1 follows the write 7, and it is acknowledged; server 2 lags. The primary loses its disk, and a reopening chooses
--- server 1, with nothing named.
+-- Both secondaries copy the shard. Server 1 follows the write 7, and it is acknowledged; server 2 lags.
+abbrev pub SEVEN_IS_WRITTEN : List Event
+SEVEN_IS_WRITTEN =
+    Copies 1 ∷ Copies 2 ∷ Executes 7 ∷ Follows 1 (beginning 0 ∷ SEVEN ∷ []) ∷ Tells 1 ∷ Hears 0
+    ∷ Acknowledges (beginning 0 ∷ SEVEN ∷ []) ∷ []
+
+-- Then the primary loses its disk, and a reopening chooses server 1, with nothing named.
 abbrev pub PRIMARY_IS_LOST : List Event
 PRIMARY_IS_LOST =
-    Copies 1 ∷ Copies 2 ∷ Executes 7 ∷ Follows 1 (beginning 0 ∷ SEVEN ∷ []) ∷ Tells 1 ∷ Hears 0 ∷ Acknowledges (beginning 0 ∷ SEVEN ∷ [])
-    ∷ Loses 0
+    Loses 0
     ∷ Chooses (record { heir = 1; view = 5; replicas = λ _. true; answered = λ _. true; needed = 1; named = false })
     ∷ []
 
--- The play is allowed. The write is acknowledged and with the new primary, which is not the one that executed it.
-pub record OutlivesItsPrimary : Type 0 where
-  pub allowed : MayHappenInTurn THREE PRIMARY_IS_LOST
-  pub primary : (all_left PRIMARY_IS_LOST THREE).primary ≡ 1
-  pub acknowledged : (all_left PRIMARY_IS_LOST THREE).acknowledged ≡ beginning 0 ∷ SEVEN ∷ []
-  pub copy : (all_left PRIMARY_IS_LOST THREE).copies 1 ≡ Some (beginning 0 ∷ SEVEN ∷ beginning 5 ∷ [])
+-- Or one copy is asked for, server 2 loses its disk, and the primary becomes a secondary. Server 1 asks it for its
+-- copy, and becomes primary.
+abbrev pub FORMER_IS_ASKED : List Event
+FORMER_IS_ASKED = Lowers 1 ∷ Loses 2 ∷ Ends 3 ∷ Succeeds 1 5 0 ∷ []
+
+-- A play with these events behind the write is allowed. The write is acknowledged and with the primary, which began a view.
+pub record EndsWithTheWrite (events : List Event) (heir view : ℕ) : Type 0 where
+  pub allowed : MayHappenInTurn THREE (SEVEN_IS_WRITTEN ++ events)
+  pub has_primary : HasPrimary (all_left (SEVEN_IS_WRITTEN ++ events) THREE)
+  pub primary : (all_left (SEVEN_IS_WRITTEN ++ events) THREE).primary ≡ heir
+  pub acknowledged : (all_left (SEVEN_IS_WRITTEN ++ events) THREE).acknowledged ≡ beginning 0 ∷ SEVEN ∷ []
+  pub copy : (all_left (SEVEN_IS_WRITTEN ++ events) THREE).copies heir ≡ Some (beginning 0 ∷ SEVEN ∷ beginning view ∷ [])
+
+-- A write outlives its primary: the new one is not the one that executed it.
+abbrev pub OutlivesItsPrimary : Type 0
+OutlivesItsPrimary = EndsWithTheWrite PRIMARY_IS_LOST 1 5
+
+-- A secondary becomes primary by the former primary's copy, where too few others are left.
+abbrev pub SucceedsItsPrimary : Type 0
+SucceedsItsPrimary = EndsWithTheWrite FORMER_IS_ASKED 1 5

@@ -25,6 +25,7 @@ pub record Shard : Type 0 where
   -- who is a replica, and who of them has leave to go
   pub replicas : ℕ → Bool
   pub leaving : ℕ → Bool
+  -- who is primary, or was the last one
   pub primary : ℕ
   -- the view of the primary, what it has heard of the copy of each server, and how many copies it asks for
   pub view : ℕ
@@ -34,6 +35,10 @@ pub record Shard : Type 0 where
   pub words : List Word
   -- the beginning of the list that is acknowledged
   pub acknowledged : List ListEntry
+  -- the number of the order by which a primary ceased to be one last; and of that by which each server did so,
+  -- as long as it has kept its copy since: 0 for none
+  pub ended : ℕ
+  pub former : ℕ → ℕ
   -- the list of each view as its primary had it; nothing that happens depends on these
   pub lists : ℕ → List ListEntry
 
@@ -81,6 +86,22 @@ pub data Event : Type 0 where
   Changes : (server view : ℕ) (answered : ℕ → Bool) → Event
   -- A reopening chooses another primary.
   Chooses : (choice : Choice) → Event
+  -- The primary ceases to be one, by an order with this number.
+  Ends : (number : ℕ) → Event
+  -- A replica becomes primary by an order, with a view of its own; the former primary has told it its copy.
+  Succeeds : (server view former : ℕ) → Event
+
+-- The shard has a primary: its view began after the last one ended.
+abbrev pub HasPrimary : Shard → Type 0
+HasPrimary w = w.ended ≤ w.view
+
+-- The shard has none since the last one ended.
+abbrev pub HasNoPrimary : Shard → Type 0
+HasNoPrimary w = w.view < w.ended
+
+-- A number is later than all that began a view or ended a primary.
+abbrev pub IsLater : Shard → ℕ → Type 0
+IsLater w number = (w.view < number) × (w.ended < number)
 
 -- how many replicas that do not leave pass a test
 abbrev pub counted : Shard → (ℕ → Bool) → ℕ
@@ -105,7 +126,8 @@ asked_copies w needed = if nat_lt w.primary w.servers && is_counted w w.primary 
 
 -- So many copies have the writes up to a position, by what the primary has heard.
 abbrev pub HasHeardEnough : Shard → ℕ → ℕ → Type 0
-HasHeardEnough w needed position = (source : List ListEntry) × (w.copies w.primary ≡ Some source) × HaveEnough (asked_copies w needed) (told_of source) (told w) position
+HasHeardEnough w needed position = (source : List ListEntry) × (w.copies w.primary ≡ Some source)
+    × HaveEnough (asked_copies w needed) (told_of source) (told w) position × HasPrimary w
 
 -- whether a whole copy lacks something of a list
 abbrev pub lacks : List ListEntry → Option (List ListEntry) → Bool
@@ -130,34 +152,38 @@ IsGreatest w answered heir = (s : ℕ) (copy : List ListEntry) → s < w.servers
 pub record IsChosen (w : Shard) (choice : Choice) (copy : List ListEntry) : Type 0 where
   pub copy_is : w.copies choice.heir ≡ Some copy
   pub greatest : IsGreatest w choice.answered copy
-  pub later : w.view < choice.view
+  pub later : IsLater w choice.view
   pub needed : choice.needed ≤ count_below w.servers (λ s. choice.replicas s && is_copy copy (w.copies s))
   pub named : choice.named ≡ false → gone w choice.answered < w.needed
 
 -- The rules: what may happen.
 abbrev pub MayHappen : Shard → Event → Type 0
-MayHappen w (Executes write) = is_some (w.copies w.primary) ≡ true
-MayHappen w (Copies s) = is_some (w.copies w.primary) ≡ true
+MayHappen w (Executes write) = (is_some (w.copies w.primary) ≡ true) × HasPrimary w
+MayHappen w (Copies s) = (is_some (w.copies w.primary) ≡ true) × HasPrimary w
 MayHappen w (Follows s list) = (copy source : List ListEntry) × (w.copies s ≡ Some copy) × (w.copies w.primary ≡ Some source)
     × Resumes (told_of copy) (views_of source) (length source)
-    × (begins list source ≡ true) × (length copy ≤ length list)
+    × (begins list source ≡ true) × (length copy ≤ length list) × HasPrimary w
 MayHappen w (Tells s) = is_some (w.copies s) ≡ true
 MayHappen w (Hears which) = (word : Word) × (slice_get w.words which ≡ Some word)
 MayHappen w (Acknowledges list) = (source : List ListEntry) × (position : ℕ) × (w.copies w.primary ≡ Some source) × (begins list source ≡ true)
     × (view_of list ≡ w.view) × (length w.acknowledged ≤ length list)
-    × IsAcknowledged (asked_copies w w.needed) (told_of source) (told w) position × (length list ≤ position)
+    × IsAcknowledged (asked_copies w w.needed) (told_of source) (told w) position × (length list ≤ position) × HasPrimary w
 MayHappen w (Joins s) = Unit
 MayHappen w (Leave s) = HasHeardEnough (record w { leaving = put w.leaving s true }) w.needed (length w.acknowledged)
 MayHappen w (Goes s) = w.leaving s ≡ true
 MayHappen w (Stays s) = Unit
 MayHappen w (Loses s) = Unit
-MayHappen w (Hands s) = (copy : List ListEntry) × (w.copies w.primary ≡ Some copy) × (w.copies s ≡ Some copy)
-MayHappen w (Restarts view) = (is_some (w.copies w.primary) ≡ true) × (w.view < view)
+MayHappen w (Hands s) = (copy : List ListEntry) × (w.copies w.primary ≡ Some copy) × (w.copies s ≡ Some copy) × HasPrimary w
+MayHappen w (Restarts view) = (is_some (w.copies w.primary) ≡ true) × IsLater w view × HasPrimary w
 MayHappen w (Raises needed) = HasHeardEnough w needed (length w.acknowledged)
 MayHappen w (Lowers needed) = needed ≤ w.needed
 MayHappen w (Removes gone needed) = needed + count_below w.servers (λ s. w.replicas s && gone s) ≤ w.needed
-MayHappen w (Changes s view answered) = (copy : List ListEntry) × (w.copies s ≡ Some copy) × IsGreatest w answered copy × (w.view < view) × (gone w answered < w.needed)
+MayHappen w (Changes s view answered) = (copy : List ListEntry) × (w.copies s ≡ Some copy) × IsGreatest w answered copy
+    × IsLater w view × (gone w answered < w.needed)
 MayHappen w (Chooses choice) = (copy : List ListEntry) × IsChosen w choice copy
+MayHappen w (Ends number) = (is_some (w.copies w.primary) ≡ true) × IsLater w number × HasPrimary w
+MayHappen w (Succeeds s view former) = (copy kept : List ListEntry) × (w.copies s ≡ Some copy) × (w.copies former ≡ Some kept)
+    × (w.former former ≡ w.ended) × IsAtLeast (told_of copy) (told_of kept) × IsLater w view × HasNoPrimary w
 
 -- the list of a whole copy, empty without one
 abbrev pub list_of : Option (List ListEntry) → List ListEntry
@@ -187,9 +213,9 @@ left_by w (Hears which) = with_heard w (slice_get w.words which)
 left_by w (Acknowledges list) = record w { acknowledged = list }
 left_by w (Joins s) = record w { replicas = put w.replicas s true; leaving = put w.leaving s false; heard = put w.heard s NOTHING_HEARD }
 left_by w (Leave s) = record w { leaving = put w.leaving s true }
-left_by w (Goes s) = record w { replicas = put w.replicas s false; copies = put w.copies s None }
+left_by w (Goes s) = record w { replicas = put w.replicas s false; copies = put w.copies s None; former = put w.former s 0 }
 left_by w (Stays s) = record w { leaving = put w.leaving s false; heard = put w.heard s NOTHING_HEARD }
-left_by w (Loses s) = record w { copies = put w.copies s None }
+left_by w (Loses s) = record w { copies = put w.copies s None; former = put w.former s 0 }
 left_by w (Hands s) = record w { primary = s; heard = λ _. NOTHING_HEARD }
 left_by w (Restarts view) = with_view w w.primary view
 left_by w (Raises needed) = record w { needed = needed }
@@ -202,6 +228,8 @@ left_by w (Chooses choice) = record (with_view w choice.heir choice.view) {
   needed = choice.needed;
   acknowledged = if choice.named then [] else w.acknowledged;
 }
+left_by w (Ends number) = record w { ended = number; former = put w.former w.primary number }
+left_by w (Succeeds s view former) = with_view w s view
 
 -- a whole schedule
 abbrev pub all_left : List Event → Shard → Shard
@@ -232,6 +260,8 @@ new_shard servers replicas primary needed =
       needed = needed;
       words = [];
       acknowledged = [];
+      ended = 0;
+      former = λ _. 0;
       lists = put (λ _. []) 0 (beginning 0 ∷ []);
     }
 

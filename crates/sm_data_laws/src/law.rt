@@ -1,6 +1,6 @@
 //! The laws.
 ghost use Rattle.sm_data_laws.specs.Laws.{AcknowledgedWritesStay, EnoughHaveThem, GreatestHasAll};
-ghost use Rattle.sm_data_laws.specs.Plays.{OutlivesItsPrimary};
+ghost use Rattle.sm_data_laws.specs.Plays.{OutlivesItsPrimary, SucceedsItsPrimary};
 
 /// States that the primary, if it has a whole copy, has every write that was ever acknowledged, whatever happened since, unless a
 /// reopening has named the shard as lost.
@@ -22,4 +22,10 @@ pub fn greatest_copy_has_all()
 /// States that the premises of the laws can be met: in a worked play a write outlives its primary, with nothing named.
 pub fn a_write_outlives_its_primary()
     ensures { OutlivesItsPrimary }
+{}
+
+/// States that a secondary can become primary by the former primary's copy, where too few others are left: so it does
+/// in a worked play.
+pub fn a_secondary_succeeds_its_primary()
+    ensures { SucceedsItsPrimary }
 {}

@@ -4,6 +4,6 @@
 mod law;
 
 pub use law::{
-    a_write_outlives_its_primary, acknowledged_writes_stay, enough_replicas_have_them,
-    greatest_copy_has_all,
+    a_secondary_succeeds_its_primary, a_write_outlives_its_primary, acknowledged_writes_stay,
+    enough_replicas_have_them, greatest_copy_has_all,
 };
