@@ -9,11 +9,11 @@ use Rattle.sm_copies.specs.Lists.{ListEntry, begins, beginning, told_of, view_of
 use Rattle.sm_copies.proofs.Counts.{enough-before}
 use Rattle.sm_copies.proofs.Lists.{begins-last, begins-length, begins-self, begins-shorter, begins-through, begins-whole, empty-or-not, view-behind}
 use Rattle.sm_copies.proofs.Views.{resumes-front}
-use Rattle.sm_data_laws.specs.Shard.{Choice, Event, Acknowledges, Changes, Chooses, Copies, Ends, Executes, Follows, Goes, Hands, MayHappen, Joins, Leave, Loses, Lowers, Raises, Removes, Restarts, Shard, Stays, Succeeds, Tells, Hears, HasNoPrimary, HasPrimary, IsLater, NOTHING_HEARD, Word, asked_copies, with_view, counted, left_by, is_copy, lacks, list_of, told}
+use Rattle.sm_data_laws.specs.Shard.{Choice, Event, Acknowledges, Changes, Chooses, Copies, Ends, Executes, Follows, Goes, Hands, MayHappen, Joins, Leave, Loses, Lowers, Raises, Releases, Removes, Restarts, Shard, Stays, Succeeds, Tells, Hears, HasNoPrimary, HasPrimary, HaveNoLess, IsLater, NOTHING_HEARD, Word, asked_copies, with_view, counted, left_by, is_copy, lacks, list_of, told}
 use Rattle.sm_data_laws.proofs.Lists.{copy-is, has-all, lacks-nothing, put-cases}
 use Rattle.sm_data_laws.proofs.Counts.{count-either, count-more, enough-more}
-use Rattle.sm_data_laws.proofs.Growth.{grown-copies, grown-enough, grown-lists, grown-whole}
-use Rattle.sm_data_laws.proofs.Invariant.{IsKept, HasUpTo, IsTrueOf, IsTrueWord, IsWhole, begun-below, greater-has-all, greatest-has-all, primary-front, primary-has-all, true-stays, word-is-true, words-end, words-stay}
+use Rattle.sm_data_laws.proofs.Growth.{grows, grown-copies, grown-enough, grown-lists, grown-whole}
+use Rattle.sm_data_laws.proofs.Invariant.{IsKept, HasUpTo, IsTrueOf, IsTrueWord, IsWhole, begun-below, greater-has-all, greatest-has-all, is_away, primary-front, primary-has-all, true-stays, word-is-true, words-end, words-more, words-stay}
 use Rattle.sm_data_laws.proofs.Told.{told-enough}
 
 -- a whole copy is there
@@ -25,12 +25,34 @@ list-of : (o : Option (List ListEntry)) (copy : List ListEntry) → o ≡ Some c
 list-of o copy e = ap list_of e
 
 -- nobody was heard yet
-pub unheard : (view : ℕ) (list : List ListEntry) (copies : ℕ → Option (List ListEntry)) (s : ℕ) → IsTrueOf view list copies s NOTHING_HEARD
-unheard view list copies s = record { below = omega arith; has = λ v. record { bound = omega arith; part = λ xs ys e b l. none ys xs l } }
+pub unheard : (ended view : ℕ) (list : List ListEntry) (away : ℕ → Bool) (copies : ℕ → Option (List ListEntry)) (s : ℕ) →
+    (ended ≤ view → 0 ≡ view → away s ≡ false) → IsTrueOf ended view list away copies s NOTHING_HEARD
+unheard ended view list away copies s there = record {
+  below = omega arith;
+  has = λ p v. record { bound = omega arith; begun = ([], refl, omega arith, v); part = λ xs ys e b l. none ys xs l; there = there p v };
+}
   where
     none : (ys xs : List ListEntry) → length ys ≤ 0 → begins ys xs ≡ true
     none [] xs l = refl
     none (y ∷ ys) xs l = absurd (omega arith)
+
+-- who stays away of a view, if those who did before do
+still-there : (view : ℕ) (list : List ListEntry) (away away' : ℕ → Bool) (copies : ℕ → Option (List ListEntry)) → ((s : ℕ) → away s ≡ false → away' s ≡ false) →
+    (s position : ℕ) → HasUpTo view list away copies s position → HasUpTo view list away' copies s position
+still-there view list away away' copies h s position old = record { bound = old.bound; begun = old.begun; part = old.part; there = h s old.there }
+
+-- nothing is true beside what is false
+pub and-none : (b : Bool) → (b && false) ≡ false
+and-none true = refl
+and-none false = refl
+
+-- who is away when that was settled of one server
+away-put : (known leaving : ℕ → Bool) (s : ℕ) (x y : Bool) → (x && y) ≡ false → (t : ℕ) → is_away known leaving t ≡ false →
+    is_away (put known s x) (put leaving s y) t ≡ false
+away-put known leaving s x y h t old = elim (cases_eq t s) [
+  | inl q ↦ ap (λ (z : Bool). z && put leaving s y t) (put-here known s x t q) ∙ ap (λ (z : Bool). x && z) (put-here leaving s y t q) ∙ h
+  | inr d ↦ ap (λ (z : Bool). z && put leaving s y t) (put-apart known s x t d) ∙ ap (λ (z : Bool). known t && z) (put-apart leaving s y t d) ∙ old
+]
 
 -- a shard with a primary has not none
 ends-once : (w : Shard) → HasPrimary w → HasNoPrimary w → ⊥
@@ -47,13 +69,15 @@ executes w k write a =
     let is : w.copies w.primary ≡ Some g = c.1 ∙ ap (λ (ys : List ListEntry). Some ys) (sym (list-of (w.copies w.primary) c.0 c.1)) in
     let behind : begins (w.lists w.view) g ≡ true = subst (λ (ys : List ListEntry). begins (w.lists w.view) ys ≡ true) (sym same) (begins-self (w.lists w.view)) in
     let from : begins g (w.lists (view_of g)) ≡ true = k.copies w.primary g is in
-    let old : view_of g ≤ w.view = k.lists.views w.view g (subst (λ (ys : List ListEntry). begins ys (w.lists w.view) ≡ true) (sym same) (begins-self (w.lists w.view))) in
+    let old-view : view_of g ≤ w.view = k.lists.views w.view g (subst (λ (ys : List ListEntry). begins ys (w.lists w.view) ≡ true) (sym same) (begins-self (w.lists w.view))) in
     let all : begins w.acknowledged g ≡ true = subst (λ (ys : List ListEntry). begins w.acknowledged ys ≡ true) (sym same) (primary-has-all w k) in
     let now : put w.lists w.view (g ++ e ∷ []) w.view ≡ g ++ e ∷ [] = put-here w.lists w.view (g ++ e ∷ []) w.view refl in
     let n : length g ≡ length (w.lists w.view) = ap length same in
     let o : length (put w.lists w.view (g ++ e ∷ []) w.view) ≡ length (g ++ e ∷ []) = ap length now in
-    let longer : (t position : ℕ) → HasUpTo (w.lists w.view) w.copies t position →
-    HasUpTo (put w.lists w.view (g ++ e ∷ []) w.view) (put w.copies w.primary (Some (g ++ e ∷ []))) t position = λ t position old. record {
+    let longer : (t position : ℕ) → HasUpTo w.view (w.lists w.view) (is_away w.known w.leaving) w.copies t position →
+    HasUpTo w.view (put w.lists w.view (g ++ e ∷ []) w.view) (is_away w.known w.leaving) (put w.copies w.primary (Some (g ++ e ∷ []))) t position = λ t position old. record {
+      there = old.there;
+      begun = (let o = old.begun in (o.0, grows w.lists k.lists w.view g e refl behind from old-view w.view o.0 o.1, o.2, o.3));
       bound = (let m : position ≤ length (w.lists w.view) = old.bound in omega (arith, length-append g (e ∷ [])));
       part = λ xs ys h b l. elim (put-cases w.copies w.primary (Some (g ++ e ∷ [])) t (Some xs) h) [
         | inl p ↦ (let x : g ++ e ∷ [] ≡ xs = cc in subst (λ (zs : List ListEntry). begins ys zs ≡ true) (now ∙ x) b)
@@ -67,8 +91,8 @@ executes w k write a =
       ];
     } in
     record {
-      lists = grown-lists w.lists k.lists w.view g e refl behind from old;
-      copies = grown-copies w.lists k.lists w.view g e refl behind from old w.copies w.primary k.copies;
+      lists = grown-lists w.lists k.lists w.view g e refl behind from old-view;
+      copies = grown-copies w.lists k.lists w.view g e refl behind from old-view w.copies w.primary k.copies;
       front = λ t xs lead h. elim (put-cases w.copies w.primary (Some (g ++ e ∷ [])) t (Some xs) h) [
         | inl p ↦ (let x : g ++ e ∷ [] ≡ xs = cc in sym x ∙ sym now)
         | inr p ↦ elim lead [
@@ -81,10 +105,12 @@ executes w k write a =
       own = ap view_of now ∙ view-behind g e;
       present = (let n : length (put w.lists w.view (g ++ e ∷ []) w.view) ≡ length (g ++ e ∷ []) = ap length now in omega (arith, length-append g (e ∷ [])));
       below = k.below;
-      whole = grown-whole w.lists k.lists w.view g e refl behind from old w.acknowledged all k.whole;
-      enough = grown-enough w.lists k.lists w.view g e refl behind from old w.servers w.needed w.replicas w.leaving w.acknowledged w.copies w.primary all k.enough;
-      heard = λ t. true-stays w.view (w.lists w.view) (put w.lists w.view (g ++ e ∷ []) w.view) w.copies (put w.copies w.primary (Some (g ++ e ∷ []))) longer t (w.heard t) (k.heard t);
-      words = words-stay w.view (w.lists w.view) (put w.lists w.view (g ++ e ∷ []) w.view) w.copies (put w.copies w.primary (Some (g ++ e ∷ []))) longer w.words k.words;
+      whole = grown-whole w.lists k.lists w.view g e refl behind from old-view w.acknowledged all k.whole;
+      enough = grown-enough w.lists k.lists w.view g e refl behind from old-view w.servers w.needed w.replicas w.leaving w.acknowledged w.copies w.primary all k.enough;
+      heard = λ t. true-stays w.ended w.view (w.lists w.view) (put w.lists w.view (g ++ e ∷ []) w.view) (is_away w.known w.leaving) (is_away w.known w.leaving) w.copies (put w.copies w.primary (Some (g ++ e ∷ []))) longer t (w.heard t) (k.heard t);
+      words = words-stay w.ended w.view (w.lists w.view) (put w.lists w.view (g ++ e ∷ []) w.view) (is_away w.known w.leaving) (is_away w.known w.leaving) w.copies (put w.copies w.primary (Some (g ++ e ∷ []))) longer w.words k.words;
+      member = k.member;
+      first = k.first;
     }
 
 -- a copy is of a view that has begun, or is empty
@@ -96,10 +122,12 @@ copy-below w k g b = elim (empty-or-not g) [
 
 -- A server begins a view as primary, with a copy that has all that is to stay acknowledged.
 begins-view : (w : Shard) → IsKept w → (s v : ℕ) (copy : List ListEntry) → w.copies s ≡ Some copy → IsLater w v →
-    (replicas leaving : ℕ → Bool) (needed : ℕ) (acknowledged : List ListEntry) → begins acknowledged copy ≡ true → view_of acknowledged ≤ w.view → IsWhole w.lists acknowledged →
+    (replicas leaving known : ℕ → Bool) → ((t : ℕ) → known t ≡ true → leaving t ≡ false → replicas t ≡ true) →
+    (w.ended ≡ 0 → (t : ℕ) → is_away known leaving t ≡ false) →
+    (needed : ℕ) (acknowledged : List ListEntry) → begins acknowledged copy ≡ true → view_of acknowledged ≤ w.view → IsWhole w.lists acknowledged →
     needed ≤ count_below w.servers (λ t. replicas t && (not (leaving t) && not (lacks acknowledged (w.copies t)))) →
-    IsKept (record (with_view w s v) { replicas = replicas; leaving = leaving; needed = needed; acknowledged = acknowledged })
-begins-view w k s v copy is (later, ended) replicas leaving needed acknowledged all low whole enough =
+    IsKept (record (with_view w s v) { replicas = replicas; leaving = leaving; known = known; needed = needed; acknowledged = acknowledged })
+begins-view w k s v copy is (later, ended) replicas leaving known member first needed acknowledged all low whole enough =
     let g = list_of (w.copies s) in
     let e : ListEntry = beginning v in
     let same : g ≡ copy = list-of (w.copies s) copy is in
@@ -128,16 +156,21 @@ begins-view w k s v copy is (later, ended) replicas leaving needed acknowledged 
       below = omega arith;
       whole = grown-whole w.lists k.lists v g e refl behind from early acknowledged has whole;
       enough = grown-enough w.lists k.lists v g e refl behind from early w.servers needed replicas leaving acknowledged w.copies s has enough;
-      heard = unheard v (put w.lists v (g ++ e ∷ []) v) (put w.copies s (Some (g ++ e ∷ [])));
-      words = words-end w.view v (w.lists w.view) (put w.lists v (g ++ e ∷ []) v) w.copies (put w.copies s (Some (g ++ e ∷ []))) later w.words k.words;
+      heard = λ t. unheard w.ended v (put w.lists v (g ++ e ∷ []) v) (is_away known leaving) (put w.copies s (Some (g ++ e ∷ []))) t (λ p z. absurd (omega arith));
+      words = words-end w.ended w.view v (w.lists w.view) (put w.lists v (g ++ e ∷ []) v) (is_away w.known w.leaving) (is_away known leaving) w.copies
+          (put w.copies s (Some (g ++ e ∷ []))) later w.words k.words;
+      member = member;
+      first = first;
     }
 
 -- A server has another copy of all that the primary has.
 copies-anew : (w : Shard) → IsKept w → (s : ℕ) → IsKept (left_by w (Copies s))
 copies-anew w k s =
-    let more : (t position : ℕ) → HasUpTo (w.lists w.view) w.copies t position → HasUpTo (w.lists w.view) (put w.copies s (w.copies w.primary)) t position =
-    λ t position old. record {
+    let more : (t position : ℕ) → HasUpTo w.view (w.lists w.view) (is_away w.known w.leaving) w.copies t position →
+    HasUpTo w.view (w.lists w.view) (is_away w.known w.leaving) (put w.copies s (w.copies w.primary)) t position = λ t position old. record {
       bound = old.bound;
+      begun = old.begun;
+      there = old.there;
       part = λ xs ys h b l. elim (put-cases w.copies s (w.copies w.primary) t (Some xs) h) [
         | inl p ↦ subst (λ (zs : List ListEntry). begins ys zs ≡ true) (sym (primary-front w k xs p.1)) b
         | inr p ↦ old.part xs ys p.1 b l
@@ -168,8 +201,10 @@ copies-anew w k s =
               | inr p ↦ has-all w.acknowledged (w.copies t) copy z p.1
             ]),
           ));
-      heard = λ t. true-stays w.view (w.lists w.view) (w.lists w.view) w.copies (put w.copies s (w.copies w.primary)) more t (w.heard t) (k.heard t);
-      words = words-stay w.view (w.lists w.view) (w.lists w.view) w.copies (put w.copies s (w.copies w.primary)) more w.words k.words;
+      heard = λ t. true-stays w.ended w.view (w.lists w.view) (w.lists w.view) (is_away w.known w.leaving) (is_away w.known w.leaving) w.copies (put w.copies s (w.copies w.primary)) more t (w.heard t) (k.heard t);
+      words = words-stay w.ended w.view (w.lists w.view) (w.lists w.view) (is_away w.known w.leaving) (is_away w.known w.leaving) w.copies (put w.copies s (w.copies w.primary)) more w.words k.words;
+      member = k.member;
+      first = k.first;
     }
 
 -- a copy that may go on behind a source of the primary's list is a beginning of what it becomes
@@ -193,9 +228,11 @@ follows w k s list a =
     let on : begins copy list ≡ true = goes-on w k s copy source list a.2 is a.4 a.5 a.6 in
     let in-list : begins list (w.lists w.view) ≡ true = subst (λ (ys : List ListEntry). begins list ys ≡ true) is a.5 in
     let own : begins list (w.lists (view_of list)) ≡ true = k.lists.matched w.view list in-list in
-    let more : (t position : ℕ) → HasUpTo (w.lists w.view) w.copies t position → HasUpTo (w.lists w.view) (put w.copies s (Some list)) t position =
-    λ t position old. record {
+    let more : (t position : ℕ) → HasUpTo w.view (w.lists w.view) (is_away w.known w.leaving) w.copies t position →
+    HasUpTo w.view (w.lists w.view) (is_away w.known w.leaving) (put w.copies s (Some list)) t position = λ t position old. record {
       bound = old.bound;
+      begun = old.begun;
+      there = old.there;
       part = λ xs ys h b l. elim (put-cases w.copies s (Some list) t (Some xs) h) [
         | inl p ↦
             let same : list ≡ xs = cc in
@@ -238,14 +275,16 @@ follows w k s list a =
               | inr p ↦ has-all w.acknowledged (w.copies t) c z p.1
             ]),
           ));
-      heard = λ t. true-stays w.view (w.lists w.view) (w.lists w.view) w.copies (put w.copies s (Some list)) more t (w.heard t) (k.heard t);
-      words = words-stay w.view (w.lists w.view) (w.lists w.view) w.copies (put w.copies s (Some list)) more w.words k.words;
+      heard = λ t. true-stays w.ended w.view (w.lists w.view) (w.lists w.view) (is_away w.known w.leaving) (is_away w.known w.leaving) w.copies (put w.copies s (Some list)) more t (w.heard t) (k.heard t);
+      words = words-stay w.ended w.view (w.lists w.view) (w.lists w.view) (is_away w.known w.leaving) (is_away w.known w.leaving) w.copies (put w.copies s (Some list)) more w.words k.words;
+      member = k.member;
+      first = k.first;
     }
 
 -- A server tells what its copy is.
 tells : (w : Shard) → IsKept w → (s : ℕ) → MayHappen w (Tells s) → IsKept (left_by w (Tells s))
 tells w k s a =
-    let c = some-copy (w.copies s) a in
+    let c = some-copy (w.copies s) a.0 in
     let copy = list_of (w.copies s) in
     let is : w.copies s ≡ Some copy = c.1 ∙ ap (λ (ys : List ListEntry). Some ys) (sym (list-of (w.copies s) c.0 c.1)) in
     record {
@@ -263,27 +302,33 @@ tells w k s a =
       words = (
         record {
           below = copy-below w k copy (k.copies s copy is);
-          has = λ e. (let in-list : begins copy (w.lists w.view) ≡ true = subst (λ (u : ℕ). begins copy (w.lists u) ≡ true) e (k.copies s copy is) in record {
+          has = λ p e. (let in-list : begins copy (w.lists w.view) ≡ true = subst (λ (u : ℕ). begins copy (w.lists u) ≡ true) e (k.copies s copy is) in record {
             bound = begins-length copy (w.lists w.view) in-list;
+            begun = (copy, in-list, omega arith, e);
+            there = ap (λ (z : Bool). w.known s && z) a.1 ∙ and-none (w.known s);
             part = λ xs ys h b l. (let both : Some copy ≡ Some xs = sym is ∙ h in let same : copy ≡ xs = cc in
                 subst (λ (zs : List ListEntry). begins ys zs ≡ true) same (begins-shorter ys copy (w.lists w.view) b in-list l));
           });
         },
         k.words,
       );
+      member = k.member;
+      first = k.first;
     }
 
 -- what was heard of a server
-heard-put : (w : Shard) → IsKept w → (s : ℕ) (said : ToldCopy) → IsTrueOf w.view (w.lists w.view) w.copies s said → (t : ℕ) →
-    IsTrueOf w.view (w.lists w.view) w.copies t (put w.heard s said t)
-heard-put w k s said h t = elim (cases_eq t s) [
-  | inl q ↦ subst (λ (c : ToldCopy). IsTrueOf w.view (w.lists w.view) w.copies t c) (sym (put-here w.heard s said t q))
-      (subst (λ (n : ℕ). IsTrueOf w.view (w.lists w.view) w.copies n said) (sym q) h)
-  | inr d ↦ subst (λ (c : ToldCopy). IsTrueOf w.view (w.lists w.view) w.copies t c) (sym (put-apart w.heard s said t d)) (k.heard t)
+heard-put : (ended view : ℕ) (list : List ListEntry) (away : ℕ → Bool) (copies : ℕ → Option (List ListEntry)) (heard : ℕ → ToldCopy) →
+    ((t : ℕ) → IsTrueOf ended view list away copies t (heard t)) → (s : ℕ) (said : ToldCopy) → IsTrueOf ended view list away copies s said → (t : ℕ) →
+    IsTrueOf ended view list away copies t (put heard s said t)
+heard-put ended view list away copies heard all s said h t = elim (cases_eq t s) [
+  | inl q ↦ subst (λ (c : ToldCopy). IsTrueOf ended view list away copies t c) (sym (put-here heard s said t q))
+      (subst (λ (n : ℕ). IsTrueOf ended view list away copies n said) (sym q) h)
+  | inr d ↦ subst (λ (c : ToldCopy). IsTrueOf ended view list away copies t c) (sym (put-apart heard s said t d)) (all t)
 ]
 
 -- The primary hears a word.
-hears-word : (w : Shard) → IsKept w → (word : Word) → IsTrueWord w.view (w.lists w.view) w.copies word → IsKept (record w { heard = put w.heard word.server word.copy })
+hears-word : (w : Shard) → IsKept w → (word : Word) → IsTrueWord w.ended w.view (w.lists w.view) (is_away w.known w.leaving) w.copies word →
+    IsKept (record w { heard = put w.heard word.server word.copy })
 hears-word w k word h = record {
   lists = k.lists;
   copies = k.copies;
@@ -296,19 +341,21 @@ hears-word w k word h = record {
   whole = k.whole;
   enough = k.enough;
   words = k.words;
-  heard = heard-put w k word.server word.copy h;
+  heard = heard-put w.ended w.view (w.lists w.view) (is_away w.known w.leaving) w.copies w.heard k.heard word.server word.copy h;
+  member = k.member;
+  first = k.first;
 }
 
 hears : (w : Shard) → IsKept w → (which : ℕ) → MayHappen w (Hears which) → IsKept (left_by w (Hears which))
 hears w k which a =
-    rw a.1 (hears-word w k a.0 (word-is-true (IsTrueWord w.view (w.lists w.view) w.copies) w.words which a.0 k.words a.1))
+    rw a.1 (hears-word w k a.0 (word-is-true (IsTrueWord w.ended w.view (w.lists w.view) (is_away w.known w.leaving) w.copies) w.words which a.0 k.words a.1))
 
 -- enough have a beginning of the primary's list that is acknowledged
 acknowledged-enough : (w : Shard) → IsKept w → (list : List ListEntry) → MayHappen w (Acknowledges list) → w.needed ≤ counted w (λ t. not (lacks list (w.copies t)))
 acknowledged-enough w k list (source, position, is, b, view, longer, acked, within, there) = elim (empty-or-not list) [
   | inl e ↦ enough-more w.servers w.needed w.replicas w.leaving (λ t. not (lacks w.acknowledged (w.copies t))) w.replicas w.leaving (λ t. not (lacks list (w.copies t)))
       k.enough (λ t x y z. (x, y, lacks-nothing list (w.copies t) (λ copy q. rw e refl)))
-  | inr some ↦ told-enough w k w.leaving w.needed list (subst (λ (ys : List ListEntry). begins list ys ≡ true) (primary-front w k source is) b)
+  | inr some ↦ told-enough w k w.leaving w.known w.needed list (subst (λ (ys : List ListEntry). begins list ys ≡ true) (primary-front w k source is) b) (λ t h. (h, refl))
       (source, is, enough-before (asked_copies w w.needed) (told_of source) (told w) (length list) position within (acked.have (omega arith)), there)
 ]
 
@@ -331,6 +378,8 @@ acknowledges w k list a =
       enough = acknowledged-enough w k list a;
       heard = k.heard;
       words = k.words;
+      member = k.member;
+      first = k.first;
     }
 
 -- what a test says after it was set to an answer at one place, if it said that before or the place is that one
@@ -354,8 +403,20 @@ joins w k s = record {
   whole = k.whole;
   enough = enough-more w.servers w.needed w.replicas w.leaving (λ t. not (lacks w.acknowledged (w.copies t))) (put w.replicas s true) (put w.leaving s false)
       (λ t. not (lacks w.acknowledged (w.copies t))) k.enough (λ t x y z. (put-true w.replicas s t x, put-not w.leaving s t y, z));
-  heard = heard-put w k s NOTHING_HEARD (unheard w.view (w.lists w.view) w.copies s);
-  words = k.words;
+  heard = heard-put w.ended w.view (w.lists w.view) (is_away (put w.known s true) (put w.leaving s false)) w.copies w.heard (λ t.
+      true-stays w.ended w.view (w.lists w.view) (w.lists w.view) (is_away w.known w.leaving) (is_away (put w.known s true) (put w.leaving s false)) w.copies w.copies
+      (still-there w.view (w.lists w.view) (is_away w.known w.leaving) (is_away (put w.known s true) (put w.leaving s false)) w.copies
+      (away-put w.known w.leaving s true false refl)) t (w.heard t) (k.heard t)) s NOTHING_HEARD
+      (unheard w.ended w.view (w.lists w.view) (is_away (put w.known s true) (put w.leaving s false)) w.copies s (λ p z.
+      ap (λ (y : Bool). put w.known s true s && y) (put-here w.leaving s false s refl) ∙ and-none (put w.known s true s)));
+  words = words-stay w.ended w.view (w.lists w.view) (w.lists w.view) (is_away w.known w.leaving) (is_away (put w.known s true) (put w.leaving s false)) w.copies w.copies
+      (still-there w.view (w.lists w.view) (is_away w.known w.leaving) (is_away (put w.known s true) (put w.leaving s false)) w.copies
+      (away-put w.known w.leaving s true false refl)) w.words k.words;
+  member = λ t h l. elim (cases_eq t s) [
+    | inl q ↦ put-here w.replicas s true t q
+    | inr d ↦ put-apart w.replicas s true t d ∙ k.member t (sym (put-apart w.known s true t d) ∙ h) (sym (put-apart w.leaving s false t d) ∙ l)
+  ];
+  first = λ z t. away-put w.known w.leaving s true false refl t (k.first z t);
 }
 
 -- A replica stays.
@@ -372,8 +433,20 @@ stays w k s = record {
   whole = k.whole;
   enough = enough-more w.servers w.needed w.replicas w.leaving (λ t. not (lacks w.acknowledged (w.copies t))) w.replicas (put w.leaving s false)
       (λ t. not (lacks w.acknowledged (w.copies t))) k.enough (λ t x y z. (x, put-not w.leaving s t y, z));
-  heard = heard-put w k s NOTHING_HEARD (unheard w.view (w.lists w.view) w.copies s);
-  words = k.words;
+  heard = heard-put w.ended w.view (w.lists w.view) (is_away (put w.known s (w.replicas s)) (put w.leaving s false)) w.copies w.heard (λ t.
+      true-stays w.ended w.view (w.lists w.view) (w.lists w.view) (is_away w.known w.leaving) (is_away (put w.known s (w.replicas s)) (put w.leaving s false)) w.copies w.copies
+      (still-there w.view (w.lists w.view) (is_away w.known w.leaving) (is_away (put w.known s (w.replicas s)) (put w.leaving s false)) w.copies
+      (away-put w.known w.leaving s (w.replicas s) false (and-none (w.replicas s)))) t (w.heard t) (k.heard t)) s NOTHING_HEARD
+      (unheard w.ended w.view (w.lists w.view) (is_away (put w.known s (w.replicas s)) (put w.leaving s false)) w.copies s (λ p z.
+      ap (λ (y : Bool). put w.known s (w.replicas s) s && y) (put-here w.leaving s false s refl) ∙ and-none (put w.known s (w.replicas s) s)));
+  words = words-stay w.ended w.view (w.lists w.view) (w.lists w.view) (is_away w.known w.leaving) (is_away (put w.known s (w.replicas s)) (put w.leaving s false)) w.copies w.copies
+      (still-there w.view (w.lists w.view) (is_away w.known w.leaving) (is_away (put w.known s (w.replicas s)) (put w.leaving s false)) w.copies
+      (away-put w.known w.leaving s (w.replicas s) false (and-none (w.replicas s)))) w.words k.words;
+  member = λ t h l. elim (cases_eq t s) [
+    | inl q ↦ ap w.replicas q ∙ sym (put-here w.known s (w.replicas s) t q) ∙ h
+    | inr d ↦ k.member t (sym (put-apart w.known s (w.replicas s) t d) ∙ h) (sym (put-apart w.leaving s false t d) ∙ l)
+  ];
+  first = λ z t. away-put w.known w.leaving s (w.replicas s) false (and-none (w.replicas s)) t (k.first z t);
 }
 
 -- A replica gets leave.
@@ -388,9 +461,22 @@ leave w k s a = record {
   own = k.own;
   below = k.below;
   whole = k.whole;
-  enough = told-enough w k (put w.leaving s true) w.needed w.acknowledged (primary-has-all w k) a;
-  heard = k.heard;
-  words = k.words;
+  enough = told-enough w k (put w.leaving s true) (put w.known s false) w.needed w.acknowledged (primary-has-all w k) (λ t h.
+      elim (put-cases w.known s false t true h) [
+        | inl p ↦ absurd (false≢true p.1)
+        | inr p ↦ (p.1, put-apart w.leaving s true t p.0)
+      ]) a;
+  heard = λ t. true-stays w.ended w.view (w.lists w.view) (w.lists w.view) (is_away w.known w.leaving) (is_away (put w.known s false) (put w.leaving s true)) w.copies w.copies
+      (still-there w.view (w.lists w.view) (is_away w.known w.leaving) (is_away (put w.known s false) (put w.leaving s true)) w.copies
+      (away-put w.known w.leaving s false true refl)) t (w.heard t) (k.heard t);
+  words = words-stay w.ended w.view (w.lists w.view) (w.lists w.view) (is_away w.known w.leaving) (is_away (put w.known s false) (put w.leaving s true)) w.copies w.copies
+      (still-there w.view (w.lists w.view) (is_away w.known w.leaving) (is_away (put w.known s false) (put w.leaving s true)) w.copies
+      (away-put w.known w.leaving s false true refl)) w.words k.words;
+  member = λ t h l. elim (put-cases w.known s false t true h) [
+    | inl p ↦ absurd (false≢true p.1)
+    | inr p ↦ k.member t p.1 (sym (put-apart w.leaving s true t p.0) ∙ l)
+  ];
+  first = λ z t. away-put w.known w.leaving s false true refl t (k.first z t);
 }
 
 -- no copy is there where it was taken away
@@ -400,8 +486,14 @@ taken copies s t xs h = elim (put-cases copies s None t (Some xs) h) [ inl p ↦
 taken-lacks : (list : List ListEntry) (copies : ℕ → Option (List ListEntry)) (s t : ℕ) → not (lacks list (copies t)) ≡ true → not (lacks list (put copies s None t)) ≡ true
 taken-lacks list copies s t h = lacks-nothing list (put copies s None t) (λ copy q. has-all list (copies t) copy h (taken copies s t copy q))
 
-taken-has : (list : List ListEntry) (copies : ℕ → Option (List ListEntry)) (s t position : ℕ) → HasUpTo list copies t position → HasUpTo list (put copies s None) t position
-taken-has list copies s t position old = record { bound = old.bound; part = λ xs ys h b l. old.part xs ys (taken copies s t xs h) b l }
+taken-has : (view : ℕ) (list : List ListEntry) (away : ℕ → Bool) (copies : ℕ → Option (List ListEntry)) (s t position : ℕ) →
+    HasUpTo view list away copies t position → HasUpTo view list away (put copies s None) t position
+taken-has view list away copies s t position old = record {
+  bound = old.bound;
+  begun = old.begun;
+  there = old.there;
+  part = λ xs ys h b l. old.part xs ys (taken copies s t xs h) b l;
+}
 
 -- who has lost its copy leads no more
 taken-front : (w : Shard) → IsKept w → (s t : ℕ) (xs : List ListEntry) → (t ≡ w.primary) ⊎ ((put w.former s 0 t ≡ w.ended) × HasNoPrimary w) →
@@ -434,8 +526,10 @@ loses w k s = record {
   whole = k.whole;
   enough = enough-more w.servers w.needed w.replicas w.leaving (λ t. not (lacks w.acknowledged (w.copies t))) w.replicas w.leaving
       (λ t. not (lacks w.acknowledged (put w.copies s None t))) k.enough (λ t x y z. (x, y, taken-lacks w.acknowledged w.copies s t z));
-  heard = λ t. true-stays w.view (w.lists w.view) (w.lists w.view) w.copies (put w.copies s None) (taken-has (w.lists w.view) w.copies s) t (w.heard t) (k.heard t);
-  words = words-stay w.view (w.lists w.view) (w.lists w.view) w.copies (put w.copies s None) (taken-has (w.lists w.view) w.copies s) w.words k.words;
+  heard = λ t. true-stays w.ended w.view (w.lists w.view) (w.lists w.view) (is_away w.known w.leaving) (is_away w.known w.leaving) w.copies (put w.copies s None) (taken-has w.view (w.lists w.view) (is_away w.known w.leaving) w.copies s) t (w.heard t) (k.heard t);
+  words = words-stay w.ended w.view (w.lists w.view) (w.lists w.view) (is_away w.known w.leaving) (is_away w.known w.leaving) w.copies (put w.copies s None) (taken-has w.view (w.lists w.view) (is_away w.known w.leaving) w.copies s) w.words k.words;
+  member = k.member;
+  first = k.first;
 }
 
 -- A replica with leave goes.
@@ -454,8 +548,13 @@ goes w k s a = record {
       (λ t. not (lacks w.acknowledged (put w.copies s None t))) k.enough (λ t x y z.
       let apart : (t ≡ s) → ⊥ = λ (q : t ≡ s). both_ways (w.leaving t) (not-true (w.leaving t) y) (ap w.leaving q ∙ a) in
       (put-apart w.replicas s false t apart ∙ x, y, taken-lacks w.acknowledged w.copies s t z));
-  heard = λ t. true-stays w.view (w.lists w.view) (w.lists w.view) w.copies (put w.copies s None) (taken-has (w.lists w.view) w.copies s) t (w.heard t) (k.heard t);
-  words = words-stay w.view (w.lists w.view) (w.lists w.view) w.copies (put w.copies s None) (taken-has (w.lists w.view) w.copies s) w.words k.words;
+  heard = λ t. true-stays w.ended w.view (w.lists w.view) (w.lists w.view) (is_away w.known w.leaving) (is_away w.known w.leaving) w.copies (put w.copies s None) (taken-has w.view (w.lists w.view) (is_away w.known w.leaving) w.copies s) t (w.heard t) (k.heard t);
+  words = words-stay w.ended w.view (w.lists w.view) (w.lists w.view) (is_away w.known w.leaving) (is_away w.known w.leaving) w.copies (put w.copies s None) (taken-has w.view (w.lists w.view) (is_away w.known w.leaving) w.copies s) w.words k.words;
+  member = λ t h l. elim (cases_eq t s) [
+    | inl q ↦ absurd (both_ways (w.leaving t) l (ap w.leaving q ∙ a))
+    | inr d ↦ put-apart w.replicas s false t d ∙ k.member t h l
+  ];
+  first = k.first;
 }
 
 -- The shard is handed over.
@@ -477,8 +576,11 @@ hands w k s a = record {
   below = k.below;
   whole = k.whole;
   enough = k.enough;
-  heard = unheard w.view (w.lists w.view) w.copies;
+  heard = λ t. unheard w.ended w.view (w.lists w.view) (is_away w.known w.leaving) w.copies t (λ p z.
+      (let l : w.ended ≤ w.view = p in let e : w.ended ≡ 0 = omega arith in k.first e t));
   words = k.words;
+  member = k.member;
+  first = k.first;
 }
 
 -- The primary starts again.
@@ -486,7 +588,7 @@ restarts : (w : Shard) → IsKept w → (v : ℕ) → MayHappen w (Restarts v) �
 restarts w k v a =
     let c = some-copy (w.copies w.primary) a.0 in
     let all : begins w.acknowledged c.0 ≡ true = subst (λ (ys : List ListEntry). begins w.acknowledged ys ≡ true) (sym (primary-front w k c.0 c.1)) (primary-has-all w k) in
-    begins-view w k w.primary v c.0 c.1 a.1 w.replicas w.leaving w.needed w.acknowledged all k.below k.whole k.enough
+    begins-view w k w.primary v c.0 c.1 a.1 w.replicas w.leaving w.known k.member k.first w.needed w.acknowledged all k.below k.whole k.enough
 
 -- The primary asks for more replicas.
 raises : (w : Shard) → IsKept w → (needed : ℕ) → MayHappen w (Raises needed) → IsKept (left_by w (Raises needed))
@@ -500,9 +602,11 @@ raises w k needed a = record {
   own = k.own;
   below = k.below;
   whole = k.whole;
-  enough = told-enough w k w.leaving needed w.acknowledged (primary-has-all w k) a;
+  enough = told-enough w k w.leaving w.known needed w.acknowledged (primary-has-all w k) (λ t h. (h, refl)) a;
   heard = k.heard;
   words = k.words;
+  member = k.member;
+  first = k.first;
 }
 
 -- It asks for fewer.
@@ -520,7 +624,14 @@ lowers w k needed a = record {
   enough = (let l : needed ≤ w.needed = a in let m : w.needed ≤ counted w (λ t. not (lacks w.acknowledged (w.copies t))) = k.enough in omega arith);
   heard = k.heard;
   words = k.words;
+  member = k.member;
+  first = k.first;
 }
+
+fewer-away : (a g l : Bool) → (a && l) ≡ false → ((a && not g) && l) ≡ false
+fewer-away true true l h = refl
+fewer-away true false l h = h
+fewer-away false g l h = refl
 
 -- Replicas go by a reopening, and it asks for as many fewer.
 removes : (w : Shard) → IsKept w → (gone : ℕ → Bool) (needed : ℕ) → MayHappen w (Removes gone needed) → IsKept (left_by w (Removes gone needed))
@@ -548,15 +659,21 @@ removes w k gone needed a = record {
       let m : w.needed ≤ count_below w.servers p = k.enough in
       let n : needed + count_below w.servers r ≤ w.needed = a in
       omega arith);
-  heard = k.heard;
-  words = k.words;
+  heard = λ t. true-stays w.ended w.view (w.lists w.view) (w.lists w.view) (is_away w.known w.leaving) (is_away (λ s. w.known s && not (gone s)) w.leaving) w.copies w.copies
+      (still-there w.view (w.lists w.view) (is_away w.known w.leaving) (is_away (λ s. w.known s && not (gone s)) w.leaving) w.copies
+      (λ s h. fewer-away (w.known s) (gone s) (w.leaving s) h)) t (w.heard t) (k.heard t);
+  words = words-stay w.ended w.view (w.lists w.view) (w.lists w.view) (is_away w.known w.leaving) (is_away (λ s. w.known s && not (gone s)) w.leaving) w.copies w.copies
+      (still-there w.view (w.lists w.view) (is_away w.known w.leaving) (is_away (λ s. w.known s && not (gone s)) w.leaving) w.copies
+      (λ s h. fewer-away (w.known s) (gone s) (w.leaving s) h)) w.words k.words;
+  member = λ t h l. (let x = and_parts (w.known t) (not (gone t)) h in and_from (w.replicas t) (not (gone t)) (k.member t x.0 l) x.1);
+  first = λ z t. fewer-away (w.known t) (gone t) (w.leaving t) (k.first z t);
 }
 
 -- A replica becomes primary by an order.
 changes : (w : Shard) → IsKept w → (s v : ℕ) (answered : ℕ → Bool) → MayHappen w (Changes s v answered) → IsKept (left_by w (Changes s v answered))
 changes w k s v answered a =
     let all : begins w.acknowledged a.0 ≡ true = greatest-has-all w k answered s a.0 a.1 a.2 a.4 in
-    begins-view w k s v a.0 a.1 a.3 w.replicas w.leaving w.needed w.acknowledged all k.below k.whole k.enough
+    begins-view w k s v a.0 a.1 a.3 w.replicas w.leaving w.known k.member k.first w.needed w.acknowledged all k.below k.whole k.enough
 
 -- what stays acknowledged when a shard is named as lost, or is not
 kept-begins : (named : Bool) (list copy : List ListEntry) → (named ≡ false → begins list copy ≡ true) → begins (if named then [] else list) copy ≡ true
@@ -588,8 +705,14 @@ chooses w k c a =
     let same : copy ≡ other = cc in
     subst (λ (ys : List ListEntry). begins (if c.named then [] else w.acknowledged) ys ≡ true) same all))) in
     let n : c.needed ≤ count_below w.servers p = a.1.needed in
-    begins-view w k c.heir c.view copy a.1.copy_is a.1.later c.replicas (λ _. false) c.needed (if c.named then [] else w.acknowledged) all
+    begins-view w k c.heir c.view copy a.1.copy_is a.1.later c.replicas (λ _. false) c.replicas (λ t h l. h) (λ z t. and-none (c.replicas t)) c.needed (if c.named then [] else w.acknowledged) all
     (kept-below c.named w.acknowledged w.view k.below) (kept-whole c.named w.lists w.acknowledged k.whole) (omega arith)
+
+-- without a primary nothing follows of what was told
+ended-is-true : (w : Shard) (number : ℕ) → w.view < number → (s : ℕ) (told : ToldCopy) →
+    IsTrueOf w.ended w.view (w.lists w.view) (is_away w.known w.leaving) w.copies s told →
+    IsTrueOf number w.view (w.lists w.view) (is_away w.known w.leaving) w.copies s told
+ended-is-true w number l s told t = record { below = t.below; has = λ p. (let m : number ≤ w.view = p in absurd (omega arith)) }
 
 -- The primary ceases to be one.
 ends : (w : Shard) → IsKept w → (number : ℕ) → MayHappen w (Ends number) → IsKept (left_by w (Ends number))
@@ -621,8 +744,12 @@ ends w k number a = record {
   below = k.below;
   whole = k.whole;
   enough = k.enough;
-  heard = k.heard;
-  words = k.words;
+  heard = λ t. ended-is-true w number a.1.0 t (w.heard t) (k.heard t);
+  words = words-more (IsTrueWord w.ended w.view (w.lists w.view) (is_away w.known w.leaving) w.copies)
+      (IsTrueWord number w.view (w.lists w.view) (is_away w.known w.leaving) w.copies)
+      (λ word t. ended-is-true w number a.1.0 word.server word.copy t) w.words k.words;
+  member = k.member;
+  first = λ z. (let l : w.view < number = a.1.0 in absurd (omega arith));
 }
 
 -- A replica becomes primary whose copy is no less than that of the former primary.
@@ -631,7 +758,86 @@ succeeds w k s v former (copy, kept, is, there, last, greater, later, none) =
     let same : kept ≡ w.lists w.view = k.front former kept (inr (last, none)) there in
     let has : begins w.acknowledged kept ≡ true = subst (λ (ys : List ListEntry). begins w.acknowledged ys ≡ true) (sym same) (primary-has-all w k) in
     let all : begins w.acknowledged copy ≡ true = greater-has-all w k former s kept copy there is has greater in
-    begins-view w k s v copy is later w.replicas w.leaving w.needed w.acknowledged all k.below k.whole k.enough
+    begins-view w k s v copy is later w.replicas w.leaving w.known k.member k.first w.needed w.acknowledged all k.below k.whole k.enough
+
+-- who has a copy of no view that began after an end has told nothing in the view of a primary
+not-of-the-view : (w : Shard) → IsKept w → (s : ℕ) (copy : List ListEntry) → w.copies s ≡ Some copy → view_of copy < w.ended → w.ended ≤ w.view →
+    (away : ℕ → Bool) (position : ℕ) → HasUpTo w.view (w.lists w.view) away w.copies s position → ⊥
+not-of-the-view w k s copy is early p away position old =
+    let o = old.begun in
+    let v : view_of o.0 ≡ w.view = o.3 in
+    let in-copy : begins o.0 copy ≡ true = old.part copy o.0 is o.1 o.2 in
+    let l : view_of o.0 ≤ view_of copy = k.lists.views (view_of copy) o.0 (begins-through o.0 copy (w.lists (view_of copy)) in-copy (k.copies s copy is)) in
+    absurd (omega arith)
+
+released-is-true : (w : Shard) → IsKept w → (s : ℕ) (copy : List ListEntry) → w.copies s ≡ Some copy → view_of copy < w.ended → (t : ℕ) (told : ToldCopy) →
+    IsTrueOf w.ended w.view (w.lists w.view) (is_away w.known w.leaving) w.copies t told →
+    IsTrueOf w.ended w.view (w.lists w.view) (is_away w.known (put w.leaving s true)) w.copies t told
+released-is-true w k s copy is early t told old = record {
+  below = old.below;
+  has = λ p v. (let o = old.has p v in elim (cases_eq t s) [
+    | inl q ↦ absurd (not-of-the-view w k t copy (ap w.copies q ∙ is) early p (is_away w.known w.leaving) told.position o)
+    | inr d ↦ record {
+      bound = o.bound;
+      begun = o.begun;
+      part = o.part;
+      there = ap (λ (z : Bool). w.known t && z) (put-apart w.leaving s true t d) ∙ o.there;
+    }
+  ]);
+}
+
+-- what is no less than a copy with all that is acknowledged has it, too
+others-have-all : (w : Shard) → IsKept w → (s : ℕ) (others : ℕ → Bool) (copy : List ListEntry) → w.copies s ≡ Some copy → HaveNoLess w others s copy →
+    begins w.acknowledged copy ≡ true → (t : ℕ) → others t ≡ true →
+    (w.replicas t && (not (put w.leaving s true t) && not (lacks w.acknowledged (w.copies t)))) ≡ true
+others-have-all w k s others copy is more all t h =
+    let m = more t h in
+    let r = and_parts (w.replicas t) (not (w.leaving t)) m.1 in
+    let has : begins w.acknowledged m.2 ≡ true = greater-has-all w k s t copy m.2 is m.3 all m.4 in
+    and_from (w.replicas t) (not (put w.leaving s true t) && not (lacks w.acknowledged (w.copies t))) r.0
+    (and_from (not (put w.leaving s true t)) (not (lacks w.acknowledged (w.copies t))) (ap not (put-apart w.leaving s true t m.0) ∙ r.1)
+    (lacks-nothing w.acknowledged (w.copies t) (λ other q.
+    let both : Some m.2 ≡ Some other = sym m.3 ∙ q in
+    let same : m.2 ≡ other = cc in
+    subst (λ (ys : List ListEntry). begins w.acknowledged ys ≡ true) same has)))
+
+released-enough : (w : Shard) → IsKept w → (s : ℕ) (others : ℕ → Bool) → MayHappen w (Releases s others) →
+    w.needed ≤ count_below w.servers (λ t. w.replicas t && (not (put w.leaving s true t) && not (lacks w.acknowledged (w.copies t))))
+released-enough w k s others (copy, is, more, enough, early) = elim (cases_Bool (begins w.acknowledged copy)) [
+  | inl all ↦
+      let l : count_below w.servers others ≤ count_below w.servers (λ t. w.replicas t && (not (put w.leaving s true t) && not (lacks w.acknowledged (w.copies t)))) =
+      count-more w.servers others (λ t. w.replicas t && (not (put w.leaving s true t) && not (lacks w.acknowledged (w.copies t))))
+      (others-have-all w k s others copy is more all) in
+      omega arith
+  | inr some ↦ enough-more w.servers w.needed w.replicas w.leaving (λ t. not (lacks w.acknowledged (w.copies t))) w.replicas (put w.leaving s true)
+      (λ t. not (lacks w.acknowledged (w.copies t))) k.enough (λ t x y z.
+      let apart : (t ≡ s) → ⊥ = λ (q : t ≡ s). both_ways (begins w.acknowledged copy) some (has-all w.acknowledged (w.copies t) copy z (ap w.copies q ∙ is)) in
+      (x, ap not (put-apart w.leaving s true t apart) ∙ y, z))
+]
+
+-- Others give a replica leave.
+releases : (w : Shard) → IsKept w → (s : ℕ) (others : ℕ → Bool) → MayHappen w (Releases s others) → IsKept (left_by w (Releases s others))
+releases w k s others a = record {
+  lists = k.lists;
+  copies = k.copies;
+  front = k.front;
+  earlier = k.earlier;
+  unbegun = k.unbegun;
+  present = k.present;
+  own = k.own;
+  below = k.below;
+  whole = k.whole;
+  enough = released-enough w k s others a;
+  heard = λ t. released-is-true w k s a.0 a.1 a.4 t (w.heard t) (k.heard t);
+  words = words-more (IsTrueWord w.ended w.view (w.lists w.view) (is_away w.known w.leaving) w.copies)
+      (IsTrueWord w.ended w.view (w.lists w.view) (is_away w.known (put w.leaving s true)) w.copies)
+      (λ word t. released-is-true w k s a.0 a.1 a.4 word.server word.copy t) w.words k.words;
+  member = λ t h l. elim (put-cases w.leaving s true t false l) [
+    | inl p ↦ absurd (false≢true (sym p.1))
+    | inr p ↦ k.member t h p.1
+  ];
+  first = λ z. (let l : view_of a.0 < w.ended = a.4 in absurd (omega arith));
+}
 
 -- Each event that may happen keeps the invariant.
 pub kept : (w : Shard) → IsKept w → (e : Event) → MayHappen w e → IsKept (left_by w e)
@@ -655,3 +861,4 @@ kept w k (Changes s v answered) a = changes w k s v answered a
 kept w k (Chooses c) a = chooses w k c a
 kept w k (Ends number) a = ends w k number a
 kept w k (Succeeds s v former) a = succeeds w k s v former a
+kept w k (Releases s others) a = releases w k s others a

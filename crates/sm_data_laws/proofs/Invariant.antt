@@ -24,19 +24,33 @@ AreCopies lists copies = (s : ℕ) (xs : List ListEntry) → copies s ≡ Some x
 abbrev pub IsWhole : (ℕ → List ListEntry) → List ListEntry → Type 0
 IsWhole lists acknowledged = (u : ℕ) → 0 < length (lists u) → view_of acknowledged ≤ u → begins acknowledged (lists u) ≡ true
 
--- A server has the list up to a position, if it has a whole copy.
-pub record HasUpTo (list : List ListEntry) (copies : ℕ → Option (List ListEntry)) (s position : ℕ) : Type 0 where
-  pub bound : position ≤ length list
-  pub part : (xs ys : List ListEntry) → copies s ≡ Some xs → begins ys list ≡ true → length ys ≤ position → begins ys xs ≡ true
+-- A list has a beginning of a view within a position.
+abbrev pub HasBegun : ℕ → List ListEntry → ℕ → Type 0
+HasBegun view list position = (ys : List ListEntry) × (begins ys list ≡ true) × (length ys ≤ position) × (view_of ys ≡ view)
 
--- A told copy of the primary's view is still there, up to its position; nobody has told a later view.
-pub record IsTrueOf (view : ℕ) (list : List ListEntry) (copies : ℕ → Option (List ListEntry)) (s : ℕ) (told : ToldCopy) : Type 0 where
+-- A server has the list up to a position, if it has a whole copy.
+abbrev pub HasPart : List ListEntry → Option (List ListEntry) → ℕ → Type 0
+HasPart list copy position = (xs ys : List ListEntry) → copy ≡ Some xs → begins ys list ≡ true → length ys ≤ position → begins ys xs ≡ true
+
+-- So it has, where the view has begun, and it has no leave that the primary does not know of.
+pub record HasUpTo (view : ℕ) (list : List ListEntry) (away : ℕ → Bool) (copies : ℕ → Option (List ListEntry)) (s position : ℕ) : Type 0 where
+  pub bound : position ≤ length list
+  pub begun : HasBegun view list position
+  pub part : HasPart list (copies s) position
+  pub there : away s ≡ false
+
+-- A told copy of the view of a primary is still there, up to its position; nobody has told a later view.
+pub record IsTrueOf (ended view : ℕ) (list : List ListEntry) (away : ℕ → Bool) (copies : ℕ → Option (List ListEntry)) (s : ℕ) (told : ToldCopy) : Type 0 where
   pub below : told.view ≤ view
-  pub has : told.view ≡ view → HasUpTo list copies s told.position
+  pub has : ended ≤ view → told.view ≡ view → HasUpTo view list away copies s told.position
 
 -- A word is true of the server that has told it.
-abbrev pub IsTrueWord : ℕ → List ListEntry → (ℕ → Option (List ListEntry)) → Word → Type 0
-IsTrueWord view list copies word = IsTrueOf view list copies word.server word.copy
+abbrev pub IsTrueWord : ℕ → ℕ → List ListEntry → (ℕ → Bool) → (ℕ → Option (List ListEntry)) → Word → Type 0
+IsTrueWord ended view list away copies word = IsTrueOf ended view list away copies word.server word.copy
+
+-- whether a server has leave that the primary does not know of
+abbrev pub is_away : (ℕ → Bool) → (ℕ → Bool) → ℕ → Bool
+is_away known leaving s = known s && leaving s
 
 -- Who has the list of the view: the primary, or the last one as long as the shard has none, and that has kept its copy.
 abbrev pub IsLeader : Shard → ℕ → Type 0
@@ -53,8 +67,10 @@ pub record IsKept (w : Shard) : Type 0 where
   pub below : view_of w.acknowledged ≤ w.view
   pub whole : IsWhole w.lists w.acknowledged
   pub enough : w.needed ≤ counted w (λ s. not (lacks w.acknowledged (w.copies s)))
-  pub heard : (s : ℕ) → IsTrueOf w.view (w.lists w.view) w.copies s (w.heard s)
-  pub words : AllByRecursion (IsTrueWord w.view (w.lists w.view) w.copies) w.words
+  pub heard : (s : ℕ) → IsTrueOf w.ended w.view (w.lists w.view) (is_away w.known w.leaving) w.copies s (w.heard s)
+  pub words : AllByRecursion (IsTrueWord w.ended w.view (w.lists w.view) (is_away w.known w.leaving) w.copies) w.words
+  pub member : (s : ℕ) → w.known s ≡ true → w.leaving s ≡ false → w.replicas s ≡ true
+  pub first : w.ended ≡ 0 → (s : ℕ) → is_away w.known w.leaving s ≡ false
 
 -- the primary has all that is acknowledged
 pub primary-has-all : (w : Shard) → IsKept w → begins w.acknowledged (w.lists w.view) ≡ true
@@ -148,10 +164,10 @@ greatest-has-all w k answered heir copy e greatest few =
     told-one false a o e h = absurd (false≢true e)
 
 -- what is told stays true if whoever has the list up to a position does so afterwards
-pub true-stays : (view : ℕ) (list list' : List ListEntry) (copies copies' : ℕ → Option (List ListEntry)) →
-    ((s position : ℕ) → HasUpTo list copies s position → HasUpTo list' copies' s position) → (s : ℕ) (told : ToldCopy) →
-    IsTrueOf view list copies s told → IsTrueOf view list' copies' s told
-true-stays view list list' copies copies' h s told t = record { below = t.below; has = λ e. h s told.position (t.has e) }
+pub true-stays : (ended view : ℕ) (list list' : List ListEntry) (away away' : ℕ → Bool) (copies copies' : ℕ → Option (List ListEntry)) →
+    ((s position : ℕ) → HasUpTo view list away copies s position → HasUpTo view list' away' copies' s position) → (s : ℕ) (told : ToldCopy) →
+    IsTrueOf ended view list away copies s told → IsTrueOf ended view list' away' copies' s told
+true-stays ended view list list' away away' copies copies' h s told t = record { below = t.below; has = λ p e. h s told.position (t.has p e) }
 
 -- what follows of each of a list's words
 pub words-more : (P Q : Word → Type 0) → ((word : Word) → P word → Q word) → (words : List Word) → AllByRecursion P words → AllByRecursion Q words
@@ -159,19 +175,20 @@ words-more P Q h [] a = tt
 words-more P Q h (word ∷ words) a = (h word a.0, words-more P Q h words a.1)
 
 -- so do all words
-pub words-stay : (view : ℕ) (list list' : List ListEntry) (copies copies' : ℕ → Option (List ListEntry)) →
-    ((s position : ℕ) → HasUpTo list copies s position → HasUpTo list' copies' s position) → (words : List Word) →
-    AllByRecursion (IsTrueWord view list copies) words → AllByRecursion (IsTrueWord view list' copies') words
-words-stay view list list' copies copies' h words a =
-    words-more (IsTrueWord view list copies) (IsTrueWord view list' copies')
-    (λ word t. true-stays view list list' copies copies' h word.server word.copy t) words a
+pub words-stay : (ended view : ℕ) (list list' : List ListEntry) (away away' : ℕ → Bool) (copies copies' : ℕ → Option (List ListEntry)) →
+    ((s position : ℕ) → HasUpTo view list away copies s position → HasUpTo view list' away' copies' s position) → (words : List Word) →
+    AllByRecursion (IsTrueWord ended view list away copies) words → AllByRecursion (IsTrueWord ended view list' away' copies') words
+words-stay ended view list list' away away' copies copies' h words a =
+    words-more (IsTrueWord ended view list away copies) (IsTrueWord ended view list' away' copies')
+    (λ word t. true-stays ended view list list' away away' copies copies' h word.server word.copy t) words a
 
 -- in a later view no word counts
-pub words-end : (view later : ℕ) (list list' : List ListEntry) (copies copies' : ℕ → Option (List ListEntry)) → view < later → (words : List Word) →
-    AllByRecursion (IsTrueWord view list copies) words → AllByRecursion (IsTrueWord later list' copies') words
-words-end view later list list' copies copies' l words a =
-    words-more (IsTrueWord view list copies) (IsTrueWord later list' copies')
-    (λ word t. (let b : word.copy.view ≤ view = t.below in record { below = omega arith; has = λ e. absurd (omega arith) })) words a
+pub words-end : (ended view later : ℕ) (list list' : List ListEntry) (away away' : ℕ → Bool) (copies copies' : ℕ → Option (List ListEntry)) →
+    view < later → (words : List Word) →
+    AllByRecursion (IsTrueWord ended view list away copies) words → AllByRecursion (IsTrueWord ended later list' away' copies') words
+words-end ended view later list list' away away' copies copies' l words a =
+    words-more (IsTrueWord ended view list away copies) (IsTrueWord ended later list' away' copies')
+    (λ word t. (let b : word.copy.view ≤ view = t.below in record { below = omega arith; has = λ p e. absurd (omega arith) })) words a
 
 -- a word that was told is true
 pub word-is-true : (P : Word → Type 0) (words : List Word) (which : ℕ) (word : Word) → AllByRecursion P words → slice_get words which ≡ Some word → P word

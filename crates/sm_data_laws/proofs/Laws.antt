@@ -6,13 +6,13 @@ use Rattle.sm_placement.specs.Sums.{count_below, put}
 use Rattle.sm_placement.proofs.Sums.{put-apart}
 use Rattle.sm_copies.specs.Lists.{ListEntry, begins, beginning, view_of}
 use Rattle.sm_copies.proofs.Lists.{begins-self, begins-shorter, begins-through}
-use Rattle.sm_data_laws.specs.Shard.{Word, with_heard, MayHappenInTurn, Event, Acknowledges, Changes, Chooses, Copies, Ends, Executes, Follows, Goes, Hands, MayHappen, IsShardReached, Joins, Leave, Loses, Lowers, Raises, Removes, Restarts, Shard, Stays, Succeeds, Tells, Hears, left_by, lacks, names, new_shard, all_left}
+use Rattle.sm_data_laws.specs.Shard.{Word, with_heard, MayHappenInTurn, Event, Acknowledges, Changes, Chooses, Copies, Ends, Executes, Follows, Goes, Hands, MayHappen, IsShardReached, Joins, Leave, Loses, Lowers, Raises, Releases, Removes, Restarts, Shard, Stays, Succeeds, Tells, Hears, left_by, lacks, names, new_shard, all_left}
 use Rattle.sm_data_laws.specs.Laws.{AcknowledgedWritesStay, EnoughHaveThem, GreatestHasAll}
 use Rattle.sm_data_laws.proofs.Lists.{lacks-nothing, put-cases}
 use Rattle.sm_data_laws.proofs.Counts.{count-more}
 use Rattle.sm_data_laws.proofs.Growth.{grown-copies, grown-lists}
-use Rattle.sm_data_laws.proofs.Events.{kept, unheard}
-use Rattle.sm_data_laws.proofs.Invariant.{AreCopies, AreLists, IsKept, greatest-has-all, primary-front, primary-has-all}
+use Rattle.sm_data_laws.proofs.Events.{and-none, kept, unheard}
+use Rattle.sm_data_laws.proofs.Invariant.{AreCopies, AreLists, IsKept, greatest-has-all, is_away, primary-front, primary-has-all}
 
 -- a new shard
 new-kept : (servers : ℕ) (replicas : ℕ → Bool) (primary needed : ℕ) → needed ≤ count_below servers replicas → IsKept (new_shard servers replicas primary needed)
@@ -37,8 +37,11 @@ new-kept servers replicas primary needed enough =
       below = omega arith;
       whole = λ u some low. refl;
       enough = omega arith;
-      heard = unheard 0 (put (λ _. []) 0 (beginning 0 ∷ []) 0) (put (λ _. None) primary (Some (beginning 0 ∷ [])));
+      heard = λ t. unheard 0 0 (put (λ _. []) 0 (beginning 0 ∷ []) 0) (is_away replicas (λ _. false)) (put (λ _. None) primary (Some (beginning 0 ∷ []))) t
+          (λ p z. and-none (replicas t));
       words = tt;
+      member = λ t h l. h;
+      first = λ z t. and-none (replicas t);
     }
   where
     empty-view : (xs : List ListEntry) → {u : ℕ} → begins xs [] ≡ true → view_of xs ≤ u
@@ -75,6 +78,7 @@ stays-acknowledged w k (Removes gone needed) a n = begins-self w.acknowledged
 stays-acknowledged w k (Changes s v answered) a n = begins-self w.acknowledged
 stays-acknowledged w k (Ends number) a n = begins-self w.acknowledged
 stays-acknowledged w k (Succeeds s v former) a n = begins-self w.acknowledged
+stays-acknowledged w k (Releases s others) a n = begins-self w.acknowledged
 stays-acknowledged w k (Chooses c) a n = subst (λ (b : Bool). begins w.acknowledged (if b then [] else w.acknowledged) ≡ true) (sym n) (begins-self w.acknowledged)
 
 all-acknowledged : (w : Shard) (es : List Event) → IsKept w → MayHappenInTurn w es → AllByRecursion (λ e. names e ≡ false) es → begins w.acknowledged (all_left es w).acknowledged ≡ true

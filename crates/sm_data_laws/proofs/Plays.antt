@@ -1,9 +1,10 @@
 -- The worked plays, step by step.
-use Rattle.std.proofs.Common.{◌≡◌, ℕ, ◌<◌, List, [], ◌∷◌, ◌++◌, Some, None, zero, suc, refl, subst, arith, inl, inr}
+use Rattle.std.proofs.Common.{◌≡◌, ◌==◌, ℕ, ◌<◌, List, [], ◌∷◌, ◌++◌, Some, None, zero, suc, refl, subst, arith, inl, inr}
+use Rattle.std.proofs.lemmas.Bool.{eqb-true, false≢true}
 use Rattle.sm_copies.specs.Order.{IsAtLeast}
 use Rattle.sm_copies.specs.Lists.{ListEntry, beginning, told_of}
-use Rattle.sm_data_laws.specs.Shard.{Event, Loses, MayHappenInTurn, Shard, all_left, left_by}
-use Rattle.sm_data_laws.specs.Plays.{FORMER_IS_ASKED, OutlivesItsPrimary, PRIMARY_IS_LOST, SEVEN, SEVEN_IS_WRITTEN, SucceedsItsPrimary, THREE}
+use Rattle.sm_data_laws.specs.Shard.{Ends, Event, HaveNoLess, Loses, Lowers, MayHappenInTurn, Shard, all_left, left_by}
+use Rattle.sm_data_laws.specs.Plays.{FORMER_IS_ASKED, FORMER_IS_RELEASED, LeavesWithoutPrimary, OutlivesItsPrimary, PRIMARY_IS_LOST, SEVEN, SEVEN_IS_WRITTEN, SucceedsItsPrimary, THREE}
 
 -- what is allowed in turn, with what is allowed behind it
 in-turn : (w : Shard) (es fs : List Event) → MayHappenInTurn w es → MayHappenInTurn (all_left es w) fs → MayHappenInTurn w (es ++ fs)
@@ -30,7 +31,7 @@ written = (
           omega arith,
         ),
         (
-          refl,
+          (refl, refl),
           (
             (record { server = 1; copy = told_of (beginning 0 ∷ SEVEN ∷ []) }, refl),
             (
@@ -107,6 +108,41 @@ succeeds-its-primary = record {
             omega arith,
           ),
           tt,
+        ),
+      ),
+    ),
+  );
+  has_primary = omega arith;
+  primary = refl;
+  acknowledged = refl;
+  copy = refl;
+}
+
+-- the shard when its primary has ended, and one copy is asked for
+abbrev ENDED : Shard
+ENDED = all_left (SEVEN_IS_WRITTEN ++ Lowers 1 ∷ Ends 3 ∷ []) THREE
+
+-- server 1 has all that its primary had
+no-less : HaveNoLess ENDED (λ t. t == 1) 0 (beginning 0 ∷ SEVEN ∷ [])
+no-less zero h = absurd (false≢true h)
+no-less (suc zero) h = (λ q. absurd (omega arith), refl, beginning 0 ∷ SEVEN ∷ [], refl, inl refl)
+no-less (suc (suc t)) h = absurd (let e : suc (suc t) ≡ 1 = eqb-true (suc (suc t)) 1 h in omega arith)
+
+-- a replica goes without a primary
+pub leaves-without-primary : LeavesWithoutPrimary
+leaves-without-primary = record {
+  allowed = in-turn THREE SEVEN_IS_WRITTEN FORMER_IS_RELEASED written (
+    omega arith,
+    (
+      (refl, (omega arith, omega arith), omega arith),
+      (
+        (beginning 0 ∷ SEVEN ∷ [], refl, no-less, omega arith, omega arith),
+        (
+          refl,
+          (
+            (beginning 0 ∷ SEVEN ∷ [], refl, λ s copy l a h. greatest s copy l h, (omega arith, omega arith), omega arith),
+            tt,
+          ),
         ),
       ),
     ),

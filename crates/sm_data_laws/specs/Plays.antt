@@ -1,7 +1,7 @@
 -- Worked plays: the premises of the laws can be met, and each way to another primary can be gone.
-use Rattle.std.specs.Prelude.{◌≡◌, ℕ, true, false, List, [], ◌∷◌, ◌++◌, Some}
+use Rattle.std.specs.Prelude.{◌≡◌, ◌==◌, ℕ, true, false, List, [], ◌∷◌, ◌++◌, Some}
 use Rattle.sm_copies.specs.Lists.{ListEntry, beginning}
-use Rattle.sm_data_laws.specs.Shard.{Acknowledges, Chooses, Copies, Ends, Event, Executes, Follows, HasPrimary, Hears, Loses, Lowers, MayHappenInTurn, Shard, Succeeds, Tells, all_left, new_shard}
+use Rattle.sm_data_laws.specs.Shard.{Acknowledges, Changes, Chooses, Copies, Ends, Event, Executes, Follows, Goes, HasPrimary, Hears, Loses, Lowers, MayHappenInTurn, Releases, Shard, Succeeds, Tells, all_left, new_shard}
 
 -- three replicas, of which 0 is primary; two have each write
 abbrev pub THREE : Shard
@@ -29,13 +29,19 @@ PRIMARY_IS_LOST =
 abbrev pub FORMER_IS_ASKED : List Event
 FORMER_IS_ASKED = Lowers 1 ∷ Loses 2 ∷ Ends 3 ∷ Succeeds 1 5 0 ∷ []
 
--- A play with these events behind the write is allowed. The write is acknowledged and with the primary, which began a view.
+-- Or the former primary gets leave of server 1, without a primary, and goes; server 1 becomes primary.
+abbrev pub FORMER_IS_RELEASED : List Event
+FORMER_IS_RELEASED = Lowers 1 ∷ Ends 3 ∷ Releases 0 (λ t. t == 1) ∷ Goes 0 ∷ Changes 1 5 (λ _. true) ∷ []
+
+-- A play with these events behind the write is allowed. The write is acknowledged and with the primary, which began
+-- a view.
 pub record EndsWithTheWrite (events : List Event) (heir view : ℕ) : Type 0 where
   pub allowed : MayHappenInTurn THREE (SEVEN_IS_WRITTEN ++ events)
   pub has_primary : HasPrimary (all_left (SEVEN_IS_WRITTEN ++ events) THREE)
   pub primary : (all_left (SEVEN_IS_WRITTEN ++ events) THREE).primary ≡ heir
   pub acknowledged : (all_left (SEVEN_IS_WRITTEN ++ events) THREE).acknowledged ≡ beginning 0 ∷ SEVEN ∷ []
-  pub copy : (all_left (SEVEN_IS_WRITTEN ++ events) THREE).copies heir ≡ Some (beginning 0 ∷ SEVEN ∷ beginning view ∷ [])
+  pub copy :
+      (all_left (SEVEN_IS_WRITTEN ++ events) THREE).copies heir ≡ Some (beginning 0 ∷ SEVEN ∷ beginning view ∷ [])
 
 -- A write outlives its primary: the new one is not the one that executed it.
 abbrev pub OutlivesItsPrimary : Type 0
@@ -44,3 +50,7 @@ OutlivesItsPrimary = EndsWithTheWrite PRIMARY_IS_LOST 1 5
 -- A secondary becomes primary by the former primary's copy, where too few others are left.
 abbrev pub SucceedsItsPrimary : Type 0
 SucceedsItsPrimary = EndsWithTheWrite FORMER_IS_ASKED 1 5
+
+-- A replica goes without a primary, by leave of one that has all that it has.
+abbrev pub LeavesWithoutPrimary : Type 0
+LeavesWithoutPrimary = EndsWithTheWrite FORMER_IS_RELEASED 1 5

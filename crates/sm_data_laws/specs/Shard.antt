@@ -1,5 +1,5 @@
 -- What happens to the data of one shard: writes, copies, losses, replicas that come and go, other primaries. What a server has is what is durable there.
-use Rattle.std.specs.Prelude.{◌≡◌, ◌<◌, ◌≤◌, ◌+◌, ◌==◌, ◌&&◌, nat_lt, ℕ, zero, suc, Bool, true, false, not, List, [], ◌∷◌, ◌++◌, Option, Some, None, is_some, length, slice_get, if◌then◌else◌}
+use Rattle.std.specs.Prelude.{◌≡◌, ◌≢◌, ◌<◌, ◌≤◌, ◌+◌, ◌==◌, ◌&&◌, nat_lt, ℕ, zero, suc, Bool, true, false, not, List, [], ◌∷◌, ◌++◌, Option, Some, None, is_some, length, slice_get, if◌then◌else◌}
 use Rattle.sm_placement.specs.Sums.{put, count_below}
 use Rattle.sm_copies.specs.declared.order.ToldCopy.{ToldCopy}
 use Rattle.sm_copies.specs.Order.{IsAtLeast}
@@ -25,6 +25,8 @@ pub record Shard : Type 0 where
   -- who is a replica, and who of them has leave to go
   pub replicas : ℕ → Bool
   pub leaving : ℕ → Bool
+  -- whom the primary counts once it has heard of them: all replicas but those to which it gave leave itself
+  pub known : ℕ → Bool
   -- who is primary, or was the last one
   pub primary : ℕ
   -- the view of the primary, what it has heard of the copy of each server, and how many copies it asks for
@@ -67,7 +69,7 @@ pub data Event : Type 0 where
   Acknowledges : (list : List ListEntry) → Event
   -- A server becomes a replica.
   Joins : (server : ℕ) → Event
-  -- A replica gets leave to go; goes, and deletes its copy; or stays.
+  -- A replica gets leave of the primary to go; goes, and deletes its copy; or stays.
   Leave : (server : ℕ) → Event
   Goes : (server : ℕ) → Event
   Stays : (server : ℕ) → Event
@@ -90,6 +92,8 @@ pub data Event : Type 0 where
   Ends : (number : ℕ) → Event
   -- A replica becomes primary by an order, with a view of its own; the former primary has told it its copy.
   Succeeds : (server view former : ℕ) → Event
+  -- A replica that was told of no primary gets leave of others, which have told it that they have all that it has.
+  Releases : (server : ℕ) (others : ℕ → Bool) → Event
 
 -- The shard has a primary: its view began after the last one ended.
 abbrev pub HasPrimary : Shard → Type 0
@@ -111,10 +115,10 @@ counted w test = count_below w.servers (λ s. w.replicas s && (not (w.leaving s)
 abbrev pub is_counted : Shard → ℕ → Bool
 is_counted w s = w.replicas s && not (w.leaving s)
 
--- what the primary has heard of the replicas below a number that do not leave, but for itself
+-- what the primary has heard of whom it counts below a number, but for itself
 abbrev pub told_below : Shard → ℕ → List ToldCopy
 told_below w zero = []
-told_below w (suc n) = if is_counted w n && not (n == w.primary) then w.heard n ∷ told_below w n else told_below w n
+told_below w (suc n) = if w.known n && not (n == w.primary) then w.heard n ∷ told_below w n else told_below w n
 
 -- what it has heard of all of them
 abbrev pub told : Shard → List ToldCopy
@@ -143,6 +147,11 @@ abbrev pub is_copy : List ListEntry → Option (List ListEntry) → Bool
 is_copy list None = false
 is_copy list (Some copy) = (length list == length copy) && begins list copy
 
+-- Others than a server, all of them replicas that do not leave, have no less than a list.
+abbrev pub HaveNoLess : Shard → (ℕ → Bool) → ℕ → List ListEntry → Type 0
+HaveNoLess w others s list = (t : ℕ) → others t ≡ true → (t ≢ s) × (is_counted w t ≡ true)
+    × (copy : List ListEntry) × (w.copies t ≡ Some copy) × IsAtLeast (told_of copy) (told_of list)
+
 -- no copy that is told is greater
 abbrev pub IsGreatest : Shard → (ℕ → Bool) → List ListEntry → Type 0
 IsGreatest w answered heir = (s : ℕ) (copy : List ListEntry) → s < w.servers → answered s ≡ true → w.copies s ≡ Some copy → IsAtLeast (told_of heir) (told_of copy)
@@ -163,13 +172,14 @@ MayHappen w (Copies s) = (is_some (w.copies w.primary) ≡ true) × HasPrimary w
 MayHappen w (Follows s list) = (copy source : List ListEntry) × (w.copies s ≡ Some copy) × (w.copies w.primary ≡ Some source)
     × Resumes (told_of copy) (views_of source) (length source)
     × (begins list source ≡ true) × (length copy ≤ length list) × HasPrimary w
-MayHappen w (Tells s) = is_some (w.copies s) ≡ true
+MayHappen w (Tells s) = (is_some (w.copies s) ≡ true) × (w.leaving s ≡ false)
 MayHappen w (Hears which) = (word : Word) × (slice_get w.words which ≡ Some word)
 MayHappen w (Acknowledges list) = (source : List ListEntry) × (position : ℕ) × (w.copies w.primary ≡ Some source) × (begins list source ≡ true)
     × (view_of list ≡ w.view) × (length w.acknowledged ≤ length list)
     × IsAcknowledged (asked_copies w w.needed) (told_of source) (told w) position × (length list ≤ position) × HasPrimary w
 MayHappen w (Joins s) = Unit
-MayHappen w (Leave s) = HasHeardEnough (record w { leaving = put w.leaving s true }) w.needed (length w.acknowledged)
+MayHappen w (Leave s) = HasHeardEnough (record w { leaving = put w.leaving s true; known = put w.known s false })
+    w.needed (length w.acknowledged)
 MayHappen w (Goes s) = w.leaving s ≡ true
 MayHappen w (Stays s) = Unit
 MayHappen w (Loses s) = Unit
@@ -184,6 +194,8 @@ MayHappen w (Chooses choice) = (copy : List ListEntry) × IsChosen w choice copy
 MayHappen w (Ends number) = (is_some (w.copies w.primary) ≡ true) × IsLater w number × HasPrimary w
 MayHappen w (Succeeds s view former) = (copy kept : List ListEntry) × (w.copies s ≡ Some copy) × (w.copies former ≡ Some kept)
     × (w.former former ≡ w.ended) × IsAtLeast (told_of copy) (told_of kept) × IsLater w view × HasNoPrimary w
+MayHappen w (Releases s others) = (copy : List ListEntry) × (w.copies s ≡ Some copy) × HaveNoLess w others s copy
+    × (w.needed ≤ count_below w.servers others) × (view_of copy < w.ended)
 
 -- the list of a whole copy, empty without one
 abbrev pub list_of : Option (List ListEntry) → List ListEntry
@@ -211,25 +223,44 @@ left_by w (Follows s list) = record w { copies = put w.copies s (Some list) }
 left_by w (Tells s) = record w { words = record { server = s; copy = told_of (list_of (w.copies s)) } ∷ w.words }
 left_by w (Hears which) = with_heard w (slice_get w.words which)
 left_by w (Acknowledges list) = record w { acknowledged = list }
-left_by w (Joins s) = record w { replicas = put w.replicas s true; leaving = put w.leaving s false; heard = put w.heard s NOTHING_HEARD }
-left_by w (Leave s) = record w { leaving = put w.leaving s true }
-left_by w (Goes s) = record w { replicas = put w.replicas s false; copies = put w.copies s None; former = put w.former s 0 }
-left_by w (Stays s) = record w { leaving = put w.leaving s false; heard = put w.heard s NOTHING_HEARD }
+left_by w (Joins s) = record w {
+  replicas = put w.replicas s true;
+  leaving = put w.leaving s false;
+  known = put w.known s true;
+  heard = put w.heard s NOTHING_HEARD;
+}
+left_by w (Leave s) = record w { leaving = put w.leaving s true; known = put w.known s false }
+left_by w (Goes s) = record w {
+  replicas = put w.replicas s false;
+  copies = put w.copies s None;
+  former = put w.former s 0;
+}
+left_by w (Stays s) = record w {
+  leaving = put w.leaving s false;
+  known = put w.known s (w.replicas s);
+  heard = put w.heard s NOTHING_HEARD;
+}
 left_by w (Loses s) = record w { copies = put w.copies s None; former = put w.former s 0 }
 left_by w (Hands s) = record w { primary = s; heard = λ _. NOTHING_HEARD }
 left_by w (Restarts view) = with_view w w.primary view
 left_by w (Raises needed) = record w { needed = needed }
 left_by w (Lowers needed) = record w { needed = needed }
-left_by w (Removes gone needed) = record w { replicas = λ s. w.replicas s && not (gone s); needed = needed }
+left_by w (Removes gone needed) = record w {
+  replicas = λ s. w.replicas s && not (gone s);
+  known = λ s. w.known s && not (gone s);
+  needed = needed;
+}
 left_by w (Changes s view answered) = with_view w s view
 left_by w (Chooses choice) = record (with_view w choice.heir choice.view) {
   replicas = choice.replicas;
   leaving = λ _. false;
+  known = choice.replicas;
   needed = choice.needed;
   acknowledged = if choice.named then [] else w.acknowledged;
 }
 left_by w (Ends number) = record w { ended = number; former = put w.former w.primary number }
 left_by w (Succeeds s view former) = with_view w s view
+left_by w (Releases s others) = record w { leaving = put w.leaving s true }
 
 -- a whole schedule
 abbrev pub all_left : List Event → Shard → Shard
@@ -254,6 +285,7 @@ new_shard servers replicas primary needed =
       copies = put (λ _. None) primary (Some (beginning 0 ∷ []));
       replicas = replicas;
       leaving = λ _. false;
+      known = replicas;
       primary = primary;
       view = 0;
       heard = λ _. NOTHING_HEARD;

@@ -1,6 +1,6 @@
 //! The laws.
 ghost use Rattle.sm_data_laws.specs.Laws.{AcknowledgedWritesStay, EnoughHaveThem, GreatestHasAll};
-ghost use Rattle.sm_data_laws.specs.Plays.{OutlivesItsPrimary, SucceedsItsPrimary};
+ghost use Rattle.sm_data_laws.specs.Plays.{LeavesWithoutPrimary, OutlivesItsPrimary, SucceedsItsPrimary};
 
 /// States that the primary, if it has a whole copy, has every write that was ever acknowledged, whatever happened since, unless a
 /// reopening has named the shard as lost.
@@ -28,4 +28,9 @@ pub fn a_write_outlives_its_primary()
 /// in a worked play.
 pub fn a_secondary_succeeds_its_primary()
     ensures { SucceedsItsPrimary }
+{}
+
+/// States that a replica can go without a primary, by leave of one that has all that it has: so it does in a worked play.
+pub fn a_replica_leaves_without_a_primary()
+    ensures { LeavesWithoutPrimary }
 {}
