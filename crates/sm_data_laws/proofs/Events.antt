@@ -4,16 +4,17 @@ use Rattle.std.proofs.lemmas.Bool.{and_from, and_parts, cases_Bool, cases_eq, fa
 use Rattle.sm_placement.specs.Sums.{count_below, put}
 use Rattle.sm_placement.proofs.Sums.{put-apart, put-here}
 use Rattle.sm_copies.specs.declared.order.ToldCopy.{ToldCopy}
+use Rattle.sm_copies.specs.Order.{IsAtLeast}
 use Rattle.sm_copies.specs.Views.{Resumes}
 use Rattle.sm_copies.specs.Lists.{ListEntry, begins, beginning, told_of, view_of, views_of}
 use Rattle.sm_copies.proofs.Counts.{enough-before}
 use Rattle.sm_copies.proofs.Lists.{begins-last, begins-length, begins-self, begins-shorter, begins-through, begins-whole, empty-or-not, view-behind}
 use Rattle.sm_copies.proofs.Views.{resumes-front}
-use Rattle.sm_data_laws.specs.Shard.{Choice, Event, Acknowledges, Changes, Chooses, Copies, Ends, Executes, Follows, Goes, Hands, MayHappen, Joins, Leave, Loses, Lowers, Raises, Releases, Removes, Restarts, Shard, Stays, Succeeds, Tells, Hears, HasNoPrimary, HasPrimary, HaveNoLess, IsLater, NOTHING_HEARD, Word, asked_copies, with_view, counted, left_by, is_copy, lacks, list_of, told}
+use Rattle.sm_data_laws.specs.Shard.{Choice, Event, Acknowledges, Changes, Chooses, Copies, Ends, Executes, Follows, Goes, Hands, MayHappen, Joins, Leave, Loses, Lowers, Raises, Releases, Removes, Restarts, Shard, Stays, Succeeds, Takes, Tells, Hears, HasNoPrimary, HasPrimary, HaveNoLess, IsLater, MayTake, NOTHING_HEARD, Word, asked_copies, with_view, counted, left_by, is_copy, lacks, list_of, told}
 use Rattle.sm_data_laws.proofs.Lists.{copy-is, has-all, lacks-nothing, put-cases}
 use Rattle.sm_data_laws.proofs.Counts.{count-either, count-more, enough-more}
 use Rattle.sm_data_laws.proofs.Growth.{grows, grown-copies, grown-enough, grown-lists, grown-whole}
-use Rattle.sm_data_laws.proofs.Invariant.{IsKept, HasUpTo, IsTrueOf, IsTrueWord, IsWhole, begun-below, greater-has-all, greatest-has-all, is_away, primary-front, primary-has-all, true-stays, word-is-true, words-end, words-more, words-stay}
+use Rattle.sm_data_laws.proofs.Invariant.{IsKept, HasUpTo, IsTrueOf, IsTrueWord, IsWhole, at-least-lists, begun-below, greater-has-all, greatest-has-all, is_away, primary-front, primary-has-all, true-stays, word-is-true, words-end, words-more, words-stay}
 use Rattle.sm_data_laws.proofs.Told.{told-enough}
 
 -- a whole copy is there
@@ -58,6 +59,13 @@ away-put known leaving s x y h t old = elim (cases_eq t s) [
 ends-once : (w : Shard) → HasPrimary w → HasNoPrimary w → ⊥
 ends-once w a b = (let l : w.ended ≤ w.view = a in let m : w.view < w.ended = b in absurd (omega arith))
 
+-- who has no copy after one has got one
+lost-put : (w : Shard) → IsKept w → (s : ℕ) (list : List ListEntry) (t : ℕ) → put w.copies s (Some list) t ≡ None → w.former t ≡ 0
+lost-put w k s list t h = elim (put-cases w.copies s (Some list) t None h) [
+  | inl p ↦ absurd (let e : Some list ≡ None = p.1 in cc)
+  | inr p ↦ k.lost t p.1
+]
+
 -- A list grows in its view: the primary executes a write.
 executes : (w : Shard) → IsKept w → (write : ℕ) → MayHappen w (Executes write) → IsKept (left_by w (Executes write))
 executes w k write a =
@@ -65,7 +73,7 @@ executes w k write a =
     let there : HasPrimary w = a.1 in
     let g = list_of (w.copies w.primary) in
     let e : ListEntry = record { view = w.view; write = write } in
-    let same : g ≡ w.lists w.view = list-of (w.copies w.primary) c.0 c.1 ∙ primary-front w k c.0 c.1 in
+    let same : g ≡ w.lists w.view = list-of (w.copies w.primary) c.0 c.1 ∙ primary-front w k there c.0 c.1 in
     let is : w.copies w.primary ≡ Some g = c.1 ∙ ap (λ (ys : List ListEntry). Some ys) (sym (list-of (w.copies w.primary) c.0 c.1)) in
     let behind : begins (w.lists w.view) g ≡ true = subst (λ (ys : List ListEntry). begins (w.lists w.view) ys ≡ true) (sym same) (begins-self (w.lists w.view)) in
     let from : begins g (w.lists (view_of g)) ≡ true = k.copies w.primary g is in
@@ -96,11 +104,12 @@ executes w k write a =
       front = λ t xs lead h. elim (put-cases w.copies w.primary (Some (g ++ e ∷ [])) t (Some xs) h) [
         | inl p ↦ (let x : g ++ e ∷ [] ≡ xs = cc in sym x ∙ sym now)
         | inr p ↦ elim lead [
-          | inl q ↦ absurd (p.0 q)
+          | inl q ↦ absurd (p.0 q.0)
           | inr q ↦ absurd (ends-once w there q.1)
         ]
       ];
       earlier = k.earlier;
+      lost = λ t h. lost-put w k w.primary (g ++ e ∷ []) t h;
       unbegun = λ u l. put-apart w.lists w.view (g ++ e ∷ []) u (λ q. absurd (omega arith)) ∙ k.unbegun u l;
       own = ap view_of now ∙ view-behind g e;
       present = (let n : length (put w.lists w.view (g ++ e ∷ []) w.view) ≡ length (g ++ e ∷ []) = ap length now in omega (arith, length-append g (e ∷ [])));
@@ -145,11 +154,12 @@ begins-view w k s v copy is (later, ended) replicas leaving known member first n
       front = λ t xs lead h. elim (put-cases w.copies s (Some (g ++ e ∷ [])) t (Some xs) h) [
         | inl p ↦ (let x : g ++ e ∷ [] ≡ xs = cc in sym x ∙ sym now)
         | inr p ↦ elim lead [
-          | inl q ↦ absurd (p.0 q)
+          | inl q ↦ absurd (p.0 q.0)
           | inr q ↦ (let l : v < w.ended = q.1 in absurd (omega arith))
         ]
       ];
       earlier = k.earlier;
+      lost = λ t h. lost-put w k s (g ++ e ∷ []) t h;
       unbegun = λ u l. put-apart w.lists v (g ++ e ∷ []) u (λ q. absurd (omega arith)) ∙ k.unbegun u (omega arith);
       own = ap view_of now ∙ view-behind g e;
       present = (let n : length (put w.lists v (g ++ e ∷ []) v) ≡ length (g ++ e ∷ []) = ap length now in omega (arith, length-append g (e ∷ [])));
@@ -164,15 +174,15 @@ begins-view w k s v copy is (later, ended) replicas leaving known member first n
     }
 
 -- A server has another copy of all that the primary has.
-copies-anew : (w : Shard) → IsKept w → (s : ℕ) → IsKept (left_by w (Copies s))
-copies-anew w k s =
+copies-anew : (w : Shard) → IsKept w → (s : ℕ) → MayHappen w (Copies s) → IsKept (left_by w (Copies s))
+copies-anew w k s a =
     let more : (t position : ℕ) → HasUpTo w.view (w.lists w.view) (is_away w.known w.leaving) w.copies t position →
     HasUpTo w.view (w.lists w.view) (is_away w.known w.leaving) (put w.copies s (w.copies w.primary)) t position = λ t position old. record {
       bound = old.bound;
       begun = old.begun;
       there = old.there;
       part = λ xs ys h b l. elim (put-cases w.copies s (w.copies w.primary) t (Some xs) h) [
-        | inl p ↦ subst (λ (zs : List ListEntry). begins ys zs ≡ true) (sym (primary-front w k xs p.1)) b
+        | inl p ↦ subst (λ (zs : List ListEntry). begins ys zs ≡ true) (sym (primary-front w k a.1 xs p.1)) b
         | inr p ↦ old.part xs ys p.1 b l
       ];
     } in
@@ -183,10 +193,12 @@ copies-anew w k s =
         | inr p ↦ k.copies t xs p.1
       ];
       front = λ t xs lead h. elim (put-cases w.copies s (w.copies w.primary) t (Some xs) h) [
-        | inl p ↦ primary-front w k xs p.1
+        | inl p ↦ primary-front w k a.1 xs p.1
         | inr p ↦ k.front t xs lead p.1
       ];
       earlier = k.earlier;
+      lost = λ t h. (let c = some-copy (w.copies w.primary) a.0 in
+          lost-put w k s c.0 t (subst (λ (o : Option (List ListEntry)). put w.copies s o t ≡ None) c.1 h));
       unbegun = k.unbegun;
       present = k.present;
       own = k.own;
@@ -197,7 +209,7 @@ copies-anew w k s =
             x,
             y,
             lacks-nothing w.acknowledged (put w.copies s (w.copies w.primary) t) (λ copy q. elim (put-cases w.copies s (w.copies w.primary) t (Some copy) q) [
-              | inl p ↦ subst (λ (ys : List ListEntry). begins w.acknowledged ys ≡ true) (sym (primary-front w k copy p.1)) (primary-has-all w k)
+              | inl p ↦ subst (λ (ys : List ListEntry). begins w.acknowledged ys ≡ true) (sym (primary-front w k a.1 copy p.1)) (primary-has-all w k)
               | inr p ↦ has-all w.acknowledged (w.copies t) copy z p.1
             ]),
           ));
@@ -224,7 +236,7 @@ follows : (w : Shard) → IsKept w → (s : ℕ) (list : List ListEntry) → May
 follows w k s list a =
     let copy = a.0 in
     let source = a.1 in
-    let is : source ≡ w.lists w.view = primary-front w k source a.3 in
+    let is : source ≡ w.lists w.view = primary-front w k a.7 source a.3 in
     let on : begins copy list ≡ true = goes-on w k s copy source list a.2 is a.4 a.5 a.6 in
     let in-list : begins list (w.lists w.view) ≡ true = subst (λ (ys : List ListEntry). begins list ys ≡ true) is a.5 in
     let own : begins list (w.lists (view_of list)) ≡ true = k.lists.matched w.view list in-list in
@@ -258,6 +270,7 @@ follows w k s list a =
         | inr p ↦ k.front t xs lead p.1
       ];
       earlier = k.earlier;
+      lost = λ t h. lost-put w k s list t h;
       unbegun = k.unbegun;
       present = k.present;
       own = k.own;
@@ -292,6 +305,7 @@ tells w k s a =
       copies = k.copies;
       front = k.front;
       earlier = k.earlier;
+      lost = k.lost;
       unbegun = k.unbegun;
       present = k.present;
       own = k.own;
@@ -334,6 +348,7 @@ hears-word w k word h = record {
   copies = k.copies;
   front = k.front;
   earlier = k.earlier;
+  lost = k.lost;
   unbegun = k.unbegun;
   present = k.present;
   own = k.own;
@@ -355,20 +370,21 @@ acknowledged-enough : (w : Shard) → IsKept w → (list : List ListEntry) → M
 acknowledged-enough w k list (source, position, is, b, view, longer, acked, within, there) = elim (empty-or-not list) [
   | inl e ↦ enough-more w.servers w.needed w.replicas w.leaving (λ t. not (lacks w.acknowledged (w.copies t))) w.replicas w.leaving (λ t. not (lacks list (w.copies t)))
       k.enough (λ t x y z. (x, y, lacks-nothing list (w.copies t) (λ copy q. rw e refl)))
-  | inr some ↦ told-enough w k w.leaving w.known w.needed list (subst (λ (ys : List ListEntry). begins list ys ≡ true) (primary-front w k source is) b) (λ t h. (h, refl))
+  | inr some ↦ told-enough w k w.leaving w.known w.needed list (subst (λ (ys : List ListEntry). begins list ys ≡ true) (primary-front w k there source is) b) (λ t h. (h, refl))
       (source, is, enough-before (asked_copies w w.needed) (told_of source) (told w) (length list) position within (acked.have (omega arith)), there)
 ]
 
 -- A beginning of the primary's list is acknowledged.
 acknowledges : (w : Shard) → IsKept w → (list : List ListEntry) → MayHappen w (Acknowledges list) → IsKept (left_by w (Acknowledges list))
 acknowledges w k list a =
-    let in-list : begins list (w.lists w.view) ≡ true = subst (λ (ys : List ListEntry). begins list ys ≡ true) (primary-front w k a.0 a.2) a.3 in
+    let in-list : begins list (w.lists w.view) ≡ true = subst (λ (ys : List ListEntry). begins list ys ≡ true) (primary-front w k a.8 a.0 a.2) a.3 in
     let v : view_of list ≡ w.view = a.4 in
     record {
       lists = k.lists;
       copies = k.copies;
       front = k.front;
       earlier = k.earlier;
+      lost = k.lost;
       unbegun = k.unbegun;
       present = k.present;
       own = k.own;
@@ -396,6 +412,7 @@ joins w k s = record {
   copies = k.copies;
   front = k.front;
   earlier = k.earlier;
+  lost = k.lost;
   unbegun = k.unbegun;
   present = k.present;
   own = k.own;
@@ -426,6 +443,7 @@ stays w k s = record {
   copies = k.copies;
   front = k.front;
   earlier = k.earlier;
+  lost = k.lost;
   unbegun = k.unbegun;
   present = k.present;
   own = k.own;
@@ -456,6 +474,7 @@ leave w k s a = record {
   copies = k.copies;
   front = k.front;
   earlier = k.earlier;
+  lost = k.lost;
   unbegun = k.unbegun;
   present = k.present;
   own = k.own;
@@ -496,7 +515,7 @@ taken-has view list away copies s t position old = record {
 }
 
 -- who has lost its copy leads no more
-taken-front : (w : Shard) → IsKept w → (s t : ℕ) (xs : List ListEntry) → (t ≡ w.primary) ⊎ ((put w.former s 0 t ≡ w.ended) × HasNoPrimary w) →
+taken-front : (w : Shard) → IsKept w → (s t : ℕ) (xs : List ListEntry) → ((t ≡ w.primary) × HasPrimary w) ⊎ ((put w.former s 0 t ≡ w.ended) × HasNoPrimary w) →
     put w.copies s None t ≡ Some xs → xs ≡ w.lists w.view
 taken-front w k s t xs lead h = elim (put-cases w.copies s None t (Some xs) h) [
   | inl p ↦ absurd (let e : None ≡ Some xs = p.1 in cc)
@@ -512,6 +531,12 @@ taken-earlier w k s t = elim (cases_eq t s) [
   | inr d ↦ (let e : put w.former s 0 t ≡ w.former t = put-apart w.former s 0 t d in let l : w.former t ≤ w.ended = k.earlier t in omega arith)
 ]
 
+taken-lost : (w : Shard) → IsKept w → (s t : ℕ) → put w.copies s None t ≡ None → put w.former s 0 t ≡ 0
+taken-lost w k s t h = elim (cases_eq t s) [
+  | inl q ↦ put-here w.former s 0 t q
+  | inr d ↦ put-apart w.former s 0 t d ∙ k.lost t (sym (put-apart w.copies s None t d) ∙ h)
+]
+
 -- A server loses its copy.
 loses : (w : Shard) → IsKept w → (s : ℕ) → IsKept (left_by w (Loses s))
 loses w k s = record {
@@ -519,6 +544,7 @@ loses w k s = record {
   copies = λ t xs h. k.copies t xs (taken w.copies s t xs h);
   front = λ t xs lead h. taken-front w k s t xs lead h;
   earlier = taken-earlier w k s;
+  lost = taken-lost w k s;
   unbegun = k.unbegun;
   present = k.present;
   own = k.own;
@@ -539,6 +565,7 @@ goes w k s a = record {
   copies = λ t xs h. k.copies t xs (taken w.copies s t xs h);
   front = λ t xs lead h. taken-front w k s t xs lead h;
   earlier = taken-earlier w k s;
+  lost = taken-lost w k s;
   unbegun = k.unbegun;
   present = k.present;
   own = k.own;
@@ -564,12 +591,13 @@ hands w k s a = record {
   copies = k.copies;
   front = λ t xs lead h. elim lead [
     | inl q ↦
-        let both : Some xs ≡ Some a.0 = sym h ∙ ap w.copies q ∙ a.2 in
+        let both : Some xs ≡ Some a.0 = sym h ∙ ap w.copies q.0 ∙ a.2 in
         let same : xs ≡ a.0 = cc in
-        same ∙ primary-front w k a.0 a.1
+        same ∙ primary-front w k a.3 a.0 a.1
     | inr q ↦ absurd (ends-once w a.3 q.1)
   ];
   earlier = k.earlier;
+  lost = k.lost;
   unbegun = k.unbegun;
   present = k.present;
   own = k.own;
@@ -587,7 +615,7 @@ hands w k s a = record {
 restarts : (w : Shard) → IsKept w → (v : ℕ) → MayHappen w (Restarts v) → IsKept (left_by w (Restarts v))
 restarts w k v a =
     let c = some-copy (w.copies w.primary) a.0 in
-    let all : begins w.acknowledged c.0 ≡ true = subst (λ (ys : List ListEntry). begins w.acknowledged ys ≡ true) (sym (primary-front w k c.0 c.1)) (primary-has-all w k) in
+    let all : begins w.acknowledged c.0 ≡ true = subst (λ (ys : List ListEntry). begins w.acknowledged ys ≡ true) (sym (primary-front w k a.2 c.0 c.1)) (primary-has-all w k) in
     begins-view w k w.primary v c.0 c.1 a.1 w.replicas w.leaving w.known k.member k.first w.needed w.acknowledged all k.below k.whole k.enough
 
 -- The primary asks for more replicas.
@@ -597,6 +625,7 @@ raises w k needed a = record {
   copies = k.copies;
   front = k.front;
   earlier = k.earlier;
+  lost = k.lost;
   unbegun = k.unbegun;
   present = k.present;
   own = k.own;
@@ -616,6 +645,7 @@ lowers w k needed a = record {
   copies = k.copies;
   front = k.front;
   earlier = k.earlier;
+  lost = k.lost;
   unbegun = k.unbegun;
   present = k.present;
   own = k.own;
@@ -640,6 +670,7 @@ removes w k gone needed a = record {
   copies = k.copies;
   front = k.front;
   earlier = k.earlier;
+  lost = k.lost;
   unbegun = k.unbegun;
   present = k.present;
   own = k.own;
@@ -720,9 +751,9 @@ ends w k number a = record {
   lists = k.lists;
   copies = k.copies;
   front = λ t xs lead h. elim lead [
-    | inl q ↦ k.front t xs (inl q) h
+    | inl q ↦ (let l : w.view < number = a.1.0 in let m : number ≤ w.view = q.1 in absurd (omega arith))
     | inr q ↦ elim (cases_eq t w.primary) [
-      | inl same ↦ k.front t xs (inl same) h
+      | inl same ↦ k.front t xs (inl (same, a.2)) h
       | inr d ↦
           let e : w.former t ≡ number = sym (put-apart w.former w.primary number t d) ∙ q.0 in
           let l : w.former t ≤ w.ended = k.earlier t in
@@ -737,6 +768,10 @@ ends w k number a = record {
         let l : w.former t ≤ w.ended = k.earlier t in
         let m : w.ended < number = a.1.1 in
         omega arith
+  ];
+  lost = λ t h. elim (cases_eq t w.primary) [
+    | inl q ↦ absurd (let c = some-copy (w.copies w.primary) a.0 in let e : None ≡ Some c.0 = sym h ∙ ap w.copies q ∙ c.1 in cc)
+    | inr d ↦ put-apart w.former w.primary number t d ∙ k.lost t h
   ];
   unbegun = k.unbegun;
   present = k.present;
@@ -822,6 +857,7 @@ releases w k s others a = record {
   copies = k.copies;
   front = k.front;
   earlier = k.earlier;
+  lost = k.lost;
   unbegun = k.unbegun;
   present = k.present;
   own = k.own;
@@ -839,10 +875,95 @@ releases w k s others a = record {
   first = λ z. (let l : view_of a.0 < w.ended = a.4 in absurd (omega arith));
 }
 
+-- without a primary what is told says nothing of the copies
+untold-is-true : (w : Shard) → HasNoPrimary w → (copies : ℕ → Option (List ListEntry)) (s : ℕ) (told : ToldCopy) →
+    IsTrueOf w.ended w.view (w.lists w.view) (is_away w.known w.leaving) w.copies s told →
+    IsTrueOf w.ended w.view (w.lists w.view) (is_away w.known w.leaving) copies s told
+untold-is-true w none copies s told t = record { below = t.below; has = λ p. absurd (ends-once w p none) }
+
+-- a copy that is no less than the former primary's is the same
+no-less-is-front : (w : Shard) → IsKept w → (source : ℕ) (old list : List ListEntry) → w.copies source ≡ Some list → old ≡ w.lists w.view →
+    IsAtLeast (told_of list) (told_of old) → list ≡ w.lists w.view
+no-less-is-front w k source old list is same more =
+    let in-own : begins list (w.lists (view_of list)) ≡ true = k.copies source list is in
+    let low : view_of list ≤ w.view = copy-below w k list in-own in
+    let v : view_of old ≡ w.view = ap view_of same ∙ k.own in
+    elim (at-least-lists old list more) [
+      | inl l ↦ absurd (omega arith)
+      | inr q ↦
+          let u : view_of list ≡ w.view = sym q.0 ∙ v in
+          let in-view : begins list (w.lists w.view) ≡ true = subst (λ (n : ℕ). begins list (w.lists n) ≡ true) u in-own in
+          let n : length old ≡ length (w.lists w.view) = ap length same in
+          let l : length old ≤ length list = q.1 in
+          let m : length list ≤ length (w.lists w.view) = begins-length list (w.lists w.view) in-view in
+          begins-whole list (w.lists w.view) in-view (omega arith)
+    ]
+
+-- who was the last primary, and takes a list, has the same
+takes-front : (w : Shard) → IsKept w → (s source : ℕ) (list : List ListEntry) → w.copies source ≡ Some list → MayTake w s list → HasNoPrimary w →
+    w.former s ≡ w.ended → list ≡ w.lists w.view
+takes-front w k s source list is (inl (old, e, more)) none last = no-less-is-front w k source old list is (k.front s old (inr (last, none)) e) more
+takes-front w k s source list is (inr (e, away)) none last =
+    let z : w.former s ≡ 0 = k.lost s e in
+    let l : w.view < w.ended = none in
+    absurd (omega arith)
+
+-- who is a replica, has all and takes a list, has all
+takes-all : (w : Shard) → IsKept w → (s source : ℕ) (list : List ListEntry) → w.copies source ≡ Some list → MayTake w s list →
+    w.replicas s ≡ true → not (lacks w.acknowledged (w.copies s)) ≡ true → begins w.acknowledged list ≡ true
+takes-all w k s source list is (inl (old, e, more)) r h = greater-has-all w k s source old list e is (has-all w.acknowledged (w.copies s) old h e) more
+takes-all w k s source list is (inr (e, away)) r h = absurd (both_ways (w.replicas s) away r)
+
+-- Without a primary a server takes another one's list.
+takes : (w : Shard) → IsKept w → (s source : ℕ) → MayHappen w (Takes s source) → IsKept (left_by w (Takes s source))
+takes w k s source (list, is, may, none) = record {
+  lists = k.lists;
+  copies = λ t xs h. elim (put-cases w.copies s (w.copies source) t (Some xs) h) [
+    | inl p ↦ k.copies source xs p.1
+    | inr p ↦ k.copies t xs p.1
+  ];
+  front = λ t xs lead h. elim lead [
+    | inl q ↦ absurd (ends-once w q.1 none)
+    | inr q ↦ elim (put-cases w.copies s (w.copies source) t (Some xs) h) [
+      | inl p ↦
+          let both : Some list ≡ Some xs = sym is ∙ p.1 in
+          let same : list ≡ xs = cc in
+          sym same ∙ takes-front w k s source list is may none (ap w.former (sym p.0) ∙ q.0)
+      | inr p ↦ k.front t xs (inr q) p.1
+    ]
+  ];
+  earlier = k.earlier;
+  lost = λ t h. lost-put w k s list t (subst (λ (o : Option (List ListEntry)). put w.copies s o t ≡ None) is h);
+  unbegun = k.unbegun;
+  present = k.present;
+  own = k.own;
+  below = k.below;
+  whole = k.whole;
+  enough = enough-more w.servers w.needed w.replicas w.leaving (λ t. not (lacks w.acknowledged (w.copies t))) w.replicas w.leaving
+      (λ t. not (lacks w.acknowledged (put w.copies s (w.copies source) t))) k.enough (λ t x y z. (
+        x,
+        y,
+        lacks-nothing w.acknowledged (put w.copies s (w.copies source) t) (λ copy q. elim (put-cases w.copies s (w.copies source) t (Some copy) q) [
+          | inl p ↦
+              let both : Some list ≡ Some copy = sym is ∙ p.1 in
+              let same : list ≡ copy = cc in
+              subst (λ (ys : List ListEntry). begins w.acknowledged ys ≡ true) same (takes-all w k s source list is may (ap w.replicas (sym p.0) ∙ x)
+              (ap (λ (n : ℕ). not (lacks w.acknowledged (w.copies n))) (sym p.0) ∙ z))
+          | inr p ↦ has-all w.acknowledged (w.copies t) copy z p.1
+        ]),
+      ));
+  heard = λ t. untold-is-true w none (put w.copies s (w.copies source)) t (w.heard t) (k.heard t);
+  words = words-more (IsTrueWord w.ended w.view (w.lists w.view) (is_away w.known w.leaving) w.copies)
+      (IsTrueWord w.ended w.view (w.lists w.view) (is_away w.known w.leaving) (put w.copies s (w.copies source)))
+      (λ word t. untold-is-true w none (put w.copies s (w.copies source)) word.server word.copy t) w.words k.words;
+  member = k.member;
+  first = k.first;
+}
+
 -- Each event that may happen keeps the invariant.
 pub kept : (w : Shard) → IsKept w → (e : Event) → MayHappen w e → IsKept (left_by w e)
 kept w k (Executes write) a = executes w k write a
-kept w k (Copies s) a = copies-anew w k s
+kept w k (Copies s) a = copies-anew w k s a
 kept w k (Follows s list) a = follows w k s list a
 kept w k (Tells s) a = tells w k s a
 kept w k (Hears which) a = hears w k which a
@@ -862,3 +983,4 @@ kept w k (Chooses c) a = chooses w k c a
 kept w k (Ends number) a = ends w k number a
 kept w k (Succeeds s v former) a = succeeds w k s v former a
 kept w k (Releases s others) a = releases w k s others a
+kept w k (Takes s source) a = takes w k s source a

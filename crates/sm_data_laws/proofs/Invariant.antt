@@ -7,7 +7,7 @@ use Rattle.sm_copies.specs.declared.order.ToldCopy.{ToldCopy}
 use Rattle.sm_copies.specs.Order.{IsAtLeast}
 use Rattle.sm_copies.specs.Lists.{ListEntry, begins, told_of, view_of}
 use Rattle.sm_copies.proofs.Lists.{begins-length, begins-shorter, begins-through, empty-or-not}
-use Rattle.sm_data_laws.specs.Shard.{HasNoPrimary, IsGreatest, Shard, Word, counted, gone, lacks}
+use Rattle.sm_data_laws.specs.Shard.{HasNoPrimary, HasPrimary, IsGreatest, Shard, Word, counted, gone, lacks}
 use Rattle.sm_data_laws.proofs.Lists.{has-all}
 use Rattle.sm_data_laws.proofs.Counts.{count-apart}
 
@@ -54,13 +54,14 @@ is_away known leaving s = known s && leaving s
 
 -- Who has the list of the view: the primary, or the last one as long as the shard has none, and that has kept its copy.
 abbrev pub IsLeader : Shard → ℕ → Type 0
-IsLeader w s = (s ≡ w.primary) ⊎ ((w.former s ≡ w.ended) × HasNoPrimary w)
+IsLeader w s = ((s ≡ w.primary) × HasPrimary w) ⊎ ((w.former s ≡ w.ended) × HasNoPrimary w)
 
 pub record IsKept (w : Shard) : Type 0 where
   pub lists : AreLists w.lists
   pub copies : AreCopies w.lists w.copies
   pub front : (s : ℕ) (xs : List ListEntry) → IsLeader w s → w.copies s ≡ Some xs → xs ≡ w.lists w.view
   pub earlier : (s : ℕ) → w.former s ≤ w.ended
+  pub lost : (s : ℕ) → w.copies s ≡ None → w.former s ≡ 0
   pub unbegun : (u : ℕ) → w.view < u → w.lists u ≡ []
   pub present : 0 < length (w.lists w.view)
   pub own : view_of (w.lists w.view) ≡ w.view
@@ -77,8 +78,8 @@ pub primary-has-all : (w : Shard) → IsKept w → begins w.acknowledged (w.list
 primary-has-all w k = k.whole w.view k.present k.below
 
 -- the primary's copy is the list of its view
-pub primary-front : (w : Shard) → IsKept w → (xs : List ListEntry) → w.copies w.primary ≡ Some xs → xs ≡ w.lists w.view
-primary-front w k xs e = k.front w.primary xs (inl refl) e
+pub primary-front : (w : Shard) → IsKept w → HasPrimary w → (xs : List ListEntry) → w.copies w.primary ≡ Some xs → xs ≡ w.lists w.view
+primary-front w k there xs e = k.front w.primary xs (inl (refl, there)) e
 
 -- a view that has begun is no later than the primary's
 pub begun-below : (w : Shard) → IsKept w → (u : ℕ) → 0 < length (w.lists u) → u ≤ w.view
@@ -88,7 +89,7 @@ begun-below w k u h = elim (cases_lt w.view u) [
 ]
 
 -- what it is for a list to be at least as great as another one
-at-least-lists : (xs ys : List ListEntry) → IsAtLeast (told_of ys) (told_of xs) →
+pub at-least-lists : (xs ys : List ListEntry) → IsAtLeast (told_of ys) (told_of xs) →
     (view_of xs < view_of ys) ⊎ ((view_of xs ≡ view_of ys) × (length xs ≤ length ys))
 at-least-lists xs ys (inl same) =
     inr (ap (λ (c : ToldCopy). c.view) same, (let n : length xs ≡ length ys = ap (λ (c : ToldCopy). c.position) same in omega arith))

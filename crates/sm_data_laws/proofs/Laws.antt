@@ -6,7 +6,7 @@ use Rattle.sm_placement.specs.Sums.{count_below, put}
 use Rattle.sm_placement.proofs.Sums.{put-apart}
 use Rattle.sm_copies.specs.Lists.{ListEntry, begins, beginning, view_of}
 use Rattle.sm_copies.proofs.Lists.{begins-self, begins-shorter, begins-through}
-use Rattle.sm_data_laws.specs.Shard.{Word, with_heard, MayHappenInTurn, Event, Acknowledges, Changes, Chooses, Copies, Ends, Executes, Follows, Goes, Hands, MayHappen, IsShardReached, Joins, Leave, Loses, Lowers, Raises, Releases, Removes, Restarts, Shard, Stays, Succeeds, Tells, Hears, left_by, lacks, names, new_shard, all_left}
+use Rattle.sm_data_laws.specs.Shard.{Word, with_heard, MayHappenInTurn, Event, Acknowledges, Changes, Chooses, Copies, Ends, Executes, Follows, Goes, Hands, MayHappen, IsShardReached, Joins, Leave, Loses, Lowers, Raises, Releases, Removes, Restarts, Shard, Stays, Succeeds, Takes, Tells, Hears, left_by, lacks, names, new_shard, all_left}
 use Rattle.sm_data_laws.specs.Laws.{AcknowledgedWritesStay, EnoughHaveThem, GreatestHasAll}
 use Rattle.sm_data_laws.proofs.Lists.{lacks-nothing, put-cases}
 use Rattle.sm_data_laws.proofs.Counts.{count-more}
@@ -31,6 +31,7 @@ new-kept servers replicas primary needed enough =
         | inr p ↦ absurd (let e : None ≡ Some xs = p.1 in cc)
       ];
       earlier = λ s. omega arith;
+      lost = λ s h. refl;
       unbegun = λ u l. put-apart (λ _. []) 0 (beginning 0 ∷ []) u (λ q. absurd (omega arith));
       present = omega arith;
       own = refl;
@@ -64,7 +65,7 @@ stays-acknowledged w k (Follows s list) a n = begins-self w.acknowledged
 stays-acknowledged w k (Tells s) a n = begins-self w.acknowledged
 stays-acknowledged w k (Hears which) a n = subst (λ (o : Option Word). begins w.acknowledged (with_heard w o).acknowledged ≡ true) (sym a.1) (begins-self w.acknowledged)
 stays-acknowledged w k (Acknowledges list) a n =
-    begins-shorter w.acknowledged list a.0 (subst (λ (ys : List ListEntry). begins w.acknowledged ys ≡ true) (sym (primary-front w k a.0 a.2)) (primary-has-all w k)) a.3 a.5
+    begins-shorter w.acknowledged list a.0 (subst (λ (ys : List ListEntry). begins w.acknowledged ys ≡ true) (sym (primary-front w k a.8 a.0 a.2)) (primary-has-all w k)) a.3 a.5
 stays-acknowledged w k (Joins s) a n = begins-self w.acknowledged
 stays-acknowledged w k (Leave s) a n = begins-self w.acknowledged
 stays-acknowledged w k (Goes s) a n = begins-self w.acknowledged
@@ -79,6 +80,7 @@ stays-acknowledged w k (Changes s v answered) a n = begins-self w.acknowledged
 stays-acknowledged w k (Ends number) a n = begins-self w.acknowledged
 stays-acknowledged w k (Succeeds s v former) a n = begins-self w.acknowledged
 stays-acknowledged w k (Releases s others) a n = begins-self w.acknowledged
+stays-acknowledged w k (Takes s source) a n = begins-self w.acknowledged
 stays-acknowledged w k (Chooses c) a n = subst (λ (b : Bool). begins w.acknowledged (if b then [] else w.acknowledged) ≡ true) (sym n) (begins-self w.acknowledged)
 
 all-acknowledged : (w : Shard) (es : List Event) → IsKept w → MayHappenInTurn w es → AllByRecursion (λ e. names e ≡ false) es → begins w.acknowledged (all_left es w).acknowledged ≡ true
@@ -90,11 +92,11 @@ all-acknowledged w (e ∷ es) k a n =
 
 -- acknowledged writes stay with the primary
 pub acknowledged-writes-stay : AcknowledgedWritesStay
-acknowledged-writes-stay w es copy r a n is =
+acknowledged-writes-stay w es copy r a n there is =
     let k : IsKept w = reached-kept w r in
     let l : IsKept (all_left es w) = all-kept w es k a in
     begins-through w.acknowledged (all_left es w).acknowledged copy (all-acknowledged w es k a n)
-    (subst (λ (ys : List ListEntry). begins (all_left es w).acknowledged ys ≡ true) (sym (primary-front (all_left es w) l copy is)) (primary-has-all (all_left es w) l))
+    (subst (λ (ys : List ListEntry). begins (all_left es w).acknowledged ys ≡ true) (sym (primary-front (all_left es w) l there copy is)) (primary-has-all (all_left es w) l))
 
 -- enough replicas have them
 pub enough-have-them : EnoughHaveThem

@@ -1,10 +1,11 @@
 -- The worked plays, step by step.
 use Rattle.std.proofs.Common.{◌≡◌, ◌==◌, ℕ, ◌<◌, List, [], ◌∷◌, ◌++◌, Some, None, zero, suc, refl, subst, arith, inl, inr}
-use Rattle.std.proofs.lemmas.Bool.{eqb-true, false≢true}
+use Rattle.std.proofs.lemmas.Bool.{eqb-true, false≢true, ltb-true}
+use Rattle.std.specs.Prelude.{nat_lt}
 use Rattle.sm_copies.specs.Order.{IsAtLeast}
 use Rattle.sm_copies.specs.Lists.{ListEntry, beginning, told_of}
-use Rattle.sm_data_laws.specs.Shard.{Ends, Event, HaveNoLess, Loses, Lowers, MayHappenInTurn, Shard, all_left, left_by}
-use Rattle.sm_data_laws.specs.Plays.{FORMER_IS_ASKED, FORMER_IS_RELEASED, LeavesWithoutPrimary, OutlivesItsPrimary, PRIMARY_IS_LOST, SEVEN, SEVEN_IS_WRITTEN, SucceedsItsPrimary, THREE}
+use Rattle.sm_data_laws.specs.Shard.{Ends, Event, Goes, HaveNoLess, Joins, Loses, Lowers, MayHappenInTurn, Releases, Takes, Shard, all_left, left_by}
+use Rattle.sm_data_laws.specs.Plays.{ComesWithoutPrimary, FORMER_IS_ASKED, FORMER_IS_RELEASED, LAGGARD_COMES_AGAIN, LeavesWithoutPrimary, OutlivesItsPrimary, PRIMARY_IS_LOST, SEVEN, SEVEN_IS_WRITTEN, SucceedsItsPrimary, THREE}
 
 -- what is allowed in turn, with what is allowed behind it
 in-turn : (w : Shard) (es fs : List Event) → MayHappenInTurn w es → MayHappenInTurn (all_left es w) fs → MayHappenInTurn w (es ++ fs)
@@ -142,6 +143,60 @@ leaves-without-primary = record {
           (
             (beginning 0 ∷ SEVEN ∷ [], refl, λ s copy l a h. greatest s copy l h, (omega arith, omega arith), omega arith),
             tt,
+          ),
+        ),
+      ),
+    ),
+  );
+  has_primary = omega arith;
+  primary = refl;
+  acknowledged = refl;
+  copy = refl;
+}
+
+-- the shard when its primary has ended
+abbrev LED_LAST : Shard
+LED_LAST = all_left (SEVEN_IS_WRITTEN ++ Ends 3 ∷ []) THREE
+
+-- servers 0 and 1 have all that server 2 has
+both-have-more : HaveNoLess LED_LAST (λ t. nat_lt t 2) 2 (beginning 0 ∷ [])
+both-have-more zero h = (λ q. absurd (omega arith), refl, beginning 0 ∷ SEVEN ∷ [], refl, inr (inr (refl, omega arith)))
+both-have-more (suc zero) h = (λ q. absurd (omega arith), refl, beginning 0 ∷ SEVEN ∷ [], refl, inr (inr (refl, omega arith)))
+both-have-more (suc (suc t)) h = absurd (let l : suc (suc t) < 2 = ltb-true (suc (suc t)) 2 h in omega arith)
+
+-- the shard when server 2 has come again, and server 1 has lost its disk
+abbrev COME : Shard
+COME = all_left (SEVEN_IS_WRITTEN ++ Ends 3 ∷ Releases 2 (λ t. nat_lt t 2) ∷ Goes 2 ∷ Takes 2 1 ∷ Joins 2 ∷ Loses 1 ∷ []) THREE
+
+-- server 2 has as much as any
+greatest-come : (s : ℕ) (copy : List ListEntry) → s < 3 → COME.copies s ≡ Some copy → IsAtLeast (told_of (beginning 0 ∷ SEVEN ∷ [])) (told_of copy)
+greatest-come zero copy l h = let e : Some (beginning 0 ∷ SEVEN ∷ []) ≡ Some copy = h in let q : beginning 0 ∷ SEVEN ∷ [] ≡ copy = cc in
+    subst (λ (ys : List ListEntry). IsAtLeast (told_of (beginning 0 ∷ SEVEN ∷ [])) (told_of ys)) q (inl refl)
+greatest-come (suc zero) copy l h = absurd (let e : None ≡ Some copy = h in cc)
+greatest-come (suc (suc zero)) copy l h = let e : Some (beginning 0 ∷ SEVEN ∷ []) ≡ Some copy = h in let q : beginning 0 ∷ SEVEN ∷ [] ≡ copy = cc in
+    subst (λ (ys : List ListEntry). IsAtLeast (told_of (beginning 0 ∷ SEVEN ∷ [])) (told_of ys)) q (inl refl)
+greatest-come (suc (suc (suc s))) copy l h = absurd (omega arith)
+
+-- a replica comes without a primary
+pub comes-without-primary : ComesWithoutPrimary
+comes-without-primary = record {
+  allowed = in-turn THREE SEVEN_IS_WRITTEN LAGGARD_COMES_AGAIN written (
+    (refl, (omega arith, omega arith), omega arith),
+    (
+      (beginning 0 ∷ [], refl, both-have-more, omega arith, omega arith),
+      (
+        refl,
+        (
+          (beginning 0 ∷ SEVEN ∷ [], refl, inr (refl, refl), omega arith),
+          (
+            tt,
+            (
+              tt,
+              (
+                (beginning 0 ∷ SEVEN ∷ [], refl, λ s copy l a h. greatest-come s copy l h, (omega arith, omega arith), omega arith),
+                tt,
+              ),
+            ),
           ),
         ),
       ),

@@ -85,10 +85,10 @@ told-enough w k leaving known needed list b only (source, is, have, there) =
     (counts (view_of source) (length list)) (λ t. w.replicas t && (not (leaving t) && not (lacks list (w.copies t)))) have.1 others own
   where
     view : view_of source ≡ w.view
-    view = ap view_of (primary-front w k source is) ∙ k.own
+    view = ap view_of (primary-front w k there source is) ∙ k.own
 
     has : not (lacks list (w.copies w.primary)) ≡ true
-    has = lacks-nothing list (w.copies w.primary) (λ copy q. subst (λ (ys : List ListEntry). begins list ys ≡ true) (sym (primary-front w k copy q)) b)
+    has = lacks-nothing list (w.copies w.primary) (λ copy q. subst (λ (ys : List ListEntry). begins list ys ≡ true) (sym (primary-front w k there copy q)) b)
 
     own : (nat_lt w.primary w.servers && (w.replicas w.primary && not (leaving w.primary))) ≡ true →
         (w.primary < w.servers) × ((w.replicas w.primary && (not (leaving w.primary) && not (lacks list (w.copies w.primary)))) ≡ true)

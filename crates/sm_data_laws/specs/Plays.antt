@@ -1,7 +1,7 @@
 -- Worked plays: the premises of the laws can be met, and each way to another primary can be gone.
-use Rattle.std.specs.Prelude.{◌≡◌, ◌==◌, ℕ, true, false, List, [], ◌∷◌, ◌++◌, Some}
+use Rattle.std.specs.Prelude.{◌≡◌, ◌==◌, nat_lt, ℕ, true, false, List, [], ◌∷◌, ◌++◌, Some}
 use Rattle.sm_copies.specs.Lists.{ListEntry, beginning}
-use Rattle.sm_data_laws.specs.Shard.{Acknowledges, Changes, Chooses, Copies, Ends, Event, Executes, Follows, Goes, HasPrimary, Hears, Loses, Lowers, MayHappenInTurn, Releases, Shard, Succeeds, Tells, all_left, new_shard}
+use Rattle.sm_data_laws.specs.Shard.{Acknowledges, Changes, Chooses, Copies, Ends, Event, Executes, Follows, Goes, HasPrimary, Hears, Joins, Loses, Lowers, MayHappenInTurn, Releases, Shard, Succeeds, Takes, Tells, all_left, new_shard}
 
 -- three replicas, of which 0 is primary; two have each write
 abbrev pub THREE : Shard
@@ -33,6 +33,12 @@ FORMER_IS_ASKED = Lowers 1 ∷ Loses 2 ∷ Ends 3 ∷ Succeeds 1 5 0 ∷ []
 abbrev pub FORMER_IS_RELEASED : List Event
 FORMER_IS_RELEASED = Lowers 1 ∷ Ends 3 ∷ Releases 0 (λ t. t == 1) ∷ Goes 0 ∷ Changes 1 5 (λ _. true) ∷ []
 
+-- Or server 2, which lags, gets leave of the others and goes; comes again by server 1's copy, without a primary; and
+-- becomes primary itself when server 1 has lost its disk.
+abbrev pub LAGGARD_COMES_AGAIN : List Event
+LAGGARD_COMES_AGAIN =
+    Ends 3 ∷ Releases 2 (λ t. nat_lt t 2) ∷ Goes 2 ∷ Takes 2 1 ∷ Joins 2 ∷ Loses 1 ∷ Changes 2 5 (λ _. true) ∷ []
+
 -- A play with these events behind the write is allowed. The write is acknowledged and with the primary, which began
 -- a view.
 pub record EndsWithTheWrite (events : List Event) (heir view : ℕ) : Type 0 where
@@ -54,3 +60,7 @@ SucceedsItsPrimary = EndsWithTheWrite FORMER_IS_ASKED 1 5
 -- A replica goes without a primary, by leave of one that has all that it has.
 abbrev pub LeavesWithoutPrimary : Type 0
 LeavesWithoutPrimary = EndsWithTheWrite FORMER_IS_RELEASED 1 5
+
+-- A replica comes without a primary, by the copy of another one.
+abbrev pub ComesWithoutPrimary : Type 0
+ComesWithoutPrimary = EndsWithTheWrite LAGGARD_COMES_AGAIN 2 5

@@ -1,5 +1,5 @@
 -- What happens to the data of one shard: writes, copies, losses, replicas that come and go, other primaries. What a server has is what is durable there.
-use Rattle.std.specs.Prelude.{◌≡◌, ◌≢◌, ◌<◌, ◌≤◌, ◌+◌, ◌==◌, ◌&&◌, nat_lt, ℕ, zero, suc, Bool, true, false, not, List, [], ◌∷◌, ◌++◌, Option, Some, None, is_some, length, slice_get, if◌then◌else◌}
+use Rattle.std.specs.Prelude.{◌≡◌, ◌≢◌, ◌<◌, ◌≤◌, ◌⊎◌, ◌+◌, ◌==◌, ◌&&◌, nat_lt, ℕ, zero, suc, Bool, true, false, not, List, [], ◌∷◌, ◌++◌, Option, Some, None, is_some, length, slice_get, if◌then◌else◌}
 use Rattle.sm_placement.specs.Sums.{put, count_below}
 use Rattle.sm_copies.specs.declared.order.ToldCopy.{ToldCopy}
 use Rattle.sm_copies.specs.Order.{IsAtLeast}
@@ -94,6 +94,8 @@ pub data Event : Type 0 where
   Succeeds : (server view former : ℕ) → Event
   -- A replica that was told of no primary gets leave of others, which have told it that they have all that it has.
   Releases : (server : ℕ) (others : ℕ → Bool) → Event
+  -- Without a primary a server has another copy of all that some server has, made beside the one that it had, if any.
+  Takes : (server source : ℕ) → Event
 
 -- The shard has a primary: its view began after the last one ended.
 abbrev pub HasPrimary : Shard → Type 0
@@ -152,6 +154,12 @@ abbrev pub HaveNoLess : Shard → (ℕ → Bool) → ℕ → List ListEntry → 
 HaveNoLess w others s list = (t : ℕ) → others t ≡ true → (t ≢ s) × (is_counted w t ≡ true)
     × (copy : List ListEntry) × (w.copies t ≡ Some copy) × IsAtLeast (told_of copy) (told_of list)
 
+-- A server may have a list in place of its copy without a primary: the copy is no greater, or the server has none and is
+-- no replica yet.
+abbrev pub MayTake : Shard → ℕ → List ListEntry → Type 0
+MayTake w s list = ((copy : List ListEntry) × (w.copies s ≡ Some copy) × IsAtLeast (told_of list) (told_of copy))
+    ⊎ ((w.copies s ≡ None) × (w.replicas s ≡ false))
+
 -- no copy that is told is greater
 abbrev pub IsGreatest : Shard → (ℕ → Bool) → List ListEntry → Type 0
 IsGreatest w answered heir = (s : ℕ) (copy : List ListEntry) → s < w.servers → answered s ≡ true → w.copies s ≡ Some copy → IsAtLeast (told_of heir) (told_of copy)
@@ -196,6 +204,7 @@ MayHappen w (Succeeds s view former) = (copy kept : List ListEntry) × (w.copies
     × (w.former former ≡ w.ended) × IsAtLeast (told_of copy) (told_of kept) × IsLater w view × HasNoPrimary w
 MayHappen w (Releases s others) = (copy : List ListEntry) × (w.copies s ≡ Some copy) × HaveNoLess w others s copy
     × (w.needed ≤ count_below w.servers others) × (view_of copy < w.ended)
+MayHappen w (Takes s source) = (list : List ListEntry) × (w.copies source ≡ Some list) × MayTake w s list × HasNoPrimary w
 
 -- the list of a whole copy, empty without one
 abbrev pub list_of : Option (List ListEntry) → List ListEntry
@@ -261,6 +270,7 @@ left_by w (Chooses choice) = record (with_view w choice.heir choice.view) {
 left_by w (Ends number) = record w { ended = number; former = put w.former w.primary number }
 left_by w (Succeeds s view former) = with_view w s view
 left_by w (Releases s others) = record w { leaving = put w.leaving s true }
+left_by w (Takes s source) = record w { copies = put w.copies s (w.copies source) }
 
 -- a whole schedule
 abbrev pub all_left : List Event → Shard → Shard

@@ -1,9 +1,9 @@
 //! The laws.
 ghost use Rattle.sm_data_laws.specs.Laws.{AcknowledgedWritesStay, EnoughHaveThem, GreatestHasAll};
-ghost use Rattle.sm_data_laws.specs.Plays.{LeavesWithoutPrimary, OutlivesItsPrimary, SucceedsItsPrimary};
+ghost use Rattle.sm_data_laws.specs.Plays.{ComesWithoutPrimary, LeavesWithoutPrimary, OutlivesItsPrimary, SucceedsItsPrimary};
 
-/// States that the primary, if it has a whole copy, has every write that was ever acknowledged, whatever happened since, unless a
-/// reopening has named the shard as lost.
+/// States that the primary, if there is one and it has a whole copy, has every write that was ever acknowledged, whatever
+/// happened since, unless a reopening has named the shard as lost.
 pub fn acknowledged_writes_stay()
     ensures { AcknowledgedWritesStay }
 {}
@@ -30,7 +30,14 @@ pub fn a_secondary_succeeds_its_primary()
     ensures { SucceedsItsPrimary }
 {}
 
-/// States that a replica can go without a primary, by leave of one that has all that it has: so it does in a worked play.
+/// States that a replica can go without a primary, by leave of one that has all that it has: so it does in a worked
+/// play.
 pub fn a_replica_leaves_without_a_primary()
     ensures { LeavesWithoutPrimary }
+{}
+
+/// States that a replica can come without a primary, by the copy of another one: so it does in a worked play, and keeps
+/// the write.
+pub fn a_replica_comes_without_a_primary()
+    ensures { ComesWithoutPrimary }
 {}
