@@ -4,11 +4,11 @@ from collections import Counter
 from dataclasses import dataclass, replace
 
 from driving_model.cells import ABSENT, PRIMARY, SECONDARY
-from driving_model.commands import Approve, Begin, Open, RestoreServer
+from driving_model.commands import Approve, Begin, Open, Restarted, RestoreServer
 from driving_model.laws import Sight, Violation
-from driving_model.messages import BASE_STEP
-from driving_model.plans import Plan, RoomRight, Stream
-from driving_model.replies import Ignored, Opened, Refused
+from driving_model.messages import BASE_STEP, LONGEST_LOG, Notice
+from driving_model.plans import CellRight, Plan, RoomRight, Stream, add
+from driving_model.replies import Begun, Ignored, Opened, Refused, Up
 from driving_model.sized_controller import SizedController
 from driving_model.sized_plays import PLAYS, SizedPlay, played
 from driving_model.sized_schedule import OWN, SizedSchedule, run_schedule
@@ -19,10 +19,10 @@ STEPS = 220
 RUNS = {"": 60} | {it: 20 for it in sorted(OWN)}
 # What happens in some schedule of these.
 MET = (
-    "a late ask", "carried over", "forgot", "grown", "journal replaced", "new sizes", "not resized: Engaged",
+    "a late ask", "came with slots", "forgot", "grown", "journal replaced", "new sizes", "not resized: Engaged",
     "not resized: OverRoom", "refused: OverRoom", "refused: Running", "refused: Short", "refused: StillThere",
-    "reopened", "resized beside a plan", "restored", "server added", "server taken away", "shard added",
-    "shard taken away", "shrunk",
+    "refused: TooManyDown", "reopened", "resized beside a plan", "restored", "server added", "server taken away",
+    "shard added", "shard taken away", "shrunk",
 )
 
 
@@ -37,9 +37,18 @@ class Dice:
 
 # If the model changes, so do the schedules of seeds: `tools/driving_model.py --sizes --mode RULE` finds another one.
 DICE = {
-    "old_loads_left": Dice(219, "no_order_is_refused", "tight"),
-    "held_rooms_fit": Dice(182, "loads_fit", "tight"),
-    "named_loads_stay": Dice(25, "loads_fit", "tight"),
+    "old_loads_left": Dice(51, "no_order_is_refused", "still"),
+    "cells_stay": Dice(7, "servers_have_what_is_recorded", "still"),
+    "loads_fit": Dice(1, "loads_fit", "still"),
+    "floors_live": Dice(3, "floors_are_kept", "still"),
+    "limit_down": Dice(6, "away_is_recorded", "still"),
+    "log_down": Dice(46, "log_fits", "still"),
+    "leaver_is_bare": Dice(10, "servers_have_what_is_recorded", "still"),
+    "shard_is_bare": Dice(4, "servers_have_what_is_recorded", "still"),
+    "newcomer_down": Dice(107, "present_orders_are_not_old", "still"),
+    "own_base_told": Dice(85, "present_orders_are_not_old", "still"),
+    "named_loads_stay": Dice(1, "loads_fit", "tight"),
+    "held_rooms_fit": Dice(10, "loads_fit", "tight"),
 }
 DOCUMENT = SizedDocument(
     servers=frozenset({0, 1, 2}), rooms=(10, 10, 5, 10), loads=(4, 4, 1), wants=(2, 1, 1), caps=(1, 0, 1), limit=1,
@@ -52,7 +61,7 @@ class RulesAreNeeded(unittest.TestCase):
     """The table of rules, and how each is shown to be needed."""
 
     def test_each_rule_has_a_play_and_a_sentence(self):
-        self.assertEqual(sorted({it.rule for it in PLAYS if it.rule}), sorted(sized_rule_names()))
+        self.assertLess(set(sized_rule_names()), {it.rule for it in PLAYS})
         for rule in sized_rule_names():
             self.assertTrue(sentence_of(rule).endswith("."), rule)
         with self.assertRaises(ValueError):
@@ -72,6 +81,17 @@ class RulesAreNeeded(unittest.TestCase):
                 self.assertIsNotNone(violation, f"no law is broken without {rule}")
                 self.assertEqual(violation.law, dice.law)
                 self.assertIsNone(run_schedule(dice.seed, SOUND, STEPS, dice.profile).violation)
+
+
+class AtRest(unittest.TestCase):
+    """What changes at rest alone do not ask for."""
+
+    def test_a_server_keeps_no_number_of_sizes(self):
+        """Each order has had its effect at rest, so a late one is old whatever loads count."""
+        rules = SOUND.without("sizes_heeded")
+        for seed in range(1, 31):
+            with self.subTest(seed=seed):
+                self.assertIsNone(run_schedule(seed, rules, STEPS, "still").violation)
 
 
 class SoundSchedules(unittest.TestCase):
@@ -94,6 +114,16 @@ class SoundSchedules(unittest.TestCase):
         for command, outcome in schedule.world.session:
             controller = SizedController() if begins_a_journal(command) else controller
             self.assertEqual(controller.apply(command), outcome)
+
+
+def second_shard_to(server):
+    """A stream that adds a secondary of the second shard at the server."""
+    return Stream({CellRight(1, server): ABSENT, RoomRight(server): 4}, (add(1, server, SECONDARY.kind),))
+
+
+def new_permit(server, epoch):
+    """The permit of a server that an epoch adds."""
+    return epoch * BASE_STEP + LONGEST_LOG + 1 + server
 
 
 class Changes(unittest.TestCase):
@@ -129,8 +159,8 @@ class Changes(unittest.TestCase):
         self.assert_reply(self.change(left_out=frozenset({1, 2})), Refused("StillThere", server=1, shard=1))
         self.controller.apply(Approve(2, "by"))
         self.assert_reply(self.change(limit=0), Refused("TooManyDown", detail="1 of 0"))
-        self.assert_reply(self.change(log=0), Refused("LogFull"))
-        self.assert_reply(self.change(servers=frozenset({0, 1})), Refused("StillDown", server=2))
+        self.assert_reply(self.change(log=0), Refused("LogFull", detail="1 of 0"))
+        self.assert_reply(self.change(servers=frozenset({0, 1, 2, 3})), Refused("TooManyDown", detail="2 of 1"))
 
     def test_a_floor_that_a_reopening_has_lowered_stays_so(self):
         record = self.controller.record
@@ -139,15 +169,35 @@ class Changes(unittest.TestCase):
         self.assertEqual(self.controller.record.floors[0], 1)
         self.assert_reply(self.change(wants=(3, 1, 1)), Refused("Short", shard=0, detail="1 of 3"))
 
-    def test_a_plan_names_what_is_there_and_known(self):
-        plan = Begin("p", Plan((Stream({RoomRight(0): 1}, ()),)))
-        self.assertEqual(self.controller.apply(plan).reply.plan, 0)
-        self.assert_reply(self.change(servers=frozenset({0, 1, 2, 3})), Opened(9, 1))
-        self.assertEqual(self.controller.known, set())
-        self.controller.apply(RestoreServer(3, 77))
-        self.assertEqual(self.controller.known, {3})
-        self.assert_reply(self.change(servers=frozenset({0, 1, 2})), Opened(9, 2))
-        self.assertEqual((self.controller.known, self.controller.restores), (set(), {}))
+    def test_a_server_that_is_added_is_down_until_it_has_slots(self):
+        permit, told = new_permit(3, epoch=1), Begin("p", Plan((second_shard_to(3),)))
+        self.assert_reply(self.change(servers=frozenset({0, 1, 2, 3})), Opened(9, 1, ((3, permit),)))
+        self.assertEqual(self.controller.outgoing(), [Notice(3, 9, 0)])
+        self.assert_reply(told, Refused("ServerDown", server=3))
+        self.assert_reply(Restarted(permit, None), Refused("Unsettled", server=3))
+        restore = self.controller.apply(RestoreServer(3, 77)).reply.restore
+        self.assertEqual((restore.base, {it.cell for it in restore.slots}), (BASE_STEP, {ABSENT}))
+        self.assert_reply(Restarted(permit, restore.base), Up(3))
+        self.assertEqual(self.controller.apply(told).reply, Begun(1, 0, 1, 1))
+
+    def test_a_permit_stands_over_a_change(self):
+        permit = self.controller.apply(Approve(0, "by")).reply.permit
+        self.assert_reply(self.change(loads=(3, 4, 1), limit=2), Opened(9, 1, ((0, permit),)))
+        four = self.change(servers=frozenset({0, 1, 2, 3}))
+        self.assert_reply(four, Opened(9, 2, ((0, permit), (3, new_permit(3, epoch=2)))))
+        self.assert_reply(self.change(limit=1), Refused("TooManyDown", detail="2 of 1"))
+        self.assert_reply(Restarted(permit, 0), Up(0))
+
+    def test_with_a_server_goes_what_was_told_of_it(self):
+        self.controller.apply(RestoreServer(2, 77))
+        self.controller.apply(Approve(2, "by"))
+        self.assert_reply(self.change(servers=frozenset({0, 1})), Opened(9, 1))
+        self.assertEqual((self.controller.restores, self.controller.carried), ({}, set()))
+        self.assert_reply(Begin("p", Plan((second_shard_to(2),))), Refused("ServerDown", server=2))
+
+    def test_a_plan_names_shards_that_are_there(self):
+        plan = Begin("p", Plan((Stream({CellRight(2, 2): ABSENT, RoomRight(2): 1}, (add(2, 2, SECONDARY.kind),)),)))
+        self.assert_reply(plan, Refused("UnknownShard", shard=2))
 
     def test_sizes_change_once(self):
         self.assert_reply(Resize(loads=((0, 3),), rooms=((2, 6),)), Resized(1))

@@ -8,24 +8,21 @@ from . import commands, controller
 from .cells import ABSENT
 from .commands import Command
 from .controller import Answer, refuse
-from .messages import MAP, Publication
+from .messages import Publication
 from .record import Record
 from .replies import Ignored, Outcome
-from .reopening import Reopening
-from .sized_decisions import epoch_fault, resize_fault, unmet_server, unmet_shard
+from .sized_decisions import epoch_fault, newcomers, resize_fault, unmet_shard
 from .sizes import NewEpoch, Order, Resize, Resized, SOUND, SizedDocument, SizedRules
 
 
 class SizedController(controller.Controller):
-    """The controller of one journal. Sizes are as they are since the number `sized`, and `known` are the servers that a
-    restore or a settle has made known."""
+    """The controller of one journal. Sizes are as they are since the number `sized`."""
 
     rules: SizedRules
 
     def __init__(self, rules: SizedRules = SOUND) -> None:
         super().__init__(rules)
         self.sized = 0
-        self.known: set[int] = set()
 
     def order(self, plan: int, stream: int) -> Order | Publication | None:
         """The order that the stream stands before, with the number since which sizes are as they are."""
@@ -46,48 +43,33 @@ class SizedController(controller.Controller):
             return Outcome(answer.reply, has_changed=False)
 
     def begin(self, command: commands.Begin) -> Outcome:
-        """Begins a plan over shards that there are, and servers that are known."""
+        """Begins a plan over shards that there are."""
         if command.name not in self.begun and self.is_open:
             shard = unmet_shard(command.plan, self.record.document)
             if shard is not None:
                 raise refuse("UnknownShard", shard=shard)
-            server = unmet_server(command.plan, self.known)
-            if server is not None and self.rules.newcomer_restored:
-                raise refuse("Unknown", server=server)
         return super().begin(command)
-
-    def restore(self, command: commands.RestoreServer) -> Outcome:
-        """Restores a server that has no slots, which is known from then on."""
-        outcome = super().restore(command)
-        self.known.add(command.server)
-        return outcome
-
-    def put_in_force(self, reopening: Reopening) -> None:
-        """Opens the epoch of a reopening: who has answered is known, and of the others who was."""
-        super().put_in_force(reopening)
-        self.known = (self.known | set(reopening.inventories) - {MAP}) & reopening.document.servers
 
     # Changes of sizes.
 
     def new_sizes(self, command: NewEpoch) -> Outcome:
-        """Opens the next epoch over the placement as it stands, with the sizes of a document."""
+        """Opens the next epoch over the placement as it stands, with the sizes of a document. A server that is added is
+        down, and in the way of one that was carried over: it may have slots of before the last reopening."""
         record, document = self.need_open(), command.document
         running = next((it for it, plan in enumerate(record.plans) if not plan.is_done), None)
         if running is not None:
             raise refuse("Running", plan=running)
         self.refuse_for(epoch_fault(record, document, self.rules))
         outcome = super().new_epoch(command)
-        left = record.document.servers - document.servers
         self.record = self.record_over(record, document)
         self.sized = self.base
-        self.known -= left
-        self.carried -= left
-        if self.rules.restore_dropped:
-            self.restores = {server: it for server, it in self.restores.items() if server not in left}
+        self.carried = (self.carried | newcomers(record, document, self.rules.newcomer_told)) & set(self.record.permits)
+        self.restores = {server: it for server, it in self.restores.items() if server in document.servers}
         return replace(outcome, reply=self.opened())
 
     def record_over(self, before: Record, document: SizedDocument) -> Record:
-        """The record of an epoch with these sizes, over the placement before."""
+        """The record of an epoch with these sizes, over the placement before. Who was down is, whatever the document
+        says, and so is who is added."""
         source = before.cells if self.rules.cells_stay else document.cells
         cells = tuple(
             tuple(
@@ -96,7 +78,8 @@ class SizedController(controller.Controller):
             )
             for shard, row in enumerate(source)
         )
-        permits = {server: permit for server, permit in before.permits.items() if server in document.servers}
+        down = newcomers(before, document, self.rules.newcomer_down)
+        permits = self.permits_at_opening(replace(document, down=down), before.permits)
         record = Record(document, cells, permits)
         record.listed = [None if it in document.left_out else before.listed[it] for it in before.shards]
         if not self.rules.floors_live:

@@ -10,19 +10,22 @@ from .replies import Refused
 from .sizes import Resize, SizedDocument, SizedRules
 
 
+def newcomers(record: Record, document: SizedDocument, has_rule: bool = True) -> frozenset[int]:
+    """The servers that the document adds; none without the rule that is about them."""
+    return document.servers - record.document.servers if has_rule else frozenset()
+
+
 def epoch_fault(record: Record, document: SizedDocument, rules: SizedRules) -> Refused | None:
     """Why no epoch opens over the record with the document's sizes."""
     return leaver_fault(record, document, rules) or place_fault(record, document, rules)
 
 
 def leaver_fault(record: Record, document: SizedDocument, rules: SizedRules) -> Refused | None:
-    """A server or a shard that is taken away, and has a cell, or is down."""
+    """A server or a shard that is taken away, and has a cell."""
     for server in sorted(record.document.servers - document.servers):
         shard = next((it for it in record.shards if record.cells[it][server] != ABSENT), None)
         if shard is not None and rules.leaver_is_bare:
             return Refused("StillThere", server=server, shard=shard)
-        if server in record.permits and rules.leaver_is_up:
-            return Refused("StillDown", server=server)
     for shard in sorted(document.left_out - record.document.left_out):
         server = next((it for it, cell in enumerate(record.cells[shard]) if cell != ABSENT), None)
         if server is not None and rules.shard_is_bare:
@@ -31,20 +34,30 @@ def leaver_fault(record: Record, document: SizedDocument, rules: SizedRules) -> 
 
 
 def place_fault(record: Record, document: SizedDocument, rules: SizedRules) -> Refused | None:
-    """Why the placement would not be settled with the document's sizes. A floor or a limit that a reopening has lowered
-    or lifted may stay so."""
+    """Why the placement would not be settled with the document's sizes."""
     for server in sorted(document.servers & record.document.servers):
         load = sum(document.loads[it] for it in record.shards if record.cells[it][server] != ABSENT)
         if load > document.rooms[server] and rules.loads_fit:
             return Refused("OverRoom", server=server, detail=f"{load} of {document.rooms[server]}")
+    return live_fault(record, document, rules) or down_fault(record, document, rules)
+
+
+def live_fault(record: Record, document: SizedDocument, rules: SizedRules) -> Refused | None:
+    """A floor that is raised above the shard's live replicas. One that a reopening has lowered may stay so."""
     for shard in record.shards:
         live, floor = record.live(shard), document.floor(shard)
         if live < floor and floor > record.document.floor(shard) and rules.floors_live:
             return Refused("Short", shard=shard, detail=f"{live} of {floor}")
-    down = len(record.permits)
-    if down > document.limit and document.limit < record.document.limit and rules.limit_down:
-        return Refused("TooManyDown", detail=f"{down} of {document.limit}")
-    return Refused("LogFull") if down > document.log and rules.log_down else None
+    return None
+
+
+def down_fault(record: Record, document: SizedDocument, rules: SizedRules) -> Refused | None:
+    """A limit or a log that is too low for those who are down and stay, and whom the document adds."""
+    added = newcomers(record, document, rules.newcomer_down)
+    down, limit = len(added | (document.servers & set(record.permits))), document.limit
+    if down > limit and (added or limit < record.document.limit) and rules.limit_down:
+        return Refused("TooManyDown", detail=f"{down} of {limit}")
+    return Refused("LogFull", detail=f"{down} of {document.log}") if down > document.log and rules.log_down else None
 
 
 def names_of_keys(keys: Iterable[Key]) -> tuple[set[int], set[int]]:
@@ -101,9 +114,3 @@ def unmet_shard(plan: Plan, document: SizedDocument) -> int | None:
     keys = [key for it in plan.streams for key in it.declares] + [key for it in plan.signals for key in it]
     shards = names_of_keys(keys)[0] | {at.shard for it in plan.streams for at in it.code if at.shard is not None}
     return min(shards & document.left_out, default=None)
-
-
-def unmet_server(plan: Plan, known: set[int]) -> int | None:
-    """A server that the plan's code names, and nobody has made known."""
-    named = frozenset().union(*(it.servers for it in plan.streams))
-    return min(named - known, default=None)

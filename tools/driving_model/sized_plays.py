@@ -8,10 +8,10 @@ from . import commands
 from .cells import ABSENT, Kind, PRIMARY, SECONDARY
 from .laws import Violation
 from .messages import Restore
-from .plans import CellRight, CrownRight, RoomRight, SpareRight, add, drop
+from .plans import CellRight, CrownRight, RoomRight, SpareRight, add, drop, publish, unlist
 from .play import Play, Row
-from .replies import Approved, Begun, Opened, Refused, Reply
-from .sized_world import OTHER_JOURNAL, SizedWorld
+from .replies import Approved, Begun, Ignored, Opened, Refused, Reply, Up
+from .sized_world import SizedWorld
 from .sizes import NewEpoch, Order, Resize, Resized, SOUND, SizedDocument, SizedRules
 
 
@@ -47,7 +47,18 @@ class SizedPlay(Play):
         """A plan that adds a replica begins."""
         rights = {CellRight(shard, server): ABSENT, RoomRight(server): self.sizes.loads[shard]}
         crown = {CrownRight(shard): self.controller.record.crown(shard)} if role is Kind.PRIMARY else {}
-        return self.run((add(shard, server, role),), rights | crown)
+        code = (add(shard, server, role), publish(shard)) if crown else (add(shard, server, role),)
+        return self.run(code, rights | crown)
+
+    def drop(self, shard: int, server: int) -> None:
+        """A plan drops a secondary, or a primary that the map names."""
+        cell = self.controller.record.cells[shard][server]
+        if cell == SECONDARY:
+            must(self.run((drop(shard, server),), {CellRight(shard, server): cell, SpareRight(shard): 1}), Begun)
+        else:
+            rights = {CrownRight(shard): self.controller.record.crown(shard), SpareRight(shard): 1}
+            must(self.run((unlist(shard), drop(shard, server)), rights), Begun)
+        self.turns()
 
     def run(self, code: tuple, rights: dict) -> Reply:
         """A plan of one stream begins."""
@@ -58,6 +69,30 @@ class SizedPlay(Play):
         """All that may be sent comes, some times."""
         for _ in range(number):
             self.turn()
+
+    def all_again(self) -> None:
+        """All that was ever sent comes again, to whom it was sent."""
+        for message in list(self.world.network.messages.items):
+            self.deliver(message)
+
+    def call_up(self, server: int) -> Reply:
+        """A server that is down tells its base."""
+        return self.do(self.world.hosts[server].restarted(self.controller.record.permits[server]))
+
+    def reopen_all(self, silent: frozenset[int] = frozenset()) -> None:
+        """A reopening of the service as it is, to its end. Silent servers are carried over."""
+        self.do(commands.Reopen(self.sizes, frozenset()))
+        self.turn(silent)
+        self.do(commands.Confirm(self.controller.reopening.base, None))
+        self.turn(silent)
+
+    def welcome(self, server: int) -> None:
+        """A server that was added hears what it is told, asks for its slots if it has none, and comes up."""
+        self.turns()
+        if not self.world.hosts[server].server.is_known:
+            self.do(self.world.hosts[server].ask())
+            self.turns()
+        must(self.call_up(server), Up)
 
 
 def must(reply: Reply, kind: type) -> None:
@@ -71,6 +106,54 @@ def shrunk_at_rest(rules: SizedRules) -> None:
     play = SizedPlay(rules, ((PRIMARY, SECONDARY, ABSENT), (ABSENT, ABSENT, PRIMARY)), loads=(6, 6))
     must(play.change(loads=(3, 6)), Opened)
     must(play.add(1, 1), Begun)
+    play.turns()
+
+
+def shrunk_and_grown(rules: SizedRules) -> None:
+    """The same over two changes, of which the first shrinks it further."""
+    play = SizedPlay(rules, ((PRIMARY, SECONDARY, ABSENT), (ABSENT, ABSENT, PRIMARY)), loads=(6, 6))
+    must(play.change(loads=(2, 6)), Opened)
+    must(play.change(loads=(4, 6)), Opened)
+    must(play.add(1, 1), Begun)
+    play.turns()
+
+
+def shrunk_while_it_is_down(rules: SizedRules) -> None:
+    """The same for a server that is down meanwhile: it starts with its slots, and comes up by the permit of before."""
+    play = SizedPlay(rules, ((PRIMARY, SECONDARY, ABSENT), (ABSENT, ABSENT, PRIMARY)), loads=(6, 6))
+    approved = play.do(commands.Approve(1, "by"))
+    play.world.away.add(1)
+    play.world.hosts[1].is_alive = False
+    opened = play.change(loads=(3, 6))
+    if not isinstance(opened, Opened) or opened.permits != ((1, approved.permit),):
+        raise Violation("goes_on", f"the permit {approved} became {opened}")
+    play.world.hosts[1].start()
+    must(play.call_up(1), Up)
+    must(play.add(1, 1), Begun)
+    play.turns()
+
+
+def grown_behind_an_order(rules: SizedRules) -> None:
+    """A shard grows into the room that another one has left, whose order to come there comes again."""
+    rows = ((PRIMARY, SECONDARY, ABSENT), (ABSENT, ABSENT, PRIMARY))
+    play = SizedPlay(rules, rows, loads=(4, 6))
+    must(play.add(1, 1), Begun)
+    play.turns()
+    play.drop(1, 1)
+    must(play.change(loads=(10, 6)), Opened)
+    play.all_again()
+
+
+def told_again_after_a_change(rules: SizedRules) -> None:
+    """A controller crashes behind a change, with an order under way: what any beginning of its journal tells was told
+    before, and with the whole of it the same goes on."""
+    play = SizedPlay(rules, ((PRIMARY, SECONDARY, ABSENT), (ABSENT, ABSENT, PRIMARY)), loads=(6, 6))
+    must(play.add(1, 0), Refused)
+    must(play.change(loads=(3, 6)), Opened)
+    must(play.add(1, 1), Begun)
+    for length in range(1, len(play.world.journal) + 1):
+        play.world.check_replay(length)
+    play.all_again()
     play.turns()
 
 
@@ -144,14 +227,20 @@ def leaver_with_a_primary(rules: SizedRules) -> None:
 
 
 def leaver_is_down(rules: SizedRules) -> None:
-    """A server is down by leave, is taken away and comes back into the record. With a limit of one, another is down."""
+    """A server that is down by leave is taken away, is added again, and comes up by a permit of its own alone."""
     play = SizedPlay(rules, ((PRIMARY, ABSENT, ABSENT), (ABSENT, ABSENT, PRIMARY)), loads=(2, 2), limit=1)
-    must(play.do(commands.Approve(1, "by")), Approved)
+    approved = play.do(commands.Approve(1, "by"))
+    must(approved, Approved)
     play.world.away.add(1)
     play.world.hosts[1].is_alive = False
-    if not isinstance(play.change(servers=frozenset({0, 2})), Refused):
-        play.do(commands.Approve(2, "other"))
-        play.change(servers=frozenset({0, 1, 2}))
+    must(play.change(servers=frozenset({0, 2})), Opened)
+    must(play.change(servers=frozenset({0, 1, 2})), Opened)
+    play.world.hosts[1].start()
+    must(play.do(play.world.hosts[1].restarted(approved.permit)), Ignored)
+    must(play.do(commands.Approve(2, "other")), Refused)
+    play.welcome(1)
+    must(play.add(0, 1), Begun)
+    play.turns()
 
 
 def shard_with_a_primary(rules: SizedRules) -> None:
@@ -164,12 +253,16 @@ def shard_with_a_primary(rules: SizedRules) -> None:
 
 
 def newcomer_of_another_service(rules: SizedRules) -> None:
-    """A server that is added has the slots of another journal, and a plan begins on it."""
+    """A server that is added has the slots of another service, and is called up. Then it is begun anew, and used."""
     play = SizedPlay(rules, ((PRIMARY, ABSENT, ABSENT),), loads=(2,))
-    server = play.world.hosts[3].server
-    server.journal, server.is_known = OTHER_JOURNAL, True
+    play.world.hosts[3].server.begin_elsewhere()
     must(play.change(servers=frozenset({0, 1, 2, 3})), Opened)
+    play.call_up(3)
     play.add(0, 3)
+    play.turns()
+    play.world.lose(play.world.hosts[3])
+    play.welcome(3)
+    must(play.add(0, 3), Begun)
     play.turns()
 
 
@@ -182,19 +275,100 @@ def newcomer_without_slots(rules: SizedRules) -> None:
     play.turns()
     if next(play.controller.record.running(), None):
         raise Violation("goes_on", "the server is named by a plan, and cannot be restored any more")
+    must(play.call_up(3), Up)
     must(play.add(0, 3), Begun)
     play.turns()
 
 
-def leaver_returns(rules: SizedRules) -> None:
-    """A server that was restored, and never took it, is taken away and returns, still Unknown under the same nonce."""
+def newcomer_beyond_the_limit(rules: SizedRules) -> None:
+    """One server may be down, and is; another one is to be added, which would be the second."""
+    play = SizedPlay(rules, ((PRIMARY, ABSENT, ABSENT),), loads=(2,), limit=1)
+    must(play.do(commands.Approve(1, "by")), Approved)
+    play.change(servers=frozenset({0, 1, 2, 3}))
+
+
+def newcomer_added_twice(rules: SizedRules) -> None:
+    """The line that adds a server is written again, as its reply was lost, before the server is up and after that."""
     play = SizedPlay(rules, ((PRIMARY, ABSENT, ABSENT),), loads=(2,))
-    play.lose_and_ask(1)
-    must(play.change(servers=frozenset({0, 2})), Opened)
-    must(play.change(servers=frozenset({0, 1, 2})), Opened)
-    play.do(play.world.hosts[1].ask())
-    must(play.add(0, 1), Begun)
+    all_of_them = frozenset({0, 1, 2, 3})
+    first, second = play.change(servers=all_of_them), play.change(servers=all_of_them)
+    must(first, Opened)
+    if first.permits != second.permits:
+        raise Violation("goes_on", f"its permit was {first.permits}, and is {second.permits}")
+    play.welcome(3)
+    must(play.change(servers=all_of_them), Opened)
+    must(play.add(0, 3), Begun)
     play.turns()
+    play.all_again()
+
+
+def returns_with_its_slots(rules: SizedRules) -> None:
+    """A server had a replica, leaves without it, and returns with the slots that it left with. All that it was sent
+    before comes again."""
+    play = SizedPlay(rules, ((PRIMARY, ABSENT, ABSENT),), loads=(2,))
+    must(play.add(0, 2), Begun)
+    play.turns()
+    play.drop(0, 2)
+    must(play.change(servers=frozenset({0, 1})), Opened)
+    must(play.change(servers=frozenset({0, 1, 2})), Opened)
+    play.welcome(2)
+    play.all_again()
+    must(play.add(0, 2), Begun)
+    play.turns()
+    play.all_again()
+
+
+def returns_from_before_a_reopening(rules: SizedRules) -> None:
+    """A server leaves, a reopening follows, and it returns with the slots of before: it has to turn Unknown and ask."""
+    play = SizedPlay(rules, ((PRIMARY, SECONDARY, ABSENT),), loads=(2,))
+    must(play.change(servers=frozenset({0, 1})), Opened)
+    play.reopen_all()
+    must(play.change(servers=frozenset({0, 1, 2})), Opened)
+    play.welcome(2)
+    must(play.add(0, 2), Begun)
+    play.turns()
+
+
+def newcomer_is_carried_over(rules: SizedRules) -> None:
+    """A reopening begins while a server that was added is silent: it stays down, and is welcome later."""
+    play = SizedPlay(rules, ((PRIMARY, SECONDARY, ABSENT),), loads=(2,))
+    must(play.change(servers=frozenset({0, 1, 2, 3})), Opened)
+    play.reopen_all(silent=frozenset({3}))
+    play.welcome(3)
+    must(play.add(0, 3), Begun)
+    play.turns()
+
+
+def server_under_an_old_number(rules: SizedRules) -> None:
+    """A server that was restored leaves, and another machine comes under its number. It gets what the first was sent:
+    its restore, with a replica that was dropped since, and its orders."""
+    play = SizedPlay(rules, ((PRIMARY, ABSENT, SECONDARY),), loads=(2,))
+    play.lose_and_ask(2)
+    play.turns()
+    play.drop(0, 2)
+    must(play.change(servers=frozenset({0, 1})), Opened)
+    play.world.lose(play.world.hosts[2])
+    must(play.change(servers=frozenset({0, 1, 2})), Opened)
+    play.all_again()
+    play.welcome(2)
+    play.all_again()
+    must(play.add(0, 2), Begun)
+    play.turns()
+
+
+def shard_under_an_old_number(rules: SizedRules) -> None:
+    """A shard is moved about and taken away, and another one comes under its number. All that was sent of the first
+    comes again: orders to servers that have slots of it, and what the map was to show."""
+    play = SizedPlay(rules, ((PRIMARY, ABSENT, ABSENT), (ABSENT, PRIMARY, ABSENT)), loads=(2, 2))
+    must(play.add(1, 2), Begun)
+    play.turns()
+    play.drop(1, 2)
+    play.drop(1, 1)
+    must(play.change(left_out=frozenset({1})), Opened)
+    must(play.change(left_out=frozenset(), loads=(2, 7)), Opened)
+    must(play.add(1, 0, Kind.PRIMARY), Begun)
+    play.turns()
+    play.all_again()
 
 
 def named_load_grows(rules: SizedRules) -> None:
@@ -238,29 +412,22 @@ def shard_comes_and_goes(rules: SizedRules) -> None:
         must(play.add(1, 1, Kind.PRIMARY), Begun)
         play.turns()
         must(play.change(left_out=frozenset({1})), Refused)
-        lead = play.controller.record.crown(1)
-        must(play.run((drop(1, 1),), {CrownRight(1): lead, SpareRight(1): 1}), Begun)
-        play.turns()
+        play.drop(1, 1)
         must(play.change(left_out=frozenset({1})), Opened)
 
 
 def reopening_after_a_change(rules: SizedRules) -> None:
     """Loads shrink, and a reopening follows that carries a server over. It comes back with its old slots, turns
-    Unknown, is restored, and takes what has room beside the smaller load."""
+    Unknown, is restored, and takes what has room beside the smaller load. Then another change follows."""
     play = SizedPlay(rules, ((PRIMARY, SECONDARY, ABSENT), (ABSENT, ABSENT, PRIMARY)), loads=(6, 6))
-    approved = play.do(commands.Approve(1, "by"))
-    must(approved, Approved)
+    must(play.do(commands.Approve(1, "by")), Approved)
     must(play.change(loads=(3, 6)), Opened)
-    play.do(commands.Reopen(play.sizes, frozenset()))
-    play.turn(silent=frozenset({1}))
-    play.do(commands.Confirm(play.controller.reopening.base, None))
-    play.turn(silent=frozenset({1}))
-    play.turns()
-    play.do(play.world.hosts[1].ask())
-    play.turns()
-    play.do(play.world.hosts[1].restarted(approved.permit))
+    play.reopen_all(silent=frozenset({1}))
+    play.welcome(1)
     must(play.add(1, 1), Begun)
     play.turns()
+    must(play.change(loads=(4, 6)), Opened)
+    play.all_again()
 
 
 @dataclass(frozen=True, slots=True)
@@ -278,25 +445,36 @@ class Worked:
 
 PLAYS = (
     Worked(shrunk_at_rest, "old_loads_left"),
+    Worked(shrunk_and_grown, "old_loads_left"),
+    Worked(shrunk_while_it_is_down, "old_loads_left"),
     Worked(shrunk_before_a_restore, "old_loads_left"),
-    Worked(shrunk_beside_a_plan, "old_loads_left"),
-    Worked(shrunk_beside_a_plan, "sizes_heeded"),
+    Worked(told_again_after_a_change, "old_loads_left"),
+    Worked(reopening_after_a_change),
+    Worked(grown_behind_an_order, "kept_slots"),
     Worked(document_of_another_day, "cells_stay"),
     Worked(grown_beyond_room, "loads_fit"),
     Worked(floor_raised, "floors_live"),
     Worked(limit_lowered, "limit_down"),
     Worked(log_too_short, "log_down"),
     Worked(leaver_with_a_primary, "leaver_is_bare"),
-    Worked(leaver_is_down, "leaver_is_up"),
+    Worked(leaver_is_down),
     Worked(shard_with_a_primary, "shard_is_bare"),
-    Worked(newcomer_of_another_service, "newcomer_restored"),
-    Worked(newcomer_without_slots, "newcomer_restored"),
-    Worked(leaver_returns, "restore_dropped"),
+    Worked(shard_comes_and_goes),
+    Worked(shard_under_an_old_number, "kept_slots"),
+    Worked(shard_under_an_old_number, "version_order"),
+    Worked(server_under_an_old_number, "restore_nonce"),
+    Worked(newcomer_of_another_service, "own_base_told"),
+    Worked(newcomer_without_slots, "newcomer_down"),
+    Worked(newcomer_beyond_the_limit, "limit_down"),
+    Worked(newcomer_added_twice),
+    Worked(newcomer_is_carried_over),
+    Worked(returns_with_its_slots, "kept_slots"),
+    Worked(returns_from_before_a_reopening, "newcomer_told"),
+    Worked(shrunk_beside_a_plan, "old_loads_left"),
+    Worked(shrunk_beside_a_plan, "sizes_heeded"),
     Worked(named_load_grows, "named_loads_stay"),
     Worked(named_room_grows, "named_rooms_stay"),
     Worked(room_is_held, "held_rooms_fit"),
-    Worked(shard_comes_and_goes),
-    Worked(reopening_after_a_change),
 )
 
 

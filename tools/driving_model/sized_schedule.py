@@ -5,25 +5,29 @@ import random
 from dataclasses import replace
 
 from . import commands, schedule
-from .cells import ABSENT, PRIMARY, SECONDARY
+from .cells import ABSENT, PRIMARY, SECONDARY, Stage
 from .commands import Document
+from .fair import finish_all
 from .generator import PlanMaker, random_document
 from .laws import Violation
+from .plans import CellRight, CrownRight, Hold, SpareRight, drop, unlist
 from .schedule import Chances, Found, USUAL
-from .sized_world import OTHER_JOURNAL, SizedOperator, SizedWorld
+from .sized_world import SizedOperator, SizedWorld
 from .sizes import SizedDocument, SizedRules
 
 WEIGHTS = schedule.WEIGHTS | {"sizes": 0.05, "resize": 0.04}
 REST = {"plan": 0.5, "answer": 2, "deliver": 1.3, "work": 2, "sizes": 2, "resize": 0.3, "epoch": 0.5, "fault": 0.6}
+# (changes at rest alone)
+STILL = REST | {"sizes": 2.5, "resize": 0, "restart": 2, "ask": 2}
 BUSY = {"plan": 2, "sizes": 0.3, "resize": 3, "fault": 0.5, "epoch": 0.5}
 TIGHT = {
     "plan": 4, "deliver": 2, "work": 3, "answer": 2, "sizes": 0.5, "resize": 5, "fault": 0.2, "epoch": 0.3,
     "request": 0.3, "approve": 0.3, "restart": 0.5,
 }
 # How much more often something happens in a schedule that is about changes at rest, beside running plans, and so on.
-PROFILES: dict[str, dict[str, float]] = schedule.PROFILES | {"rest": REST, "busy": BUSY, "tight": TIGHT}
-OWN = frozenset({"rest", "busy", "tight"})
-OFTEN = ("rest", "rest", "rest", "busy", "busy", "tight", "tight", *USUAL)
+OWN: dict[str, dict[str, float]] = {"still": STILL, "rest": REST, "busy": BUSY, "tight": TIGHT}
+PROFILES: dict[str, dict[str, float]] = schedule.PROFILES | OWN
+OFTEN = ("still", "still", "still", "still", "rest", "busy", "tight", *USUAL)
 
 
 def tight_document(dice: random.Random) -> Document:
@@ -60,8 +64,23 @@ class SizedPlanMaker(PlanMaker):
     """Makes plans for the shards that there are."""
 
     def add_streams(self, shard: int, shards: list[int]) -> bool:
-        """Adds what is to be done to a shard."""
-        return shard not in self.record.document.left_out and super().add_streams(shard, shards)
+        """Adds what is to be done to a shard; now and then all its replicas go."""
+        if shard in self.record.document.left_out:
+            return False
+        return self.retire(shard) if self.dice.random() < 0.2 else super().add_streams(shard, shards)
+
+    def retire(self, shard: int) -> bool:
+        """A stream drops all replicas of a shard, if they are free and none has to be live."""
+        lead, secondaries = self.record.lead(shard), self.free(shard, SECONDARY)
+        count = len(secondaries) + 1
+        held = sum(it != ABSENT for it in self.record.cells[shard])
+        if lead.stage is not Stage.AT or count != held or self.record.free_spare(shard, self.held) < count:
+            return False
+        rights: Hold = {CrownRight(shard): self.record.crown(shard), SpareRight(shard): count}
+        rights |= {CellRight(shard, it): SECONDARY for it in secondaries}
+        drops = tuple(drop(shard, it) for it in (*secondaries, lead.owner))
+        self.add(rights, drops[:-1] + (unlist(shard), drops[-1]))
+        return False
 
 
 class SizedSchedule(schedule.Schedule):
@@ -92,9 +111,16 @@ class SizedSchedule(schedule.Schedule):
     def put_outside(self) -> None:
         """Now and then a server outside is another service's."""
         for number in sorted(self.world.given_up):
-            server = self.world.hosts[number].server
             if self.rare.random() < 0.4:
-                server.journal, server.is_known = OTHER_JOURNAL, True
+                self.world.hosts[number].server.begin_elsewhere()
+
+    def run(self) -> None:
+        """Makes all events, and then what is fair until all is done."""
+        for _ in range(self.steps):
+            self.event()
+            self.world.check()
+        self.operator.begin_anew()
+        finish_all(self.world, self.operator)
 
     def drawn_weights(self) -> list[float]:
         """The weights of the kinds of events, each somewhat more or less."""
@@ -114,7 +140,9 @@ class SizedSchedule(schedule.Schedule):
             self.begun.append(begin)
 
     def on_sizes(self) -> None:
-        """Sizes change at rest."""
+        """Sizes change at rest. Now and then a server that is another service's is begun anew before."""
+        if self.rare.random() < 0.15:
+            self.operator.begin_anew()
         self.operator.change_at_rest()
 
     def on_resize(self) -> None:

@@ -2,11 +2,11 @@
 from __future__ import annotations
 
 import random
-from dataclasses import replace
+from dataclasses import dataclass, replace
 
 from . import laws
-from .cells import ABSENT, Kind, SECONDARY
-from .commands import Command, Open, Reopen
+from .cells import ABSENT
+from .commands import Command, Open, Reopen, Restarted
 from .controller import Controller
 from .laws import Sight, Violation
 from .map_owner import Entry
@@ -19,8 +19,16 @@ from .sized_server import SizedServer
 from .sizes import NewEpoch, Resize, SizedDocument, SizedRules
 from .world import Host, World
 
-# The journal of another service.
-OTHER_JOURNAL = 99
+
+@dataclass(slots=True)
+class SizedHost(Host):
+    """A server with its service, in a world whose controller it may be asked by."""
+
+    world: "SizedWorld | None" = None
+
+    def restarted(self, permit: int) -> Restarted:
+        """The end of its restart, with the base that it tells."""
+        return Restarted(permit, None if self.is_lost else self.server.base_for(self.world.controller.journal))
 
 
 class SizedWorld(World):
@@ -33,7 +41,8 @@ class SizedWorld(World):
 
     def new_host(self, number: int) -> Host:
         """A server without slots or data."""
-        return Host(SizedServer(number, len(self.loads), self.rules, nonce=1), [[] for _ in self.shards])
+        server = SizedServer(number, len(self.loads), self.rules, nonce=1)
+        return SizedHost(server, [[] for _ in self.shards], world=self)
 
     def start(self) -> None:
         """Opens the document, and restores every server that it has."""
@@ -61,10 +70,22 @@ class SizedWorld(World):
         if was_reopening and self.controller.is_open:
             self.away &= set(record.permits)
         if outcome.has_changed and isinstance(command, NewEpoch):
-            self.count(self.document, command.document)
-            self.given_up = (self.given_up | self.document.servers) - command.document.servers
+            self.pass_on(self.document, command.document)
         self.see()
         return outcome
+
+    def pass_on(self, old: SizedDocument, new: SizedDocument) -> None:
+        """The next epoch has opened with a document: who is added may be called up, and who is taken away is not the
+        service's any longer."""
+        self.count(old, new)
+        self.given_up = (self.given_up | old.servers) - new.servers
+        self.away = (self.away & new.servers) | ((new.servers - old.servers) & set(self.controller.record.permits))
+
+    def strangers(self) -> list[Host]:
+        """The servers that are recorded as down, and have the slots of another journal."""
+        record = self.controller.record
+        down = [self.hosts[it] for it in sorted(record.permits)] if record else []
+        return [it for it in down if it.is_up and it.server.journal != self.controller.journal]
 
     def see(self) -> None:
         """The present sizes are those of the reopening under way, or as they are recorded."""
@@ -105,8 +126,12 @@ class SizedWorld(World):
         return replayed(self.journal[:length], self.rules)
 
     def sizes_at(self, host: Host) -> SizedDocument | None:
-        """The document that says how large the server and its shards are: that of a settle which it has taken, or what
-        is recorded."""
+        """The document that says how large the server and its shards are, for the law of rooms.
+
+        It is the recorded one from the entry on that changes it: at rest all orders have had their effect, so each
+        server has what is recorded, of which the entry was refused if it had not room by the new sizes. Only in a
+        reopening the new sizes come server by server: with its settle, since that brings the cells that fit them.
+        """
         reopening, record = self.controller.reopening, self.controller.record
         server = host.server
         is_settled = reopening and reopening.settles and server.base >= reopening.base and not server.is_fenced
@@ -208,7 +233,7 @@ class SizedOperator(Operator):
         )
 
     def other_parts(self, document: SizedDocument) -> SizedDocument:
-        """The document with a server or a shard more or less, and the cells of another day."""
+        """The document with a server or a shard more or less."""
         servers, left_out = document.servers, document.left_out
         outside = [it.number for it in self.world.hosts if it.number not in servers and not it.is_lost]
         draw = self.sizer.random()
@@ -237,19 +262,40 @@ class SizedOperator(Operator):
         if not self.controller.is_open:
             return
         document = self.controller.record.document
+        before = document.servers
         if self.sizer.random() < 0.7:
             document = self.other_sizes(document)
-        if self.sizer.random() < 0.6:
+        while self.sizer.random() < 0.5:
             document = self.other_parts(document)
-        added = document.servers - self.controller.record.document.servers
+        added = len(document.servers - before)
+        if added and self.sizer.random() < 0.8:
+            document = replace(document, limit=document.limit + added)
         outcome = self.world.do(NewEpoch(document))
         self.world.coverage["new sizes"] += outcome.has_changed
         if isinstance(outcome.reply, Refused):
             self.world.coverage[f"refused: {outcome.reply.kind}"] += 1
-        for number in added if outcome.has_changed else ():
-            if self.sizer.random() < 0.4:
+        else:
+            self.move_machines(before, document.servers)
+
+    def move_machines(self, before: frozenset[int], after: frozenset[int]) -> None:
+        """A server that was added comes with the slots that it left with, or is another machine without any. One that
+        was taken away may go to another service."""
+        for number in sorted(after - before):
+            if self.sizer.random() < 0.5:
                 self.world.say("server", number, "comes without slots")
                 self.world.lose(self.world.hosts[number])
+            else:
+                self.world.coverage["came with slots"] += self.world.hosts[number].is_up
+        for number in sorted(before - after):
+            if self.sizer.random() < 0.2:
+                self.world.say("server", number, "goes to another service")
+                self.world.hosts[number].server.begin_elsewhere()
+
+    def begin_anew(self) -> None:
+        """Servers that were added with the slots of another service are begun without any."""
+        for host in self.world.strangers():
+            self.world.say("server", host.number, "was another service's")
+            self.world.lose(host)
 
     def resize(self) -> None:
         """Some sizes change beside the plans that run."""

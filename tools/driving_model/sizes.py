@@ -3,6 +3,10 @@
 At rest `NewEpoch` with a document opens the next epoch over the placement as it stands, with other loads, rooms, wants,
 caps and limits, with servers and shards that are added without cells, or taken away without any. Beside running plans
 `Resize` changes loads and rooms that no unfinished stream names. Nobody is fenced, and nobody waits.
+
+Servers learn new sizes by orders, which bring the load and the room that they are about, and the number since which
+sizes are as they are. What was brought before is old, and counts no more. There is no other message: a server that is
+added is recorded as down, and comes up by the permit of its restart, once it has slots.
 """
 from __future__ import annotations
 
@@ -61,19 +65,23 @@ class SizedRules(Rules):
     old_loads_left: bool = rule(
         "An order names since when sizes are as they are, and a load that was brought before does not count against it."
     )
-    sizes_heeded: bool = rule("A server keeps the latest such number of its orders, and holds earlier orders to it.")
+    own_base_told: bool = rule("A server tells its base, at the end of a restart, to its own journal's controller alone.")
     # A new epoch with a document.
     cells_stay: bool = rule("A new epoch's cells are those recorded, whatever its document has.")
     loads_fit: bool = rule("It leaves the load of each server within its room.")
     floors_live: bool = rule("It raises no floor above the shard's live replicas.")
-    limit_down: bool = rule("It takes the limit below the number of those down no further than it is.")
+    limit_down: bool = rule(
+        "Its limit is not below the number of those down, with whom it adds. One that a reopening has lifted stays so."
+    )
     log_down: bool = rule("Its log has a place for each server that is down.")
     leaver_is_bare: bool = rule("A server that it takes away has nothing of any shard.")
-    leaver_is_up: bool = rule("A server that it takes away is not down.")
     shard_is_bare: bool = rule("A shard that it takes away has nothing at any server.")
-    newcomer_restored: bool = rule("A plan names no server that neither a restore nor a settle has made known.")
-    restore_dropped: bool = rule("With a server that is taken away goes its restore, so it gets one when it returns.")
-    # Beside running plans.
+    newcomer_down: bool = rule("A server that it adds is down under a permit, so no plan names it before it has slots.")
+    newcomer_told: bool = rule(
+        "A server that it adds is told of the last reopening, so one that left before that turns Unknown, and asks."
+    )
+    # Beside running plans. (At rest each order has had its effect, so a late one is old before its loads count.)
+    sizes_heeded: bool = rule("A server keeps the latest such number of its orders, and holds earlier orders to it.")
     named_loads_stay: bool = rule("The load of a shard that an unfinished stream names stays.")
     named_rooms_stay: bool = rule("The room of a server that an unfinished stream names stays.")
     held_rooms_fit: bool = rule("Loads and what plans hold are within room after a change of sizes, too.")
