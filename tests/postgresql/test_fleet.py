@@ -10,8 +10,11 @@ from pathlib import Path
 
 import servers  # (it makes the packages be found)
 import psycopg
+from smplan_pg import streams
 from smplan_pg.adopt import adopt
 from smplan_pg.database import Database
+from smplan_pg.records import Records
+from smplan_pg.server import Server
 
 TABLES = """CREATE SCHEMA s; CREATE TABLE s.accounts (id int PRIMARY KEY, balance bigint NOT NULL DEFAULT 0);
 CREATE TABLE s.history (id bigserial PRIMARY KEY, request text); INSERT INTO s.accounts SELECT it FROM generate_series(1, 1000) it"""
@@ -112,6 +115,36 @@ class FleetTest(unittest.TestCase):
         FLEET.posts["a"].query("INSERT INTO s.accounts VALUES (2000, 7)")
         self.settle()
         self.assertEqual(FLEET.posts["b"].query("SELECT balance FROM s.accounts WHERE id = 2000"), [(7,)])
+
+    def test_4_b_a_stream_that_is_made_again_beneath_a_follower(self):
+        """The follower's subscription is on all the time, and lacks what was written while it had no stream."""
+        stream, log = FLEET.posts["b"].query("SELECT sm.stream('s', 2)")[0][0], FLEET.folder / "pg-b.log"
+        for it in (FLEET.agents["b"], FLEET.posts["b"]):
+            it.kill()
+        FLEET.wait_for("a goes on without b", lambda: FLEET.posts["a"].query("SELECT count(*) FROM s.sm_members, pg_replication_slots") == [(0,)])
+        self.write(request="in the gap")
+        FLEET.agents["a"].kill()
+        database = Database(FLEET.posts["a"].reach)
+        server = Server("a", database, FLEET.posts["a"].reach, [])
+        server.number = 1
+        with database.transaction() as tx:  # (as a secondary it tells nothing)
+            streams.publish(tx, "s", "")
+        streams.make_stream(database, "s", 2)
+        with database.transaction() as tx:
+            server.whole.begin_view(tx, "s", Records(tx).mark("s").view + 1, {2: False})
+        database.close()
+        before = len(log.read_text())
+        FLEET.posts["b"].start()
+        FLEET.posts["b"].wait()
+        FLEET.wait_for("b meets what does not go on from its copy", lambda: "ERROR" in log.read_text()[before:])
+        self.assertNotIn("already exists", log.read_text()[before:])
+        self.assertIn("can't be followed by a copy that has", log.read_text()[before:])
+        self.assertEqual(FLEET.posts["b"].query("SELECT count(*) FROM s.history WHERE request = 'in the gap'"), [(0,)])
+        self.assertEqual(FLEET.posts["a"].query("SELECT count(*) FROM pg_replication_slots WHERE slot_name = %s", (stream,)), [(1,)])
+        for name in "ab":
+            FLEET.agents[name].start()
+        self.settle()
+        FLEET.wait_for("b's copy is whole", lambda: FLEET.posts["b"].query("SELECT count(*) FROM sm.copying") == [(0,)], 120)
 
     def test_5_a_change_of_the_schema(self):
         for name in ("a", "b"):

@@ -378,6 +378,34 @@ class StreamTest(Case):
         POST.query("DELETE FROM sm.copied")
 
 
+class BeginTest(Case):
+    """What a list begins with is taken by a copy that is the same alone."""
+
+    def test_compared_where_all_is_copied(self):
+        self.adopt(cell=Cell.PRIMARY)
+        begin, tables = f"INSERT INTO {self.shard}.sm_begun (view, position) VALUES (%s, %s)", ("sm_begun", "sm_counters", "sm_views")
+        with self.client() as c:
+            c.execute(streams.said("CREATE SUBSCRIPTION {} CONNECTION 'host=/nowhere' PUBLICATION p WITH (connect = false)", self.shard))
+            c.execute("SET allow_system_table_mods = on")
+            c.execute("INSERT INTO pg_subscription_rel (srsubid, srrelid, srsubstate) SELECT s.oid, to_regclass(%s || '.' || it), 'd' "
+                      "FROM pg_subscription s, unnest(%s::text[]) it WHERE subname = %s", (self.shard, list(tables), self.shard))
+        POST.query(f"UPDATE {self.shard}.sm_counters SET writes = 1 WHERE n < 4; INSERT INTO {self.shard}.sm_views VALUES (7, 1)")
+        for state, role, mark, is_taken in (("d", "replica", (7, 9), True), ("r", "origin", (7, 9), True), ("r", "replica", (7, 4), False), ("r", "replica", (6, 3), False),
+                                            ("r", "replica", (7, 3), True)):
+            with self.subTest(state + role), self.client() as c:
+                c.execute("SET allow_system_table_mods = on")
+                c.execute("UPDATE pg_subscription_rel SET srsubstate = %s", (state,))
+                c.execute(f"DELETE FROM {self.shard}.sm_begun")
+                c.execute(f"SET session_replication_role = {role}")
+                if is_taken:
+                    c.execute(begin, mark)
+                else:
+                    with self.assertRaisesRegex(psycopg.Error, "can't be followed by a copy that has 7/3"):
+                        c.execute(begin, mark)
+        with DATABASE.transaction() as tx:
+            streams.drop_subscription(tx, self.shard)
+
+
 class SchemaTest(Case):
     """Changes of a schema."""
 

@@ -1,7 +1,7 @@
 -- smplan: shards that are schemas, moved between servers while clients write. docs/POSTGRESQL.md tells how to use it.
 --
 -- What a server keeps stands in schema sm. What belongs to a shard stands in its schema, and moves with its data: sm_requests, sm_counters, sm_cut,
--- sm_views, sm_members. `smplan-pg serve` changes all of it; clients call sm.enter, sm.reply and sm.acknowledged.
+-- sm_views, sm_begun, sm_members. `smplan-pg serve` changes all of it; clients call sm.enter, sm.reply and sm.acknowledged.
 CREATE SCHEMA sm;
 
 -- ---- what a server keeps
@@ -66,9 +66,12 @@ BEGIN
     INSERT INTO %1$I.sm_counters SELECT it, 0 FROM generate_series(1, 16) it;
     CREATE TABLE %1$I.sm_cut (handover bigint PRIMARY KEY, position bigint NOT NULL, party int NOT NULL, sequences jsonb NOT NULL);
     CREATE TABLE %1$I.sm_views (view bigint PRIMARY KEY, position bigint NOT NULL);
+    CREATE TABLE %1$I.sm_begun (one bool PRIMARY KEY DEFAULT true CHECK (one), view bigint NOT NULL, position bigint NOT NULL);
     CREATE TABLE %1$I.sm_members (server int PRIMARY KEY, was_owner bool NOT NULL DEFAULT false);
     CREATE TRIGGER sm_cut AFTER INSERT ON %1$I.sm_cut FOR EACH ROW EXECUTE FUNCTION sm.tell_cut();
     ALTER TABLE %1$I.sm_cut ENABLE ALWAYS TRIGGER sm_cut;
+    CREATE TRIGGER sm_begun BEFORE INSERT ON %1$I.sm_begun FOR EACH ROW EXECUTE FUNCTION sm.check_begun();
+    ALTER TABLE %1$I.sm_begun ENABLE REPLICA TRIGGER sm_begun;
     CREATE PUBLICATION %2$I FOR TABLES IN SCHEMA %1$I WITH (publish = '''')', in_shard, sm.stream(in_shard));
   PERFORM sm.guard_tables(in_shard);
 END $$;
@@ -91,7 +94,7 @@ BEGIN
       WHERE relnamespace = quote_ident(in_shard)::regnamespace AND tgname = 'sm_guard' AND NOT tgisinternal AND tgparentid = 0 LOOP
     EXECUTE format('DROP TRIGGER sm_guard ON %s', it.tab);
   END LOOP;
-  EXECUTE format('DROP PUBLICATION IF EXISTS %2$I; DROP TABLE IF EXISTS %1$I.sm_requests, %1$I.sm_counters, %1$I.sm_cut, %1$I.sm_views, %1$I.sm_members',
+  EXECUTE format('DROP PUBLICATION IF EXISTS %2$I; DROP TABLE IF EXISTS %1$I.sm_requests, %1$I.sm_counters, %1$I.sm_cut, %1$I.sm_views, %1$I.sm_begun, %1$I.sm_members',
     in_shard, sm.stream(in_shard));
 END $$;
 
@@ -114,6 +117,19 @@ BEGIN
   IF NOT sm.is_adopted(in_shard) THEN RETURN 0; END IF;
   EXECUTE format('SELECT max(view) FROM %I.sm_views', in_shard) INTO last;
   RETURN coalesce(last, 0);
+END $$;
+
+-- A server that begins to write stores what its copy had by then, as the first thing that its stream tells. A follower whose copy is another one takes nothing
+-- of it: a subscription that was on while its stream was dropped and made again, or while its source was none, would go on behind a gap. (Tables that are copied
+-- still have nothing to be compared: who copies has made the stream himself.)
+CREATE FUNCTION sm.check_begun() RETURNS trigger LANGUAGE plpgsql AS $$
+DECLARE view bigint := sm.view(TG_TABLE_SCHEMA); "position" bigint := sm.position(TG_TABLE_SCHEMA);
+BEGIN
+  IF (view, "position") <> (NEW.view, NEW.position) AND (SELECT count(*) FROM pg_subscription_rel WHERE srsubstate = 'r' AND srrelid IN
+      (TG_RELID, format('%I.sm_counters', TG_TABLE_SCHEMA)::regclass, format('%I.sm_views', TG_TABLE_SCHEMA)::regclass)) = 3 THEN
+    RAISE 'a list of % that begins behind %/% can''t be followed by a copy that has %/%', TG_TABLE_SCHEMA, NEW.view, NEW.position, view, "position";
+  END IF;
+  RETURN NEW;
 END $$;
 
 -- Counts a write. What a transaction has counted has to be durable when others see it.

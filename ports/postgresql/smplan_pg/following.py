@@ -28,6 +28,20 @@ CUT_COMES = 5.0
 AT_REST = 3.0
 
 
+# What a follower has, and how often what came to it could not be applied.
+APPLIED = """SELECT sm.view(%s) AS view, sm.position(%s) AS position,
+    (SELECT apply_error_count FROM pg_stat_subscription_stats WHERE subname = sm.stream(%s, %s)) AS errors"""
+
+
+@dataclass(frozen=True)
+class Applied:
+    """What a follower had when it was seen first behind its source, how often what came could not be applied by then, and when that was."""
+
+    mark: Mark
+    errors: int
+    since: float
+
+
 @dataclass(frozen=True)
 class State:
     """What a server has of a shard, as its watch sees it."""
@@ -48,6 +62,8 @@ class Following:
         self.next_look: Dict[str, float] = {}
         self.busy: Dict[str, bool] = {}
         self.unserved: Dict[str, float] = {}
+        self.applied: Dict[str, Applied] = {}
+        self.refused: Dict[str, int] = {}
 
     # -- when to look
 
@@ -187,6 +203,7 @@ class Following:
             assert row is not None
             mark = it.mark(shard)
             streams.publish(tx, shard, streams.ALL)  # (first: what a transaction has written before is not told)
+            it.put_begun(shard, mark)
             streams.drop_subscription(tx, mine)
             tx.execute(it.own("SELECT sm.set_sequences(%s, sequences) FROM {}.sm_cut", shard), (shard,))
             members = {number: False for number in it.members(shard) if number != self.server.number}
@@ -209,7 +226,7 @@ class Following:
             self.next_look[shard] = time.monotonic() + AT_REST
             return
         primary = self.server.sources.primary_of(shard, told.base)
-        if primary is None or (told.is_whole and self.join(shard, primary)):
+        if primary is None or (told.is_whole and self.refused.get(shard) != primary and self.join(shard, primary)):
             return
         if told.slot.cell == Cell.SECONDARY and not self.may_get_on(shard, told, primary):
             self.copy_anew(shard, primary, told)
@@ -234,6 +251,7 @@ class Following:
     def is_served(self, shard: str, told: State) -> bool:
         """Whether the source still sends this server what it lacks. If it serves, this server counts there."""
         assert told.source is not None
+        was = self.applied.pop(shard, None)
         try:
             it = self.server.sources.offer(told.source, shard)
         except (Stuck, OSError, psycopg.Error):
@@ -242,7 +260,7 @@ class Following:
             return False
         if serves(it):
             self.unserved.pop(shard, None)
-            if not self.is_enabled(shard):
+            if not self.is_enabled(shard) or self.refuses(shard, told.source, was):
                 return False
             if not it["is_member"] and told.slot.cell == Cell.SECONDARY and not self.server.live(shard).worker:
                 self.server.peer(told.source).row("SELECT sm.join(%s, %s)", shard, self.server.number)
@@ -254,6 +272,20 @@ class Following:
         enabled = "SELECT EXISTS (SELECT FROM pg_subscription WHERE subname = sm.stream(%s, %s) AND subenabled)"
         return bool(value(self.server.database.row(enabled, shard, self.server.number)))
 
+    def refuses(self, shard: str, source: int, was: Optional[Applied]) -> bool:
+        """Whether what a source sends could not be applied for a while, again and again, and nothing got on: it does not go on from the copy here."""
+        row, now = self.server.database.row(APPLIED, shard, shard, shard, self.server.number), time.monotonic()
+        assert row is not None
+        mark, errors = Mark(row["view"], row["position"]), row["errors"] or 0
+        if was is None or was.mark != mark or was.errors > errors or not mark < self.server.sources.mark_at(source, shard):
+            was = Applied(mark, errors, now)
+        self.applied[shard] = was
+        if errors < was.errors + 2 or now - was.since < self.server.limits.dead:
+            return False
+        self.server.say("refuses what", self.server.names.get(source), "sends of", shard)
+        self.refused[shard] = source
+        return True
+
     def join(self, shard: str, owner: int) -> bool:
         """Follows another server from the place on where its own writes began, if the copy here is the same as its was there. Whether it does."""
         it = self.server.sources.offer(owner, shard)
@@ -263,13 +295,13 @@ class Following:
         with database.connection() as c:
             mine, publication = streams.name_of(c, shard, self.server.number), streams.name_of(c, shard)
         streams.halt(database, mine)
+        it = self.server.sources.offer(owner, shard)
+        if not serves(it) or not it["is_joinable"]:
+            return False
         with database.transaction() as tx:
             slot = Records(tx).slot(shard)
             if slot.cell not in (Cell.SECONDARY, Cell.FORWARDING) or Records(tx).mark(shard) != Mark(it["view"], it["position"]):
                 return False
-        it = self.server.sources.offer(owner, shard)
-        if not serves(it) or not it["is_joinable"]:
-            return False
         streams.follow_behind(database, mine, publication, self.server.peers[owner].reach or "", it["place"])
         with database.transaction() as tx:
             records = Records(tx)
@@ -293,7 +325,8 @@ class Following:
         def tell(words: str) -> None:
             live.said = words
 
-        self.unserved.pop(shard, None)
+        for its in (self.unserved, self.applied, self.refused):
+            its.pop(shard, None)
         self.server.copies.make(shard, source, still, tell, waits=False)
         with self.server.database.transaction() as tx:
             it = Records(tx)

@@ -159,6 +159,11 @@ class Records:
         for server, was_owner in members.items():
             self.tx.execute(self.own("INSERT INTO {}.sm_members VALUES (%s, %s)", shard), (server, was_owner))
 
+    def put_begun(self, shard: str, mark: Mark) -> None:
+        """Stores what the copy here is as it begins to be written here: followers take nothing of it unless theirs is the same."""
+        self.tx.execute(self.own("DELETE FROM {}.sm_begun", shard))
+        self.tx.execute(self.own("INSERT INTO {}.sm_begun (view, position) VALUES (%s, %s)", shard), (mark.view, mark.position))
+
     def put_view(self, shard: str, view: int, position: int) -> None:
         """A new primary begins a view."""
         self.tx.execute(self.own("INSERT INTO {}.sm_views VALUES (%s, %s) ON CONFLICT (view) DO NOTHING", shard), (view, position))

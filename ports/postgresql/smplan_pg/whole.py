@@ -190,6 +190,7 @@ class Whole:
         it = Records(tx)
         place, mark, cut = value(tx.execute("SELECT pg_current_wal_insert_lsn()::text").fetchone()), it.mark(shard), it.cut(shard)
         streams.publish(tx, shard, streams.ALL)  # (first: what a transaction has written before is not told)
+        it.put_begun(shard, mark)
         streams.drop_subscription(tx, streams.name_of(tx, shard, self.server.number))
         if cut is not None:
             tx.execute("SELECT sm.set_sequences(%s, %s::jsonb)", (shard, psycopg.types.json.Jsonb(cut.sequences)))
