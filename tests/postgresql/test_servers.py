@@ -20,7 +20,7 @@ from smplan.failure import Failure
 from smplan_pg import adopt, status, streams
 from smplan_pg.database import Database, signed, unsigned, value
 from smplan_pg.records import Cut, Mark, Peer, Records
-from smplan_pg.server import Server
+from smplan_pg.server import Limits, Server
 
 TABLES = "CREATE SCHEMA {0}; CREATE TABLE {0}.things (id bigserial PRIMARY KEY, word text)"
 VECTORS = Path(servers.ROOT) / "build/agent-vectors.txt"
@@ -517,6 +517,16 @@ class WholeTest(Case):
         line["slots"].pop()
         self.assertEqual(self.server.whole.restore(line), {"done": True})
         self.assertEqual((self.server.whole.tell_base({}), self.slot()), ({"base": 0}, [(4,)]))
+
+    def test_no_secondary_while_another_one_was_left_out(self):
+        self.server.orders.limits = Limits(answering=30.0)
+        order = {"call": "change", "shard": self.shard, "from": "primary", "to": "secondary", "journal": "9", "fence": 0, "number": 5, "load": 1, "room": 9, "replicas": ["a", "b"]}
+        self.assertIn("b has to follow first", self.server.orders.take(order)["said"])
+        self.assertEqual(self.slot(), [(4,)])
+        with DATABASE.transaction() as tx:
+            Records(tx).put_members(self.shard, {2: False})
+        self.server.live(self.shard).rest_until = 0.0
+        self.assertIn("not each secondary has all writes", self.server.orders.take(order)["said"])
 
     def test_left_behind(self):
         self.server.whole.notice({"journal": "9", "fence": 50})

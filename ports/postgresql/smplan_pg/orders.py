@@ -172,7 +172,7 @@ class Orders:
             before = it.mark(shard)
             is_cut = order.call == Call.PREPARE_DROP or is_demotion(order)
             if is_cut:
-                self.wait_for_members(tx, shard, order)
+                self.wait_for_members(tx, shard, order, others)
                 it.count(shard)
             after = self.server.agent.commit(it.base(), slot, order, it.mark(shard).position)
             if after is None:
@@ -194,9 +194,14 @@ class Orders:
                 self.server.whole.end_requests(shard)
             raise Ended("requests run too long; it rests") from None
 
-    def wait_for_members(self, tx: Connection, shard: str, order: Order) -> None:
-        """A primary that becomes a secondary waits until each secondary has all writes."""
+    def wait_for_members(self, tx: Connection, shard: str, order: Order, others: List[int]) -> None:
+        """A primary that becomes a secondary waits until each secondary has all writes. One that was left out counts again first: it could not copy the shard
+        from a secondary, so that nobody could become the primary."""
         if is_demotion(order):
+            lacking = [self.server.names.get(it, str(it)) for it in others if it not in Records(tx).members(shard)]
+            if lacking:
+                self.server.live(shard).rest_until = time.monotonic() + self.limits.resting
+                raise Ended(f"{', '.join(lacking)} has to follow first")
             until, place = time.monotonic() + self.limits.holding, value(tx.execute("SELECT pg_current_wal_flush_lsn()::text").fetchone())
             while not value(tx.execute("SELECT sm.has_all(%s, %s::pg_lsn)", (shard, place)).fetchone()):
                 if time.monotonic() > until:
