@@ -528,6 +528,27 @@ class WholeTest(Case):
         self.server.live(self.shard).rest_until = 0.0
         self.assertIn("not each secondary has all writes", self.server.orders.take(order)["said"])
 
+    def test_nobody_joins_a_new_owner_that_is_fenced(self):
+        """Its list begins anew when it is settled, with what it had by then."""
+        serve(self.shard, Cell.PREPARED, party=2, handover=7, has_cut=1)
+        self.fence(100)
+        self.assertFalse(value(DATABASE.row("SELECT sm.join(%s, 2)", self.shard)))
+        self.settle(100, None, {"shard": self.shard, "cell": "primary", "load": 1})
+        self.assertTrue(value(DATABASE.row("SELECT sm.join(%s, 2)", self.shard)))
+        streams.drop_streams(DATABASE, self.shard)
+
+    def test_nobody_is_left_out_behind_a_cut(self):
+        with DATABASE.transaction() as tx:
+            Records(tx).put_members(self.shard, {2: False})
+        with DATABASE.transaction() as tx:
+            tx.execute("SELECT sm.hold(%s)", (self.shard,))
+            leaving = threading.Thread(target=self.server.keeping.leave_out, args=(streams.name_of(tx, self.shard, 2), (self.shard, 2, False)))
+            leaving.start()
+            time.sleep(0.3)
+            Records(tx).put_slot(self.shard, Slot(cell=Cell.FORWARDING, party=2, load=1))
+        leaving.join()
+        self.assertEqual(POST.query(f"SELECT server FROM {self.shard}.sm_members"), [(2,)])
+
     def test_left_behind(self):
         self.server.whole.notice({"journal": "9", "fence": 50})
         self.assertEqual((self.server.whole.tell_base({}), self.slot(), self.has()), ({"base": None}, [], True))

@@ -272,12 +272,12 @@ BEGIN
   END IF;
 END $$;
 
--- A follower counts from now on. False if this server does not serve the shard.
+-- A follower counts from now on. False if this server does not serve the shard. (A new owner that is fenced will begin anew, with what it has by then.)
 CREATE FUNCTION sm.join(in_shard text, follower int) RETURNS bool LANGUAGE plpgsql AS $$
 DECLARE n int;
 BEGIN
   PERFORM sm.share(in_shard);
-  IF NOT EXISTS (SELECT FROM sm.state WHERE known = 1) OR NOT EXISTS (SELECT FROM sm.slots WHERE shard = in_shard AND (cell = 4 OR (cell = 2 AND has_cut = 1))) THEN
+  IF NOT EXISTS (SELECT FROM sm.state, sm.slots WHERE known = 1 AND shard = in_shard AND (cell = 4 OR (cell = 2 AND has_cut = 1 AND fenced = 0))) THEN
     RETURN false;
   END IF;
   EXECUTE format('INSERT INTO %1$I.sm_members (server) SELECT $1 WHERE NOT EXISTS (SELECT FROM %1$I.sm_members WHERE server = $1) ON CONFLICT DO NOTHING', in_shard)

@@ -86,6 +86,7 @@ class Keeping:
             shard, number, _ = member
             with self.server.database.transaction() as tx:
                 it = Records(tx)
+                tx.execute("SELECT sm.share(%s)", (shard,))  # (behind a cut nothing is written)
                 if it.slot(shard).cell == Cell.PRIMARY and number in it.members(shard):
                     tx.execute(it.own("DELETE FROM {}.sm_members WHERE server = %s", shard), (number,))
                     it.count(shard)
