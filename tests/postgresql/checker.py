@@ -76,7 +76,8 @@ SUM = '''SELECT md5(coalesce((SELECT string_agg(id || ' ' || reply, ',' ORDER BY
     || (SELECT sum(balance * id) FROM "{0}".accounts) || coalesce((SELECT string_agg(request, ',' ORDER BY request) FROM "{0}".history), '')
     || (SELECT count(*) FROM "{0}".accounts) || coalesce((SELECT string_agg(id, ',' ORDER BY id) FROM "{0}".notes), '') || (SELECT sum(writes) FROM "{0}".sm_counters)
     || coalesce((SELECT string_agg(server || ' ' || was_owner, ',' ORDER BY server) FROM "{0}".sm_members), '')
-    || coalesce((SELECT string_agg(view || ' ' || position, ',' ORDER BY view) FROM "{0}".sm_views), '') || (SELECT count(*) FROM "{0}".sm_cut))'''
+    || coalesce((SELECT string_agg(view || ' ' || position, ',' ORDER BY view) FROM "{0}".sm_views), '') || (SELECT count(*) FROM "{0}".sm_cut)
+    || coalesce((SELECT view || ' ' || position FROM "{0}".sm_begun), ''))'''
 
 
 def replica_faults(fleet, shard, cells):

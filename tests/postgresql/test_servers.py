@@ -540,13 +540,15 @@ class WholeTest(Case):
     def test_nobody_is_left_out_behind_a_cut(self):
         with DATABASE.transaction() as tx:
             Records(tx).put_members(self.shard, {2: False})
+            names = streams.name_of(tx, self.shard, 2), (self.shard, 2, False)
         with DATABASE.transaction() as tx:
             tx.execute("SELECT sm.hold(%s)", (self.shard,))
-            leaving = threading.Thread(target=self.server.keeping.leave_out, args=(streams.name_of(tx, self.shard, 2), (self.shard, 2, False)))
+            leaving = threading.Thread(target=self.server.keeping.leave_out, args=names)
             leaving.start()
-            time.sleep(0.3)
+            leaving.join(60)  # (it waits for no lock for long, as other followers may be dead)
+            self.assertFalse(leaving.is_alive())
             Records(tx).put_slot(self.shard, Slot(cell=Cell.FORWARDING, party=2, load=1))
-        leaving.join()
+        self.server.keeping.leave_out(*names)
         self.assertEqual(POST.query(f"SELECT server FROM {self.shard}.sm_members"), [(2,)])
 
     def test_left_behind(self):

@@ -81,16 +81,20 @@ class Keeping:
 
     def leave_out(self, name: str, member: "Optional[tuple[str, int, bool]]") -> None:
         """Goes on without a follower, and drops its stream."""
-        self.watched.pop(name, None)
         if member is not None:
             shard, number, _ = member
-            with self.server.database.transaction() as tx:
-                it = Records(tx)
-                tx.execute("SELECT sm.share(%s)", (shard,))  # (behind a cut nothing is written)
-                if it.slot(shard).cell == Cell.PRIMARY and number in it.members(shard):
-                    tx.execute(it.own("DELETE FROM {}.sm_members WHERE server = %s", shard), (number,))
-                    it.count(shard)
-                    self.server.say("goes on without", self.server.names.get(number), "for", shard)
+            try:
+                with self.server.database.transaction() as tx:
+                    it = Records(tx)
+                    tx.execute("SET LOCAL lock_timeout = '1s'")
+                    tx.execute("SELECT sm.share(%s)", (shard,))  # (behind a cut nothing is written)
+                    if it.slot(shard).cell == Cell.PRIMARY and number in it.members(shard):
+                        tx.execute(it.own("DELETE FROM {}.sm_members WHERE server = %s", shard), (number,))
+                        it.count(shard)
+                        self.server.say("goes on without", self.server.names.get(number), "for", shard)
+            except psycopg.errors.LockNotAvailable:
+                return  # (the schema is changed, or a cut waits; it comes again)
+        self.watched.pop(name, None)
         try:
             with self.server.database.connection() as c:
                 c.execute("SELECT pg_terminate_backend(active_pid) FROM pg_replication_slots WHERE slot_name = %s AND active", (name,))
