@@ -73,7 +73,8 @@ def guard():
 
 
 def mark():
-    """A follower joins a new primary whatever its own copy has."""
+    """A follower joins a new primary whatever its own copy has, and takes what comes."""
+    edit('IF (view, "position") <> (NEW.view, NEW.position) AND', "IF false AND")
     from smplan_pg.records import Mark
     Mark.__eq__ = lambda *_: True
     Mark.__ne__ = lambda *_: False
