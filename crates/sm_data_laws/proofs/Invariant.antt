@@ -52,7 +52,7 @@ IsTrueWord ended view list away copies word = IsTrueOf ended view list away copi
 abbrev pub is_away : (ℕ → Bool) → (ℕ → Bool) → ℕ → Bool
 is_away known leaving s = known s && leaving s
 
--- Who has the list of the view: the primary, or the last one as long as the shard has none, and that has kept its copy.
+-- The server with the list of the view: the primary; if the shard has none, the last one, which has kept its copy.
 abbrev pub IsLeader : Shard → ℕ → Type 0
 IsLeader w s = ((s ≡ w.primary) × HasPrimary w) ⊎ ((w.former s ≡ w.ended) × HasNoPrimary w)
 

@@ -39,7 +39,7 @@ only_stream w plans count id b =
     let first : id.stream ≡ 0 = omega arith in
     same_stream mover id (sym here) (sym first)
 
--- a round of which each clause holds of this stream
+-- each clause of a round holds for this stream
 round_by : (setup : Setup) (f : Fleet) (es : List FleetEvent) → length (controller f).w.plans ≡ 1 → stream_count (controller f).w 0 ≡ 1 → AllByRecursion IsGentle es → AreNamedKnown f →
     (needs_nobody (controller f).w (Step mover) ≡ true → Sometime (λ g e rest. e ≡ Make (Step mover)) es f) → ((l : Letter) → letter_of (controller f) mover ≡ Some l → OrderComes l es f) →
     ((n : Notice) → notice_of (controller f) mover ≡ Some n → PublicationComes n es f) → IsRound setup f es

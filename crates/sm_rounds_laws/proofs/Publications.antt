@@ -1,4 +1,4 @@
--- What a stream is to publish, and the publication that it has.
+-- The publication that a stream stands before, and the one that it has.
 use Rattle.std.proofs.Common.{◌≡◌, ℕ, suc, ◌+◌, refl, sym, ap, ◌∙◌, subst, not, Bool, true, false, Option, Some, None}
 use Rattle.std.specs.Prelude.{if◌then◌else◌}
 use Rattle.std.proofs.lemmas.Bool.{and_from, and_parts, not-true}
