@@ -12,8 +12,11 @@ use Rattle.sm_agent.specs.Assignment.{kept_slot}
 use Rattle.sm_agent.specs.Base.{fenced, forgotten, heeded, lacks_slots, restored, settled}
 use Rattle.sm_agent.specs.Order.{abandoned, is_filled, placed, vacant}
 pub use Rattle.sm_network.specs.Words.{Cell, Sizes, sizes_of}
-pub use Rattle.sm_network.specs.Fleet.{Abandon, Commit, Fleet, FleetEvent, FleetOutcome, Judge, Publish, Receive, Seal, Serve, Server as AgentServer, Silent, fleet_comes}
-pub use Rattle.sm_network.specs.Reopening.{Entries, Entry, Fence, Fenced, Inventory, MapOwner, Message, Party, Reopening, Restore, Server, Settle, Settled, Settlement, Slots, Told, Took, Unknown, entered, sends}
+pub use Rattle.sm_network.specs.Fleet.{Abandon, Commit, Fleet, FleetEvent, FleetOutcome, Judge, Publish, Receive, Seal}
+pub use Rattle.sm_network.specs.Fleet.{Serve, Server as AgentServer, Silent, fleet_comes}
+pub use Rattle.sm_network.specs.Reopening.{Entries, Entry, Fence, Fenced, Inventory, MapOwner, Message, Party}
+pub use Rattle.sm_network.specs.Reopening.{Reopening, Restore, Server, Settle, Settled, Settlement, Slots, Told, Took}
+pub use Rattle.sm_network.specs.Reopening.{Unknown, entered, sends}
 
 -- A message as it is sent: with its sender's journal, and the number of the last reopening there.
 pub record Envelope : Type 0 where
@@ -70,7 +73,8 @@ with_server f v server = record f { servers = put f.servers v server }
 
 -- one message more was sent
 abbrev pub message_posted : Cluster → ℕ → ℕ → Message → Cluster
-message_posted c journal fence m = record c { messages = c.messages ++ record { journal = journal; fence = fence; message = m } ∷ [] }
+message_posted c journal fence m =
+    record c { messages = c.messages ++ record { journal = journal; fence = fence; message = m } ∷ [] }
 
 -- the controller records an entry, and sends what follows from it
 abbrev pub entry_noted : Cluster → ℕ → ℕ → Entry → Cluster
@@ -99,11 +103,13 @@ inventory_told f MapOwner applied = Entries
 -- the answer to a fence; its party has drawn a nonce, whether it is Unknown or not
 abbrev pub fence_answered : Cluster → Envelope → Party → ℕ → (ℕ → ℕ) → Cluster
 fence_answered c e p number applied =
-    message_posted (record c { nonces = suc c.nonces }) e.journal e.fence (Fenced p number (inventory_told c.fleet p applied))
+    message_posted (record c { nonces = suc c.nonces }) e.journal e.fence
+    (Fenced p number (inventory_told c.fleet p applied))
 
 -- what becomes of a fence
 abbrev pub after_fencing : Cluster → Envelope → Party → ℕ → (ℕ → ℕ) → Reception → Cluster
-after_fencing c e p number applied (Taken base) = fence_answered (record c { fleet = with_fence c.fleet p base }) e p number applied
+after_fencing c e p number applied (Taken base) =
+    fence_answered (record c { fleet = with_fence c.fleet p base }) e p number applied
 after_fencing c e p number applied Again = fence_answered c e p number applied
 after_fencing c e p number applied Ignored = c
 
@@ -116,7 +122,8 @@ assigned_server old base sizes cells =
 
 -- a party that has taken its part of a settlement
 abbrev pub with_part : Fleet → Party → Base → Settlement → Fleet
-with_part f (Server v) base s = with_server f v (assigned_server (f.servers v) base (sizes_of s.setup) (λ k. s.place.cells k v))
+with_part f (Server v) base s =
+    with_server f v (assigned_server (f.servers v) base (sizes_of s.setup) (λ k. s.place.cells k v))
 with_part f MapOwner base s = record f { owner = base; shown = λ k. record { server = s.place.listed k; version = base.number } }
 
 -- the cluster after a settle: a party that takes it, or took it before, answers it
