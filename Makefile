@@ -140,11 +140,12 @@ page-test: ## loads the tools' pages in Debian's chromium, and writes pictures t
 	scripts/check/pages
 
 # (over the program as it is now, and not as the gate may have built it before)
-storm: ## makes 1,000 runs of 64 streams, beside clients, restarts and halts, with lost calls or two plans; kills build/smpland 1,000 times, refuses each of its calls, spoils 100,000 lines; refuses each allocation of tests
+storm: ## makes 1,000 runs of 64 streams, beside clients, restarts and halts, with lost calls or two plans; kills build/smpland 1,000 times, refuses each of its calls, spoils 100,000 lines; refuses each allocation of build/smplan and of tests
 	scripts/check/storm
 	scripts/check/smpland-kills 1000
 	scripts/check/smpland-faults
 	scripts/check/smpland build/smpland 100000
+	scripts/check/memory --all
 	scripts/check/memory-tests --all
 
 bench: build ## measures the proved program on large documents (docs/BENCH.md)
