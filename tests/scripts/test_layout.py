@@ -5,7 +5,8 @@ import unittest
 from trees import run_over
 
 EDITS = ("must-fail", "edits", "caught-by-tests", "early", "try-edits")
-GOOD = "pub fn one() -> u32 {\n    1\n}\n"
+ONE = "pub fn one() -> u32 {\n    1\n}\n"
+GOOD = f"{ONE}\n#[test]\nfn answer() {{}}\n"
 
 
 @unittest.skipUnless(shutil.which("rt"), "there is no rt")
@@ -27,6 +28,9 @@ class LayoutTest(unittest.TestCase):
 
     def test_an_edit_that_makes_what_another_one_makes(self):
         self.assertEqual(self.found(GOOD, turns=1), ["tests/edits/one/answer.edit: it makes what tests/must-fail/one/answer.edit makes"])
+
+    def test_an_edit_whose_test_stands_nowhere(self):
+        self.assertEqual(self.found(ONE), ["tests/caught-by-tests/one/answer.edit: one has no test answer"])
 
     def test_a_crate_that_is_not_named(self):
         self.assertEqual(self.found(GOOD, crates=("one", "two")), ["crates/two: crates.txt does not name it"])
