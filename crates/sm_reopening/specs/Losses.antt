@@ -1,11 +1,11 @@
 -- The shards that may have lost acknowledged writes. A primary may have acknowledged some alone.
 use Rattle.std.specs.Prelude.{ℕ, ◌&&◌, ◌||◌, ◌==◌, Bool, is_none, is_some, length, nat_lt, not}
-use Rattle.sm_server.specs.Cell.{is_secondary}
+use Rattle.sm_server.specs.Cell.{is_absent, is_secondary}
 use Rattle.sm_placement.specs.Lead.{has_part}
 use Rattle.sm_placement.specs.Opening.{first_below}
 use Rattle.sm_reopening.specs.declared.ongoing.OngoingReopening.{OngoingReopening}
 use Rattle.sm_reopening.specs.Ongoing.{net_reopening, recorded_place, recorded_setup}
-use Rattle.sm_reopening.specs.Proposal.{Documented, has_no_slots, has_whole, is_bare, may_be_first}
+use Rattle.sm_reopening.specs.Proposal.{Documented, has_no_slots, has_whole}
 use Rattle.sm_reopening.specs.Survivors.{standing_of}
 
 -- a server to which a reopening that was replaced has sent a settle has no slots any more
@@ -37,6 +37,17 @@ may_have_served x s v =
 abbrev pub may_have_served_any : OngoingReopening → ℕ → Bool
 may_have_served_any x v = (net_reopening x).promised v || (length (recorded_setup x).servers == 0)
 
+-- the server and the shard are recorded: an order may have added the one to the other
+abbrev pub may_have_order : OngoingReopening → ℕ → ℕ → Bool
+may_have_order x s v = nat_lt v (length (recorded_setup x).servers) && nat_lt s (length (recorded_setup x).shards)
+
+-- The server may have been the shard's first primary, and nobody has recorded that: it has no slots any more, nobody is
+-- recorded with a part in the shard's lead, and an order or a settle may have made it so; or nothing is recorded.
+abbrev pub may_be_first : OngoingReopening → ℕ → ℕ → Bool
+may_be_first x s v =
+    (has_no_slots x v && is_none (first_below (net_reopening x).servers (has_recorded_part x s)))
+    && (may_have_served_any x v || may_have_order x s v)
+
 -- a server that may have served the shard is lost or Unknown, or tells nothing of it
 abbrev pub has_gone : OngoingReopening → ℕ → ℕ → Bool
 has_gone x s v =
@@ -48,6 +59,15 @@ abbrev pub may_lack_writes : OngoingReopening → ℕ → Bool
 may_lack_writes x s =
     is_none (first_below (net_reopening x).servers (is_primary_still x s))
     && is_some (first_below (net_reopening x).servers (has_gone x s))
+
+-- the server has, had, or may have had something of the shard
+abbrev pub had_something : OngoingReopening → Documented → ℕ → ℕ → Bool
+had_something x d s v =
+    (not (is_absent ((recorded_place x).cells s v)) || may_be_first x s v) || (is_some (d s v) || nat_lt 0 (standing_of x s v).claim)
+
+-- no server is left that has all of the shard, and there was one
+abbrev pub is_bare : OngoingReopening → Documented → ℕ → Bool
+is_bare x d s = is_none (first_below (net_reopening x).servers (has_whole x s)) && is_some (first_below (net_reopening x).servers (had_something x d s))
 
 -- The proposal names the shard as lost: nobody is left who has all of it, and somebody had something; or somebody has,
 -- and it may lack acknowledged writes.

@@ -1,17 +1,17 @@
 -- The settlement that a reopening proposes.
-use Rattle.std.specs.Prelude.{◌≡◌, ℕ, ◌&&◌, ◌||◌, ◌==◌, Bool, true, false, not, Option, Some, None, is_none, is_some, length, nat_lt, if◌then◌else◌}
+use Rattle.std.specs.Prelude.{◌≡◌, ℕ, ◌&&◌, ◌||◌, ◌==◌, Bool, true, false, not, Option, Some, None, is_some, nat_lt, if◌then◌else◌}
 use Rattle.sm_server.specs.declared.call.Cell.{Cell}
 use Rattle.sm_server.specs.declared.call.Cell.TheVariants.{Absent, Secondary, Primary}
 use Rattle.sm_server.specs.declared.call.Role.{Role}
 use Rattle.sm_server.specs.declared.call.Role.TheVariants as role
-use Rattle.sm_server.specs.Cell.{is_absent, is_primary, is_secondary}
+use Rattle.sm_server.specs.Cell.{is_primary, is_secondary}
 use Rattle.sm_placement.specs.Lead.{has_part}
 use Rattle.sm_placement.specs.Opening.{first_below}
 use Rattle.sm_network.specs.Reopening.{Server}
 use Rattle.sm_network.specs.ReopeningLaws.{is_carried}
 use Rattle.sm_reopening.specs.declared.party.FoundSlot.{FoundSlot}
 use Rattle.sm_reopening.specs.declared.ongoing.OngoingReopening.{OngoingReopening}
-use Rattle.sm_reopening.specs.Ongoing.{left_out_of, past_state, recorded_place, recorded_setup, net_reopening, told_slot}
+use Rattle.sm_reopening.specs.Ongoing.{left_out_of, past_state, recorded_place, net_reopening, told_slot}
 use Rattle.sm_reopening.specs.Settles.{nonce_of}
 use Rattle.sm_reopening.specs.Survivors.{HasNoSurvivor, IsHeirOf, heir_of, standing_of}
 
@@ -112,25 +112,6 @@ has_whole x s v = nat_lt 1 (standing_of x s v).claim
 -- the server has no slots any more: it is lost, or Unknown
 abbrev pub has_no_slots : OngoingReopening → ℕ → Bool
 has_no_slots x v = (net_reopening x).lost v || is_some (nonce_of ((net_reopening x).told (Server v)))
-
--- the shard is recorded, and nobody has something of it
-abbrev pub is_recorded_empty : OngoingReopening → ℕ → Bool
-is_recorded_empty x s =
-    nat_lt s (length (recorded_setup x).shards)
-    && is_none (first_below (net_reopening x).servers (λ v. not (is_absent ((recorded_place x).cells s v))))
-
--- A recorded server that has no slots any more may have been the shard's first primary: its order was carried out, and nobody has recorded that.
-abbrev pub may_be_first : OngoingReopening → ℕ → ℕ → Bool
-may_be_first x s v = (nat_lt v (length (recorded_setup x).servers) && has_no_slots x v) && is_recorded_empty x s
-
--- the server has, had, or may have had something of the shard
-abbrev pub had_something : OngoingReopening → Documented → ℕ → ℕ → Bool
-had_something x d s v =
-    (not (is_absent ((recorded_place x).cells s v)) || may_be_first x s v) || (is_some (d s v) || nat_lt 0 (standing_of x s v).claim)
-
--- no server is left that has all of the shard, and there was one
-abbrev pub is_bare : OngoingReopening → Documented → ℕ → Bool
-is_bare x d s = is_none (first_below (net_reopening x).servers (has_whole x s)) && is_some (first_below (net_reopening x).servers (had_something x d s))
 
 -- the primary has not answered, and is not recorded as one: it is waited for, or named as lost
 abbrev pub is_silent_heir : OngoingReopening → ℕ → ℕ → Bool

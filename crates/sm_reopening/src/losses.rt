@@ -2,9 +2,9 @@
 ghost use Rattle.std.specs.Prelude.{◌≡◌, None};
 ghost use Rattle.sm_placement.specs.Layout.{grid_of};
 ghost use Rattle.sm_placement.specs.Opening.{first_below};
-ghost use Rattle.sm_reopening.specs.Losses.{has_gone, has_lost_settled, has_recorded_part, is_named_lost};
-ghost use Rattle.sm_reopening.specs.Losses.{is_primary_still, may_have_served, may_have_served_any, may_lack_writes};
-ghost use Rattle.sm_reopening.specs.Losses.{is_settled_lost};
+ghost use Rattle.sm_reopening.specs.Losses.{had_something, has_gone, has_lost_settled, has_recorded_part};
+ghost use Rattle.sm_reopening.specs.Losses.{is_bare, is_named_lost, is_primary_still, is_settled_lost, may_be_first};
+ghost use Rattle.sm_reopening.specs.Losses.{may_have_order, may_have_served, may_have_served_any, may_lack_writes};
 ghost use Rattle.sm_reopening.specs.Ongoing.{net_reopening};
 
 use crate::ongoing::OngoingReopening;
@@ -98,6 +98,23 @@ impl OngoingReopening {
         self.was_sent(server) || self.past.config().server_count() == 0
     }
 
+    /// Whether a server and a shard are recorded, so that an order may have added the one to the other.
+    fn may_have_order(&self, shard: ShardId, server: ServerId) -> bool
+        ensures { result ≡ may_have_order self.now shard server }
+    {
+        let recorded = self.past.config();
+        server.number() < recorded.server_count() && shard.number() < recorded.shard_count()
+    }
+
+    /// Whether a server may have been a shard's first primary, which nobody has recorded.
+    fn may_be_first(&self, shard: ShardId, server: ServerId) -> bool
+        ensures { result ≡ may_be_first self.now shard server }
+    {
+        self.has_no_slots(server)
+            && self.first_recorded_part(shard).is_none()
+            && (self.may_have_served_any(server) || self.may_have_order(shard, server))
+    }
+
     /// Whether a server that may have served a shard is lost or Unknown, or tells nothing of it.
     fn has_gone(&self, shard: ShardId, server: ServerId) -> bool
         ensures { result ≡ has_gone self.now shard server }
@@ -126,6 +143,38 @@ impl OngoingReopening {
         ensures { result ≡ may_lack_writes self.now shard }
     {
         self.first_primary(shard).is_none() && self.first_gone(shard).is_some()
+    }
+
+    /// Whether a server has, had, or may have had something of a shard.
+    fn had_something(&self, documented: &[Option<Role>], shard: ShardId, server: ServerId) -> bool
+        ensures { result
+            ≡ had_something self.now (grid_of (net_reopening self.now).servers None documented.now) shard server }
+    {
+        !self.recorded_cell(shard, server).is_absent()
+            || self.may_be_first(shard, server)
+            || self.documented_role(documented, shard, server).is_some()
+            || self.standing(shard, server).claim > 0
+    }
+
+    /// The lowest server that has, had, or may have had something of a shard.
+    #[tactic(auto, using(sm_placement::proofs::Searches::find_range_more))]
+    fn first_with_something(&self, documented: &[Option<Role>], shard: ShardId) -> Option<ServerId>
+        ensures { result ≡ first_below (net_reopening self.now).servers
+            (had_something self.now (grid_of (net_reopening self.now).servers None documented.now) shard) }
+    {
+        for number in 0..self.server_count() {
+            if self.had_something(documented, shard, ServerId::new(number)) {
+                return Some(ServerId::new(number));
+            }
+        }
+        None
+    }
+
+    /// Whether no server is left that has all of a shard, of which there was one.
+    fn is_bare(&self, documented: &[Option<Role>], shard: ShardId) -> bool
+        ensures { result ≡ is_bare self.now (grid_of (net_reopening self.now).servers None documented.now) shard }
+    {
+        self.first_whole(shard).is_none() && self.first_with_something(documented, shard).is_some()
     }
 
     /// Whether the proposal names a shard as lost. `documented` has the document's roles, shard after shard, with

@@ -1,15 +1,13 @@
 //! Proposals of what may be settled.
-ghost use Rattle.std.specs.Prelude.{◌≡◌, None, not, slice_index_or};
+ghost use Rattle.std.specs.Prelude.{◌≡◌, None, slice_index_or};
 ghost use Rattle.sm_placement.specs.Layout.{grid_of};
 ghost use Rattle.sm_placement.specs.Lead.{has_part};
 ghost use Rattle.sm_placement.specs.Opening.{first_below};
-ghost use Rattle.sm_server.specs.Cell.{is_absent};
-ghost use Rattle.sm_reopening.specs.Ongoing.{net_reopening, recorded_place};
-ghost use Rattle.sm_reopening.specs.Proposal.{IsProposedPrimary, had_something, has_known_lead, has_no_slots, has_replica_role};
-ghost use Rattle.sm_reopening.specs.Proposal.{has_told_part, has_told_replica, has_whole, holds_replica, is_bare};
-ghost use Rattle.sm_reopening.specs.Proposal.{is_documented, is_held, is_led, is_primary_role, is_recorded_empty};
-ghost use Rattle.sm_reopening.specs.Proposal.{is_silent_heir, keeps_replica, leads_shard, may_be_first, primary_of};
-ghost use Rattle.sm_reopening.specs.Proposal.{proposed_cell, role_counted};
+ghost use Rattle.sm_reopening.specs.Ongoing.{net_reopening};
+ghost use Rattle.sm_reopening.specs.Proposal.{IsProposedPrimary, has_known_lead, has_no_slots, has_replica_role};
+ghost use Rattle.sm_reopening.specs.Proposal.{has_told_part, has_told_replica, has_whole, holds_replica};
+ghost use Rattle.sm_reopening.specs.Proposal.{is_documented, is_held, is_led, is_primary_role, is_silent_heir};
+ghost use Rattle.sm_reopening.specs.Proposal.{keeps_replica, leads_shard, primary_of, proposed_cell, role_counted};
 
 use crate::ongoing::OngoingReopening;
 use crate::party::{FoundSlot, Membership};
@@ -78,7 +76,7 @@ impl OngoingReopening {
     }
 
     /// Returns the role that the document gives a server for a shard.
-    fn documented_role(
+    pub(crate) fn documented_role(
         &self,
         documented: &[Option<Role>],
         shard: ShardId,
@@ -280,67 +278,6 @@ impl OngoingReopening {
         ensures { result ≡ has_no_slots self.now server }
     {
         self.is_lost(server) || self.nonce(server).is_some()
-    }
-
-    /// The lowest server that is recorded with something of a shard.
-    #[tactic(auto, using(sm_placement::proofs::Searches::find_range_more))]
-    fn first_recorded(&self, shard: ShardId) -> Option<ServerId>
-        ensures { result ≡ first_below (net_reopening self.now).servers
-            (λ v. not (is_absent ((recorded_place self.now).cells shard v))) }
-    {
-        for number in 0..self.server_count() {
-            let server = ServerId::new(number);
-            if !self.recorded_cell(shard, server).is_absent() {
-                return Some(server);
-            }
-        }
-        None
-    }
-
-    /// Whether a shard is recorded, and nobody has something of it.
-    fn is_recorded_empty(&self, shard: ShardId) -> bool
-        ensures { result ≡ is_recorded_empty self.now shard }
-    {
-        shard.number() < self.past.config().shard_count() && self.first_recorded(shard).is_none()
-    }
-
-    /// Whether a server may have been a shard's first primary, which nobody has recorded.
-    pub(crate) fn may_be_first(&self, shard: ShardId, server: ServerId) -> bool
-        ensures { result ≡ may_be_first self.now shard server }
-    {
-        server.number() < self.past.config().server_count()
-            && self.has_no_slots(server)
-            && self.is_recorded_empty(shard)
-    }
-
-    /// Whether a server has, had, or may have had something of a shard.
-    fn had_something(&self, documented: &[Option<Role>], shard: ShardId, server: ServerId) -> bool
-        ensures { result ≡ had_something self.now (grid_of (net_reopening self.now).servers None documented.now) shard server }
-    {
-        !self.recorded_cell(shard, server).is_absent()
-            || self.may_be_first(shard, server)
-            || self.documented_role(documented, shard, server).is_some()
-            || self.standing(shard, server).claim > 0
-    }
-
-    /// Returns the lowest server that has, or had, something of a shard.
-    #[tactic(auto, using(sm_placement::proofs::Searches::find_range_more))]
-    fn first_with_something(&self, documented: &[Option<Role>], shard: ShardId) -> Option<ServerId>
-        ensures { result ≡ first_below (net_reopening self.now).servers (had_something self.now (grid_of (net_reopening self.now).servers None documented.now) shard) }
-    {
-        for number in 0..self.server_count() {
-            if self.had_something(documented, shard, ServerId::new(number)) {
-                return Some(ServerId::new(number));
-            }
-        }
-        None
-    }
-
-    /// Returns whether no server is left that has all of a shard, of which there was one.
-    pub(crate) fn is_bare(&self, documented: &[Option<Role>], shard: ShardId) -> bool
-        ensures { result ≡ is_bare self.now (grid_of (net_reopening self.now).servers None documented.now) shard }
-    {
-        self.first_whole(shard).is_none() && self.first_with_something(documented, shard).is_some()
     }
 
     /// Returns whether a server that would be a shard's primary has not answered, and is not recorded as one.

@@ -4,7 +4,7 @@ use Rattle.sm_placement.specs.Opening.{first_below}
 use Rattle.sm_reopening.specs.Ongoing.{net_reopening}
 use Rattle.std.specs.Prelude.{None}
 use Rattle.sm_placement.specs.Layout.{grid_of}
-use Rattle.sm_reopening.specs.Proposal.{had_something}
+use Rattle.sm_reopening.specs.Losses.{had_something}
 use Rattle.sm_reopening.proofs.ongoing.OngoingReopening.first_with_something.Given as goal
 
 abbrev pub invariant-loop-number : goal.invariant-loop-number
