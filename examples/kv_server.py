@@ -145,7 +145,8 @@ class Server(Store):
         return mine is not None and all(it not in (None, LOST) and not has_more(it, mine) for it in marks.values())
 
     def copy_for(self, shard, order):
-        """What a server copies that is to have the shard: all that the owner of the handover has, or the primary; if there is none, a replica."""
+        """What a server copies that is to have the shard: all that the owner of the handover has, or the primary; if there is none, a replica. Beside
+        nobody it begins empty, with view 0: no first primary has less."""
         if self.slot(shard).cell != Cell.ABSENT or order.call == Call.DROP or order.role == Role.PRIMARY:
             return None
         primary, others = self.replicas(shard)
@@ -154,7 +155,7 @@ class Server(Store):
             return offer and offer[0]
         marks = {it: self.ask(it, "mark", shard) for it in others}
         best = max((it for it in marks if marks[it] not in (None, LOST)), key=marks.get, default=0)
-        return self.peers[best].copy_of(shard) if best else None if others else ([(order.number, 0)], [])
+        return self.peers[best].copy_of(shard) if best else None if others else ([(0, 0)], [])
 
     def seal(self, shard, handover, cut):
         """The old owner has ended its stream of writes at its cut."""

@@ -49,8 +49,8 @@ class Limits:
 class Server:
     """A server, which takes messages by `answer`, and sends them by `call`."""
 
-    def __init__(self, name: str, service: Service, storage: Storage, controllers: Sequence[str], is_new: bool = False,
-                 token: Optional[str] = None, limits: Limits = Limits(), tls: Optional[ssl.SSLContext] = None) -> None:
+    def __init__(self, name: str, service: Service, storage: Storage, controllers: Sequence[str], is_new: bool = False, token: Optional[str] = None,
+                 limits: Limits = Limits(), tls: Optional[ssl.SSLContext] = None, forgets: bool = False) -> None:
         self.name, self.service, self.storage, self.controllers, self.limits = name, service, storage, list(controllers), limits
         self.token, self.tls = token, tls
         self.changed, self.pool, self.beside = threading.Condition(), ThreadPoolExecutor(64), ThreadPoolExecutor(16)
@@ -61,13 +61,25 @@ class Server:
         with storage.transaction() as tx:
             if is_new and tx.get("frame/base") is None:
                 tx.put("frame/new", "1")
+            if forgets:
+                tx.delete("frame/new")
+                self.whole.forget(Records(tx))
             self.fleet: Dict[str, Any] = Records(tx).fleet()
+        told = {"/order": self.orders.take, "/fence": self.whole.fence, "/settle": self.whole.settle, "/restore": self.whole.restore,
+                "/notice": self.whole.notice}
         self.routes = {
-            "/order": self.orders.take, "/fence": self.whole.fence, "/settle": self.whole.settle, "/restore": self.whole.restore,
-            "/notice": self.whole.notice, "/base": self.whole.tell_base, "/slots": self.whole.tell_slots,
+            **{path: self.to_it(take) for path, take in told.items()}, "/base": self.whole.tell_base, "/slots": self.whole.tell_slots,
             "/peer/follow": self.offers.taken, "/peer/copy": self.offers.given, "/peer/leave": self.leaves.given,
             "/peer/pass": self.requests.passed, "/peer/life": self.whole.tell_life, "/request": self.requests.take}
         self.whole.start()
+
+    def to_it(self, take: Callable[[Line], Line]) -> Callable[[Line], Line]:
+        """Takes a controller's messages, and refuses those that name another server."""
+        def taken(line: Line) -> Line:
+            if line.get("server") not in (None, self.name):
+                raise ValueError(f"it is {self.name}, and not {line['server']}")
+            return take(line)
+        return taken
 
     def answer(self, path: str, line: Line) -> Line:
         """Answers a message."""
@@ -206,12 +218,14 @@ def main(service: Service, text: str) -> None:
     parser.add_argument("name", metavar="NAME", help="the server's, as the fleet's file has it")
     parser.add_argument("controllers", metavar="CONTROLLERS", help="their addresses, with commas: http://127.0.0.1:9200")
     parser.add_argument("store", metavar="STORE", help="the file of its store: /var/lib/kv/NAME.sqlite")
-    parser.add_argument("--new", action="store_true", help="the service is new, and no shard has data yet")
+    once = parser.add_mutually_exclusive_group()
+    once.add_argument("--new", action="store_true", help="the service is new, and no shard has data yet")
+    once.add_argument("--forget", action="store_true", help="the server was given up: it is to be added again, and asks for its slots anew")
     parser.add_argument("--token", metavar="FILE", help="the controller's token: all but clients have to show it")
     parser.add_argument("--tls", nargs=2, metavar=("CERT", "KEY"), help="serve by TLS, at an address with https")
     told = parser.parse_args()
     try:
         token, tls = read_token(told.token), read_certificate(told.tls)
-        run(told.name, service, Sqlite(told.store), told.controllers.split(","), is_new=told.new, token=token, tls=tls)
+        run(told.name, service, Sqlite(told.store), told.controllers.split(","), is_new=told.new, forgets=told.forget, token=token, tls=tls)
     except Failure as why:
         sys.exit(f"{told.name}: {why}")

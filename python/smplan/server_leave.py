@@ -6,7 +6,7 @@ from dataclasses import astuple
 from typing import TYPE_CHECKING, Any, Dict, List
 
 from .agent import Cell, Slot
-from .server_offers import is_source_for
+from .server_offers import LOST, is_source_for
 from .server_records import Mark, Records
 
 if TYPE_CHECKING:
@@ -40,7 +40,7 @@ class Leaves:
                 return {"later": "it leaves, too"}
             if not may_give(slot, mark.position, line):
                 return {"later": f"it does not serve {shard}"}
-            if not it.has(shard, Mark(*line["mark"])):
+            if not it.has_copy(shard) or not it.has(shard, Mark(*line["mark"])):
                 return {"later": "it lacks writes"}
             with self.server.changed:
                 link = self.server.streams.link(self.server.live(shard), number)
@@ -78,6 +78,8 @@ class Leaves:
         """Asks for leave until somebody gives it; returns why nobody does, if so."""
         with self.server.storage.transaction() as tx:
             it = Records(tx)
+            if is_beside and not it.has_copy(shard):
+                return LOST.format(shard)
             line = {"shard": shard, "from": self.server.number, "journal": f"{it.base().journal:x}", "heard": it.heard(),
                     "mark": astuple(it.mark(shard)), "question": question, "beside": is_beside}
         said = []

@@ -15,6 +15,9 @@ if TYPE_CHECKING:
 
 Line = Dict[str, Any]
 
+# What a server says of a shard that it is to have a copy of, and has none.
+LOST = "it has lost its copy of {}: give it up as lost"
+
 
 class Told(Enum):
     """What a follower makes of an offer."""
@@ -132,13 +135,18 @@ class Offers:
             if self.server.live(shard).leaving:
                 return {"said": f"it leaves {shard}"}
             if line.get("beside") and slot.cell == Cell.SECONDARY:
-                if after.position and not it.has_copy(shard):
-                    return {"said": f"it has lost its copy of {shard}: give it up as lost"}
-                return self.offer(it, shard, after) if mark.position > after.position else {"less": mark.position}
+                return self.offer_beside(it, shard, after)
             if not is_source_for(slot, mark.position, number):
                 return {"said": f"it is no source of {shard}"}
             self.server.streams.join(shard, number, after)
             return self.offer(it, shard, after)
+
+    def offer_beside(self, it: Records, shard: str, after: Mark) -> Line:
+        """What a secondary gives that becomes no primary itself: what is behind a mark, if its list goes on from there; otherwise where that ends."""
+        mark = it.mark(shard)
+        if not it.has_copy(shard):
+            return {"said": LOST.format(shard)}
+        return self.offer(it, shard, after) if after != mark and it.has(shard, after) else {"less": astuple(mark)}
 
     def asked(self, shard: str, source: int, after: Mark, beside: bool = False) -> Line:
         """Asks a source for what is lacking behind a mark."""

@@ -8,7 +8,8 @@ from typing import TYPE_CHECKING, Any, Dict, List, Optional
 from . import agent
 from .agent import Answer, Call, Cell, Order, Role, Slot
 from .control_agent import order_of
-from .server_records import Ledger, Records
+from .server_offers import LOST
+from .server_records import Ledger, Mark, Records
 
 if TYPE_CHECKING:
     from .server import Server
@@ -155,18 +156,22 @@ class Orders:
         return offer
 
     def compare(self, shard: str, others: List[int]) -> None:
-        """A secondary that becomes primary takes what others have that it lacks. Each of them has to answer."""
+        """A secondary that becomes primary takes what others have that it lacks, if that goes on from its own list. Each of them has to answer."""
+        with self.server.storage.transaction() as tx:
+            if not Records(tx).has_copy(shard):
+                raise NotYet(LOST.format(shard))
         for number in others:
             with self.server.storage.transaction() as tx:
                 after = Records(tx).mark(shard)
-            offer = self.server.offers.asked(shard, number, after, beside=True)
+            offer, name = self.server.offers.asked(shard, number, after, beside=True), self.server.name_of(number)
             if "said" in offer:
-                raise NotYet(f"{self.server.name_of(number)}: {offer['said']}")
-            if "less" not in offer:
-                with self.server.storage.transaction() as tx:
-                    it = Records(tx)
-                    if it.slot(shard).cell == Cell.SECONDARY and not self.server.offers.take(it, shard, offer):
-                        raise NotYet(f"{self.server.name_of(number)} has more")
+                raise NotYet(f"{name}: {offer['said']}")
+            with self.server.storage.transaction() as tx:
+                it = Records(tx)
+                if "less" in offer and not it.has(shard, Mark(*offer["less"])):
+                    raise NotYet(f"{name} has another list of {shard}, not a beginning of the one here: give up the older one as lost")
+                if "less" not in offer and it.slot(shard).cell == Cell.SECONDARY and not self.server.offers.take(it, shard, offer):
+                    raise NotYet(f"{name} has more")
 
     def rest(self, shard: str) -> None:
         """Waits until no request of a shard runs."""

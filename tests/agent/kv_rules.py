@@ -483,6 +483,34 @@ def first_primary_beside_a_secondary(kind):
     want((answered(b, order(3, Call.ADD, role=Role.SECONDARY)), b.value(SHARD, "k")), (True, "x"))
 
 
+class BeginsLater(Server):
+    """Begins empty beside nobody with the view of its own order."""
+    def copy_for(self, shard, it):
+        copy = super().copy_for(shard, it)
+        return ([(it.number, 0)], []) if copy == ([(0, 0)], []) else copy
+
+
+def first_primary_and_an_empty_secondary(kind):
+    """A secondary and the first primary are added, neither of which names the other, and the secondary hears nothing of the first write."""
+    peers = {}
+    a, b, c = servers = [kind(it, peers) for it in (1, 2, 3)]
+    for server in servers:
+        server.restore(JOURNAL, 0, 0, server.base().nonce, {})
+    adds = order(1, Call.ADD, role=Role.PRIMARY), order(2, Call.ADD, role=Role.SECONDARY)
+    for server, it in zip((a, b), adds):
+        want(server.order(SHARD, it, 0, ()), Answer.BEGIN)
+    want((b.work(SHARD, adds[1]), a.work(SHARD, adds[0])), (True, True))
+    with lost(b, "pull"):
+        answer = push(a, "r1", "x")
+    is_dropped(a, 1, 2)
+    want_kept(answer, a, b)
+    with lost(b, "pull"):
+        want((answered(c, order(10, Call.ADD, role=Role.SECONDARY)), is_dropped(a, 1, 2, 3)), (True, True))
+    change = order(11, Call.CHANGE, role=Role.SECONDARY, new_role=Role.PRIMARY)
+    c.order(SHARD, change, 0, (2, 3))
+    want((c.work(SHARD, change), read(c)), (True, "x"))
+
+
 # -- 5: work is abandoned at each start
 
 class KeepsWork(Server):
@@ -694,7 +722,8 @@ RULES = ((CommitsFirst, crash_amid_copy), (KeepsTheRest, late_after_settle), (Fo
          (TellsWhileItAsks, written_while_it_asks), (WaitsForever, both_are_dropped), (GoesOnFromItsCache, dropped_and_added),
          (ComparesPositions, change_of_a_returned_one), (TakesNoneForLess, change_beside_a_new_disk), (LeavesTheSilentBehind, change_beside_a_silent_one),
          (GoesOnAnywhere, follower_of_another_list), (DeletesWhatItBringsBack, only_copy_comes_back),
-         (BeginsBeside, first_primary_beside_a_secondary), (KeepsWork, crash_and_repeat), (DeletesAtDrop, late_order), (ComesBackEmpty, lost_state),
+         (BeginsBeside, first_primary_beside_a_secondary), (BeginsLater, first_primary_and_an_empty_secondary),
+         (KeepsWork, crash_and_repeat), (DeletesAtDrop, late_order), (ComesBackEmpty, lost_state),
          (KeepsItsNonce, given_up), (TakesWhatItLost, lost_disk), (AcknowledgesAlone, lost_for_good), (AsksForOne, acknowledged_at_one),
          (CountsTheGivenUp, given_up_and_counted), (SendsFirst, crash_with_a_write_sent), (ShowsAtOnce, read_of_what_is_lost),
          (ForgetsTheOldOwner, old_owner_is_down))

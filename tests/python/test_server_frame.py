@@ -28,11 +28,11 @@ from smplan import agent
 from smplan.agent import Answer, Call, Cell, Request, Role, Slot
 from smplan.control_agent import told_of
 from smplan.failure import Failure
-from smplan.server import Limits, Server, Sqlite
+from smplan.server import Limits, Server, Sqlite, main
 from smplan.server_http import refuse
 from smplan.server_offers import Told
 from smplan.server_orders import NotYet
-from smplan.server_records import Records
+from smplan.server_records import Mark, Records
 
 ROOT = pathlib.Path(__file__).resolve().parents[2]
 
@@ -240,6 +240,10 @@ class FleetTest(unittest.TestCase):
                     fleet.ask(fleet.urls[name] + path, token="another one")
                 self.assertEqual(why.exception.code, 401)
                 why.exception.close()
+            with self.assertRaises(HTTPError) as why:
+                fleet.ask(f"{fleet.urls[name]}/notice", {"server": "b", "journal": "1", "fence": 0})
+            self.assertEqual((why.exception.code, f"it is {name}, and not b" in why.exception.read().decode()), (400, True))
+            why.exception.close()
             with self.assertRaises(OSError):
                 urlopen(fleet.urls[name].replace("https", "http") + "/request", b"{}", timeout=5).close()
 
@@ -268,7 +272,11 @@ class FleetTest(unittest.TestCase):
         for it in fleet.folder.glob("c.store*"):
             it.unlink()
         fleet.start_server("c")
-        fleet.until(lambda: fleet.is_up("c"), "c is restored")
+        for name in "bg":
+            fleet.kill(name)
+            fleet.start_server(name, "-forget")
+        for name in "cbg":
+            fleet.until(lambda name=name: fleet.is_up(name), f"{name} is restored")
         fleet.move("again", "a", "g")
         for it in clients:
             it.is_over = True
@@ -288,7 +296,7 @@ class FleetTest(unittest.TestCase):
 # -- schedules in one process
 
 FAST = Limits(answering=0.0, working=1.0, waiting=0.2, peer=0.05, fencing=0.1, resting=0.0)
-NAMES = {it: f"v{it}" for it in (1, 2, 3)}
+NAMES = {it: f"v{it}" for it in (1, 2, 3, 4)}
 
 
 class Inline:
@@ -522,7 +530,30 @@ class TakesNoneForLess(Frame):
     """Says that it has less than another one, though it has lost its copy."""
     def answer(self, path, line):
         told = super().answer(path, line)
-        return {"less": 0} if "lost its copy" in told.get("said", "") else told
+        return {"less": [0, ""]} if "lost its copy" in told.get("said", "") else told
+
+
+class TakesNoneForEmpty(Frame):
+    """Takes a copy that is lost, its own one too, for an empty one."""
+    def work(self, shard, it):
+        with mock.patch.object(Records, "has_copy", lambda kept, shard: True):
+            return super().work(shard, it)
+
+
+class TakesTheLonger(Frame):
+    """Gives its list to one that has a shorter one, whatever that has."""
+    def answer(self, path, line):
+        told = super().answer(path, line)
+        if "less" not in told or told["less"][0] <= line["after"][0]:
+            return told
+        return self.kept(lambda it: self.offers.offer(it, line["shard"], Mark(*line["after"])))
+
+
+class TakesTheShorterForLess(Frame):
+    """Becomes primary with its list, if that is longer, whatever others have."""
+    def answer(self, path, line):
+        told = super().answer(path, line)
+        return {"less": [0, ""]} if "less" in told and told["less"][0] < line["after"][0] else told
 
 
 def passed_before_the_cut(kind):
@@ -550,19 +581,76 @@ def lost_disk(kind):
     kv_rules.want((kv_rules.read(a), b.value(kv_rules.SHARD, "k")), (Answer.NOT_HERE, "x"))
 
 
-def change_beside_a_new_disk(kind):
-    """The primary is dropped by leave of a secondary that has all, whose disk is replaced then. The other one lags, and is to be primary."""
+def change(number, fence=0):
+    """An order to become primary."""
+    return kv_rules.order(number, Call.CHANGE, role=Role.SECONDARY, new_role=Role.PRIMARY, fence=fence)
+
+
+def new_disk_of_the_last(kind, first):
+    """The primary is dropped by leave of a secondary that has all, whose disk is replaced then. The other one, which lags, has the first writes."""
     a, b = kv_rules.pair(kind, Cell.SECONDARY)
     c = kind(3, a.peers)
     kv_rules.restore(c, Cell.SECONDARY)
-    kv_rules.push(a, "r1", "x")
+    a.streams.keep_up()
+    for text in first:
+        kv_rules.push(a, text, text)
     c.follow = lambda line: {"later": "lost"}
-    kv_rules.want((kv_rules.push(a, "r2", "y"), kv_rules.answered(a, kv_rules.order(1, Call.DROP))), ("xy", True))
+    kv_rules.want((kv_rules.push(a, "r2", "y"), kv_rules.answered(a, kv_rules.order(1, Call.DROP))), (f"{first}y", True))
     del c.follow
     b = kind(2, a.peers)
     b.kept(lambda it: it.tx.delete("frame/new"))
     kv_rules.restore(b, Cell.SECONDARY)
-    kv_rules.want(kv_rules.answered(c, kv_rules.order(2, Call.CHANGE, role=Role.SECONDARY, new_role=Role.PRIMARY)), False)
+    return b, c
+
+
+def change_beside_a_new_disk(kind):
+    """The one that lags is to be primary."""
+    for first in ("", "x"):
+        b, c = new_disk_of_the_last(kind, first)
+        kv_rules.want((kv_rules.answered(c, change(2)), c.slot(kv_rules.SHARD).cell), (False, Cell.SECONDARY))
+
+
+def change_of_a_new_disk(kind):
+    """The one that has lost its copy is to be primary: it takes none that lags."""
+    for first in ("", "x"):
+        b, c = new_disk_of_the_last(kind, first)
+        kv_rules.want((kv_rules.answered(b, change(2)), b.kept(lambda it: it.has_copy(kv_rules.SHARD))), (False, False))
+
+
+def drop_of_a_new_disk(kind):
+    """The one that has lost its copy is to be dropped: no other one has all that it had."""
+    for first in ("", "x"):
+        b, c = new_disk_of_the_last(kind, first)
+        kv_rules.want(kv_rules.answered(b, kv_rules.order(2, Call.DROP)), False)
+
+
+def drop_beside_a_new_disk(kind):
+    """The one that lags, and has nothing yet, is to be dropped beside the one that has lost its copy."""
+    b, c = new_disk_of_the_last(kind, "")
+    kv_rules.want(kv_rules.answered(c, kv_rules.order(2, Call.DROP)), False)
+
+
+def older_list(kind):
+    """A server that was down when the primary was lost for good is back, with an older, longer list. Without a primary, neither list gives way."""
+    a, b = kv_rules.pair(kind, Cell.SECONDARY)
+    c, d = kind(3, a.peers), kind(4, a.peers)
+    kv_rules.restore(c, Cell.SECONDARY)
+    d.restore(kv_rules.JOURNAL, 0, 0, d.base().nonce, {})
+    kv_rules.push(a, "r1", "x")
+    del a.peers[2]
+    kv_rules.want([kv_rules.push(a, text, text) for text in "op"], ["xo", "xop"])
+    del a.peers[1], a.peers[3]
+    a.peers[2] = b
+    for server, slots in ((b, {kv_rules.SHARD: Slot(cell=Cell.PRIMARY, load=1)}), (d, {})):
+        server.fence(kv_rules.JOURNAL, 100)
+        server.settle(kv_rules.JOURNAL, 100, None, slots)
+    kv_rules.want(kv_rules.answered(d, kv_rules.order(101, Call.ADD, role=Role.SECONDARY, fence=100)), True)
+    kv_rules.want((kv_rules.push(b, "r4", "y"), kv_rules.answered(b, kv_rules.order(102, Call.DROP, fence=100))), ("xy", True))
+    c.peers[3] = c
+    c.heed(kv_rules.JOURNAL, 100)
+    kv_rules.restore(c, Cell.SECONDARY, 100)
+    kv_rules.want([kv_rules.answered(it, change(103, 100)) for it in (d, c)], [False, False])
+    kv_rules.want((d.value(kv_rules.SHARD, "k"), c.value(kv_rules.SHARD, "k")), ("xy", "xop"))
 
 
 def overtaken(kind):
@@ -661,7 +749,9 @@ SCHEDULES = (
     (AnswersAtOnce, kv_rules.crash_at_work), (KeepsWork, kv_rules.crash_and_repeat), (DeletesAtDrop, kv_rules.late_order),
     (ComesBackEmpty, kv_rules.lost_state),
     (KeepsItsNonce, kv_rules.given_up), (AcknowledgesAlone, kv_rules.lost_for_good), (ExecutesWhileForwarding, kv_rules.whole_handover),
-    (ExecutesBeforeTheCut, passed_before_the_cut), (LosesWithoutAsking, lost_disk), (TakesNoneForLess, change_beside_a_new_disk), (None, overtaken),
+    (ExecutesBeforeTheCut, passed_before_the_cut), (LosesWithoutAsking, lost_disk), (TakesNoneForLess, change_beside_a_new_disk),
+    (TakesNoneForEmpty, change_beside_a_new_disk), (TakesNoneForEmpty, change_of_a_new_disk), (TakesNoneForEmpty, drop_of_a_new_disk),
+    (TakesNoneForEmpty, drop_beside_a_new_disk), (TakesTheLonger, older_list), (TakesTheShorterForLess, older_list), (None, overtaken),
     (None, roles_change),
     (DropsWithoutLeave, dropped_by_leave), (CountsNoMore, leave_is_given_up), (TellsWhileItLeaves, leave_is_given_up), (None, leave_ends_at_a_fence),
     (None, primary_is_not_known), (GivesWhileItLeaves, both_leave))
@@ -693,6 +783,37 @@ class RulesTest(unittest.TestCase):
         for it in (a, b):
             self.assertEqual(it.kept(lambda kept: [write.request for write in kept.kept("s")]), ["r2", "r3"])
         self.assertEqual(kv_rules.push(a, "r1", "x"), "xyyx")
+
+    def test_a_server_that_was_given_up_forgets_and_keeps_its_data(self):
+        a, _ = kv_rules.pair(Frame, Cell.SECONDARY)
+        kv_rules.push(a, "r1", "x")
+        a.kept(lambda it: it.tx.put("frame/new", "1"))
+        again = Server(a.name, a.service, a.storage, [], is_new=True, forgets=True)
+        with a.storage.transaction() as tx:
+            it = Records(tx)
+            self.assertEqual((it.base().known, it.slots(), it.is_new(), it.copies(), it.mark("s").position), (0, {}, False, ["s"], 1))
+            nonce = it.base().nonce
+        self.assertNotEqual(nonce, 0)
+        line = {"journal": "7", "fence": 0, "base": 50, "nonce": f"{nonce:x}", "slots": [{"shard": "s", "cell": "secondary", "load": 1}]}
+        self.assertEqual(again.answer("/fence", {"journal": "7", "base": 0}), {"said": "ignored"})
+        self.assertEqual((again.answer("/restore", line), again.answer("/slots", {})["slots"][0]["position"]), ({"done": True}, 1))
+
+    def test_the_command_line_has_new_or_forget(self):
+        for words, wanted in (((), (False, False)), (("--new",), (True, False)), (("--forget",), (False, True))):
+            with mock.patch("smplan.server.run") as run, mock.patch.object(sys, "argv", ["kv", "a", "http://x", ":memory:", *words]):
+                main(kv_http.Texts(), "")
+            self.assertEqual((run.call_args.kwargs["is_new"], run.call_args.kwargs["forgets"]), wanted)
+        with mock.patch.object(sys, "argv", ["kv", "a", "http://x", ":memory:", "--new", "--forget"]), self.assertRaises(SystemExit):
+            main(kv_http.Texts(), "")
+
+    def test_messages_to_another_server_are_refused(self):
+        a, _ = kv_rules.pair(Frame, Cell.SECONDARY)
+        line = {"server": "v2", "shard": "s", "journal": "7", "fence": 9, "base": 9, "nonce": "1", "slots": [], "number": 1, "call": "drop", "load": 1, "room": 9}
+        for path in ("/order", "/fence", "/settle", "/restore", "/notice"):
+            with self.assertRaisesRegex(ValueError, "it is v1, and not v2"):
+                a.answer(path, line)
+        self.assertEqual((a.base().known, a.base().fenced, a.slot("s").at_work), (1, 0, 0))
+        self.assertIn("slots", a.answer("/fence", {**line, "server": "v1"}))
 
     def test_each_planted_bug_does_harm(self):
         for kind, schedule in SCHEDULES:

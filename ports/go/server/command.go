@@ -11,18 +11,20 @@ import (
 // Main runs a server of a service over a store in one file, as the command line says.
 func Main(service Service) {
 	isNew := flag.Bool("new", false, "the service is new, and no shard has data yet")
+	forgets := flag.Bool("forget", false, "the server was given up: it is to be added again, and asks for its slots anew")
 	token := flag.String("token", "", "the file of the controller's token: all but clients have to show it")
 	cert := flag.String("cert", "", "the file of a certificate: serve by TLS, at an address with https")
 	key := flag.String("key", "", "the file of its key")
 	flag.Usage = func() {
-		fmt.Fprintf(flag.CommandLine.Output(), "%s [-new] [-token FILE] [-cert FILE -key FILE] NAME CONTROLLERS STORE\n", os.Args[0])
+		fmt.Fprintf(flag.CommandLine.Output(), "%s [-new | -forget] [-token FILE] [-cert FILE -key FILE] NAME CONTROLLERS STORE\n", os.Args[0])
 		flag.PrintDefaults()
 	}
-	if flag.Parse(); flag.NArg() != 3 {
+	if flag.Parse(); flag.NArg() != 3 || *isNew && *forgets {
 		flag.Usage()
 		os.Exit(2)
 	}
-	settings := Settings{Name: flag.Arg(0), Controllers: strings.Split(flag.Arg(1), ","), IsNew: *isNew, Token: tokenIn(*token), Cert: *cert, Key: *key}
+	settings := Settings{Name: flag.Arg(0), Controllers: strings.Split(flag.Arg(1), ","), IsNew: *isNew, Forgets: *forgets, Token: tokenIn(*token),
+		Cert: *cert, Key: *key}
 	store, err := OpenFile(flag.Arg(2))
 	if err != nil {
 		log.Fatal(err)

@@ -67,10 +67,20 @@ func route[Line any](answer func(Line) (any, error)) func([]byte) (any, error) {
 	}
 }
 
+// toIt answers a controller's line of one kind, and refuses those that name another server.
+func toIt[Line interface{ to() string }](it *Server, answer func(Line) (any, error)) func([]byte) (any, error) {
+	return route(func(line Line) (any, error) {
+		if line.to() != "" && line.to() != it.Name {
+			return nil, fmt.Errorf("it is %s, and not %s", it.Name, line.to())
+		}
+		return answer(line)
+	})
+}
+
 func (it *Server) routes() map[string]func([]byte) (any, error) {
 	return map[string]func([]byte) (any, error){
-		"/order": route(it.order), "/fence": route(it.fence), "/settle": route(it.settle), "/restore": route(it.restore), "/notice": route(it.notice),
-		"/base": route(it.tellBase), "/slots": route(it.tellSlots), "/peer/follow": route(it.taken), "/peer/copy": route(it.given),
+		"/order": toIt(it, it.order), "/fence": toIt(it, it.fence), "/settle": toIt(it, it.settle), "/restore": toIt(it, it.restore),
+		"/notice": toIt(it, it.notice), "/base": route(it.tellBase), "/slots": route(it.tellSlots), "/peer/follow": route(it.taken), "/peer/copy": route(it.given),
 		"/peer/leave": route(it.leaveGiven), "/peer/pass": route(it.passed), "/peer/life": route(it.tellLife), "/request": route(it.requested),
 	}
 }

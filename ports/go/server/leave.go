@@ -1,6 +1,7 @@
 package server
 
 import (
+	"errors"
 	"fmt"
 	"strings"
 
@@ -48,7 +49,7 @@ func (it *Server) leaveGiven(line leaveLine) (any, error) {
 			answer = leftLine{Later: "it leaves, too"}
 		case !mayGive(slot, here.Position, line):
 			answer = leftLine{Later: "it does not serve " + line.Shard}
-		case !kept.has(line.Shard, line.Mark):
+		case !kept.hasCopy(line.Shard) || !kept.has(line.Shard, line.Mark):
 			answer = leftLine{Later: "it lacks writes"}
 		default:
 			it.with(line.Shard, func(live *live) {
@@ -98,10 +99,16 @@ func (it *Server) takeLeave(line orderLine, others []uint32) error {
 // askLeave asks for leave until somebody gives it.
 func (it *Server) askLeave(shard, question string, isBeside bool, givers []uint32) error {
 	var line leaveLine
-	it.transact(func(kept records) error {
+	err := it.transact(func(kept records) error {
+		if isBeside && !kept.hasCopy(shard) {
+			return errors.New(lostCopy(shard))
+		}
 		line = leaveLine{shard, it.number(), fmt.Sprintf("%x", kept.base().Journal), kept.heard(), kept.mark(shard), question, isBeside}
 		return nil
 	})
+	if err != nil {
+		return err
+	}
 	said := []string{}
 	for _, number := range givers {
 		var told leftLine

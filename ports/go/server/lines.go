@@ -10,6 +10,7 @@ import (
 
 // orderLine is an order as a session sends it.
 type orderLine struct {
+	Server   string   `json:"server"`
 	Shard    string   `json:"shard"`
 	Journal  string   `json:"journal"`
 	Fence    uint64   `json:"fence"`
@@ -24,6 +25,10 @@ type orderLine struct {
 	Primary  *string  `json:"primary"`
 	Replicas []string `json:"replicas"`
 }
+
+func (it orderLine) to() string { return it.Server }
+
+func (it wholeLine) to() string { return it.Server }
 
 // slotLine is a slot as a settle or a restore brings it, or as a server tells it.
 type slotLine struct {
@@ -40,6 +45,7 @@ type slotLine struct {
 
 // wholeLine is a fence, a settle, a restore or a notice.
 type wholeLine struct {
+	Server  string     `json:"server"`
 	Journal string     `json:"journal"`
 	Base    uint64     `json:"base"`
 	Fence   *uint64    `json:"fence"`
@@ -58,7 +64,7 @@ type offerLine struct {
 	Cut     *[2]uint64 `json:"cut"`
 	Writes  []write    `json:"writes,omitempty"`
 	Copy    *copyLine  `json:"copy,omitempty"`
-	Less    *uint64    `json:"less,omitempty"`
+	Less    *mark      `json:"less,omitempty"`
 	Said    string     `json:"said,omitempty"`
 }
 

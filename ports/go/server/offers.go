@@ -163,12 +163,8 @@ func (it *Server) given(line askLine) (answer any, err error) {
 			answer = offerLine{Said: "it does not know"}
 		case it.isLeaving(line.Shard):
 			answer = offerLine{Said: "it leaves " + line.Shard}
-		case line.Beside && slot.Cell.Kind == smplan.Secondary && line.After.Position > 0 && !kept.hasCopy(line.Shard):
-			answer = offerLine{Said: "it has lost its copy of " + line.Shard + ": give it up as lost"}
-		case line.Beside && slot.Cell.Kind == smplan.Secondary && here.Position <= line.After.Position:
-			answer = offerLine{Less: &here.Position}
 		case line.Beside && slot.Cell.Kind == smplan.Secondary:
-			answer, err = it.offer(kept, line.Shard, line.After)
+			answer, err = it.offerBeside(kept, line.Shard, line.After)
 		case !isSourceFor(slot, here.Position, line.From):
 			answer = offerLine{Said: "it is no source of " + line.Shard}
 		default:
@@ -182,6 +178,24 @@ func (it *Server) given(line askLine) (answer any, err error) {
 		return err
 	})
 	return answer, err
+}
+
+// offerBeside is what a secondary gives that becomes no primary itself: what is behind a mark, if its list goes on from there; otherwise where that
+// ends.
+func (it *Server) offerBeside(kept records, shard string, after mark) (offerLine, error) {
+	here := kept.mark(shard)
+	if !kept.hasCopy(shard) {
+		return offerLine{Said: lostCopy(shard)}, nil
+	}
+	if after != here && kept.has(shard, after) {
+		return it.offer(kept, shard, after)
+	}
+	return offerLine{Less: &here}, nil
+}
+
+// lostCopy is what a server says of a shard that it is to have a copy of, and has none.
+func lostCopy(shard string) string {
+	return "it has lost its copy of " + shard + ": give it up as lost"
 }
 
 // asked asks a source for what is lacking here.

@@ -201,28 +201,33 @@ func (it *Server) rest(shard string, order smplan.Order, others []uint32) error 
 	return nil
 }
 
-// compare takes at a secondary that becomes primary what others have that it lacks. Each of them has to answer.
+// compare takes at a secondary that becomes primary what others have that it lacks, if that goes on from its own list. Each of them has to answer.
 func (it *Server) compare(shard string, others []uint32) error {
-	for _, number := range others {
-		offer, err := it.asked(shard, number, true)
-		if err != nil {
-			return err
+	err := it.transact(func(kept records) error {
+		if !kept.hasCopy(shard) {
+			return errors.New(lostCopy(shard))
 		}
-		if offer.Less != nil {
-			continue
+		return nil
+	})
+	for at := 0; at < len(others) && err == nil; at++ {
+		var offer offerLine
+		if offer, err = it.asked(shard, others[at], true); err == nil {
+			err = it.transact(func(kept records) error { return it.takeBeside(kept, shard, it.nameOf(others[at]), offer) })
 		}
-		err = it.transact(func(kept records) error {
-			if kept.slot(shard).Cell.Kind != smplan.Secondary {
-				return nil
-			}
-			if has, err := it.takeOffer(kept, shard, offer); err != nil || !has {
-				return fmt.Errorf("%s has more: %v", it.nameOf(number), err)
-			}
-			return nil
-		})
-		if err != nil {
-			return err
-		}
+	}
+	return err
+}
+
+// takeBeside takes what another secondary gives; an error if that has more, or another list.
+func (it *Server) takeBeside(kept records, shard, name string, offer offerLine) error {
+	if offer.Less != nil && !kept.has(shard, *offer.Less) {
+		return fmt.Errorf("%s has another list of %s, not a beginning of the one here: give up the older one as lost", name, shard)
+	}
+	if offer.Less != nil || kept.slot(shard).Cell.Kind != smplan.Secondary {
+		return nil
+	}
+	if has, err := it.takeOffer(kept, shard, offer); err != nil || !has {
+		return fmt.Errorf("%s has more: %v", name, err)
 	}
 	return nil
 }

@@ -37,12 +37,13 @@ type Limits struct{ Answering, Working, Waiting, Peer, Fencing, Resting, Keeping
 // DefaultLimits are those that suit most.
 var DefaultLimits = Limits{time.Second, 30 * time.Second, 3 * time.Second, 3 * time.Second, 2 * time.Second, time.Second / 2, time.Hour}
 
-// Settings are what a server is begun with. IsNew: the service is new, so that no shard has data yet. Token is the controller's, which all but
-// clients have to show. Cert and Key are files: with them it serves by TLS.
+// Settings are what a server is begun with. IsNew: the service is new, so that no shard has data yet. Forgets: it was given up, and turns Unknown.
+// Token is the controller's, which all but clients have to show. Cert and Key are files: with them it serves by TLS.
 type Settings struct {
 	Name        string
 	Controllers []string
 	IsNew       bool
+	Forgets     bool
 	Token       string
 	Cert, Key   string
 	Limits      Limits
@@ -123,7 +124,10 @@ func New(settings Settings, service Service, store Store) (*Server, error) {
 			tx.Put("frame/new", "1")
 		}
 		kept.read("frame/fleet", &it.fleet)
-		if !kept.base().Known {
+		if settings.Forgets {
+			tx.Delete("frame/new")
+			it.forget(kept)
+		} else if !kept.base().Known {
 			kept.putBase(smplan.Forget(nonce()), 0)
 		}
 		for shard, slot := range kept.slots() {

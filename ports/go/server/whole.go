@@ -233,21 +233,26 @@ func (it *Server) heed(journal, fence uint64) error {
 			}
 			return nil
 		}
-		for shard := range kept.slots() {
-			kept.Delete(place("slot", shard))
-			kept.putOldOwner(shard, 0)
-		}
-		kept.putBase(smplan.Forget(nonce()), 0)
-		it.mutex.Lock()
-		defer it.mutex.Unlock()
-		it.life = nonce()
-		for _, live := range it.shards {
-			live.beginAnew()
-			live.term++
-		}
-		it.wake()
+		it.forget(kept)
 		return nil
 	})
+}
+
+// forget turns Unknown.
+func (it *Server) forget(kept records) {
+	for shard := range kept.slots() {
+		kept.Delete(place("slot", shard))
+		kept.putOldOwner(shard, 0)
+	}
+	kept.putBase(smplan.Forget(nonce()), 0)
+	it.mutex.Lock()
+	defer it.mutex.Unlock()
+	it.life = nonce()
+	for _, live := range it.shards {
+		live.beginAnew()
+		live.term++
+	}
+	it.wake()
 }
 
 // tellBase tells the number of its base; none if it is Unknown or fenced.
