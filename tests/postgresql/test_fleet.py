@@ -46,9 +46,10 @@ class FleetTest(unittest.TestCase):
     """One shard, s, at a and b."""
 
     def follows(self, primary="a", follower="b"):
-        """Whether a follower counts, and has what the primary has."""
+        """Whether a follower counts, and has what the primary has, in a copy that is whole."""
         members = FLEET.posts[primary].query("SELECT name FROM s.sm_members JOIN sm.servers ON number = server")
-        return members == [(follower,)] and FLEET.posts[primary].query(SUM) == FLEET.posts[follower].query(SUM)
+        is_whole = FLEET.posts[follower].query("SELECT is_whole FROM sm.slots WHERE shard = 's'") == [(True,)]
+        return members == [(follower,)] and is_whole and FLEET.posts[primary].query(SUM) == FLEET.posts[follower].query(SUM)
 
     def settle(self, *words):
         FLEET.wait_for("the follower has all", lambda: self.follows(*words), 120)

@@ -11,13 +11,14 @@ import time
 import unittest
 from concurrent.futures import ThreadPoolExecutor
 from pathlib import Path
+from unittest import mock
 
 import servers  # (it makes the packages be found)
 import psycopg
 from smplan import agent
 from smplan.agent import Base, Cell, Request, Slot
 from smplan.failure import Failure
-from smplan_pg import adopt, status, streams
+from smplan_pg import adopt, copies, orders, status, streams
 from smplan_pg.database import Database, signed, unsigned, value
 from smplan_pg.records import Cut, Mark, Peer, Records
 from smplan_pg.server import Limits, Server
@@ -488,10 +489,47 @@ class WholeTest(Case):
         self.assertEqual(POST.query("SELECT sealed_view, sealed_position, sealed IS NOT NULL FROM sm.slots WHERE shard = %s", (self.shard,)), [(0, 0, True)])
         self.assertEqual(POST.query("SELECT pubinsert FROM pg_publication WHERE pubname = sm.stream(%s)", (self.shard,)), [(True,)])
 
-    def test_what_is_absent_at_the_end_is_deleted(self):
+    def test_what_is_absent_at_the_end_is_set_aside_if_it_is_whole(self):
+        for is_whole in (True, False):
+            self.setUp()
+            POST.query("UPDATE sm.slots SET is_whole = %s", (is_whole,))
+            self.fence(100)
+            self.settle(100, None, {"shard": self.shard, "cell": "absent", "load": 1})
+            self.assertEqual((self.has(), self.slot()), (False, [(1,)]))
+            self.assertEqual(POST.query("SELECT why FROM sm.asides WHERE shard = %s", (self.shard,)), [("a reopening has left it to other servers",)] * is_whole)
+        status.drop(DATABASE, [], True, False)
+
+    def test_an_old_owner_counts_no_more_once_the_new_one_is_settled(self):
+        with DATABASE.transaction() as tx:
+            Records(tx).put_members(self.shard, {2: True})
         self.fence(100)
-        self.settle(100, None, {"shard": self.shard, "cell": "absent", "load": 1})
-        self.assertEqual((self.has(), self.slot()), (False, [(1,)]))
+        self.settle(100, None, {"shard": self.shard, "cell": "primary", "load": 1})
+        with DATABASE.transaction() as tx:
+            self.assertEqual((Records(tx).members(self.shard), Records(tx).mark(self.shard)), ({}, Mark(0, 1)))
+        self.assertTrue(value(DATABASE.row("SELECT sm.acknowledged(%s, '50 ms')", self.shard)))
+
+    def test_a_fence_ends_questions_for_leave(self):
+        DATABASE.row("SELECT sm.begin_leaving(%s, 7)", self.shard)
+        self.fence(100)
+        self.assertFalse(value(DATABASE.row("SELECT sm.end_leaving(%s, 7)", self.shard)))
+
+    def test_a_copy_that_was_replaced_is_deleted_if_nothing_of_it_is_lacking(self):
+        for number, (views, position, why) in enumerate((([], 4, copies.REPLACED), ([], 5, copies.LACKING), ([5], 3, copies.LACKING), ([7], 9, copies.REPLACED), ([7], 10, copies.LACKING))):
+            self.setUp()
+            old = f"{self.shard}_old{number}"
+            POST.query(f"CREATE SCHEMA {old}")
+            DATABASE.row("SELECT sm.adopt(%s)", old)
+            POST.query(f"INSERT INTO {self.shard}.sm_views VALUES (7, 4); UPDATE {self.shard}.sm_counters SET writes = 9 WHERE n = 1")
+            POST.query(f"INSERT INTO {old}.sm_views VALUES (0, 0); UPDATE {old}.sm_counters SET writes = {position} WHERE n = 1")
+            for it in views:
+                POST.query(f"INSERT INTO {old}.sm_views VALUES ({it}, 4)")
+            POST.query(f"INSERT INTO sm.copying VALUES ('{self.shard}', 2, now(), '{old}')")
+            with DATABASE.transaction() as tx:
+                self.server.copies.end(tx, self.shard)
+            self.assertEqual(POST.query("SELECT why FROM sm.asides WHERE schema = %s", (old,)), [(why,)], (views, position))
+            self.server.keeping.tidy()
+            self.assertEqual(POST.query("SELECT to_regnamespace(%s) IS NULL", (old,)), [(why == copies.REPLACED,)])
+        status.drop(DATABASE, [], True, False)
 
     def test_a_copy_that_is_not_whole_is_not_told(self):
         serve(self.shard, Cell.SECONDARY)
@@ -520,6 +558,7 @@ class WholeTest(Case):
 
     def test_no_secondary_while_another_one_was_left_out(self):
         self.server.orders.limits = Limits(answering=30.0)
+        self.server.peers[2] = Peer(2, "b", "", POST.reach)
         order = {"call": "change", "shard": self.shard, "from": "primary", "to": "secondary", "journal": "9", "fence": 0, "number": 5, "load": 1, "room": 9, "replicas": ["a", "b"]}
         self.assertIn("b has to follow first", self.server.orders.take(order)["said"])
         self.assertEqual(self.slot(), [(4,)])
@@ -554,6 +593,179 @@ class WholeTest(Case):
     def test_left_behind(self):
         self.server.whole.notice({"journal": "9", "fence": 50})
         self.assertEqual((self.server.whole.tell_base({}), self.slot(), self.has()), ({"base": None}, [], True))
+
+
+class SeveralTest(unittest.TestCase):
+    """Several servers, each a database: leave to drop a copy, and who becomes the primary."""
+
+    @classmethod
+    def setUpClass(cls):
+        cls.its = {}
+        for number, name in enumerate("abc", 1):
+            POST.query(f"CREATE DATABASE several_{name}")
+            reach = POST.reach.replace("dbname=postgres", f"dbname=several_{name}")
+            it = cls.its[name] = Server(name, cls.make(reach, number, name), reach, [], limits=Limits(answering=60.0, resting=0.05))
+            it.number = number
+        for it in cls.its.values():
+            it.peers = {one.number: Peer(one.number, one.name, "", one.reach) for one in cls.its.values()}
+
+    @staticmethod
+    def make(reach, number, name):
+        database = Database(reach)
+        with database.transaction() as tx:
+            adopt.install(tx)
+            tx.execute("UPDATE sm.state SET me = %s, name = %s", (number, name))
+        return database
+
+    @classmethod
+    def tearDownClass(cls):
+        for it in cls.its.values():
+            for database in (it.database, *it.databases.values()):
+                database.close()
+
+    def setUp(self):
+        self.shard = f"it{next(Case.count)}"
+        trying = mock.patch.object(orders, "TRYING", 0.3)
+        trying.start()
+        self.addCleanup(trying.stop)
+
+    def put(self, name, cell, position, is_whole=True, fenced=0):
+        """Gives a server a copy with so many writes."""
+        database = self.its[name].database
+        if not value(database.row("SELECT sm.is_adopted(%s)", self.shard)):
+            with database.connection() as c:
+                c.execute(TABLES.format(self.shard))
+            adopt.adopt(database, [self.shard])
+        with database.transaction() as tx:
+            it = Records(tx)
+            it.put_base(Base(journal=9, number=0, known=1, fenced=fenced), 0)
+            it.put_slot(self.shard, Slot(cell=cell, load=1))
+            it.put_source(self.shard, None, is_whole)
+        self.write(name, position)
+
+    def write(self, name, position):
+        self.its[name].database.do(f"UPDATE {self.shard}.sm_counters SET writes = %s WHERE n = 1", position)
+
+    def order(self, name, call, replicas, primary=None, **rest):
+        line = {"call": call, "shard": self.shard, "journal": "9", "fence": 0, "number": 5, "load": 1, "room": 9, "primary": primary, "replicas": list(replicas), **rest}
+        self.its[name].live(self.shard).rest_until = 0.0
+        return self.its[name].orders.take(line)
+
+    def has(self, name):
+        return value(self.its[name].database.row("SELECT sm.is_adopted(%s)", self.shard))
+
+    def test_of_two_that_leave_at_once_one_stays(self):
+        for cell, primary in ((Cell.SECONDARY, None), (Cell.PRIMARY, "b")):
+            with self.subTest(cell):
+                self.shard = f"it{next(Case.count)}"
+                self.leave_at_once(cell, primary)
+
+    def leave_at_once(self, cell, primary):
+        """Servers b and c have all, a lacks writes."""
+        for name, one, position in (("a", Cell.SECONDARY, 3), ("b", cell, 5), ("c", Cell.SECONDARY, 5)):
+            self.put(name, one, position)
+        sound, together = streams.halt, threading.Barrier(2)
+
+        def halt(*words):  # (who has leave waits here for the other one)
+            try:
+                together.wait(3.0)
+            except threading.BrokenBarrierError:
+                pass
+            sound(*words)
+
+        with mock.patch.object(streams, "halt", halt), ThreadPoolExecutor(2) as pool:
+            told = list(pool.map(lambda it: self.order(it, "drop", "abc", primary), "bc"))
+        self.assertLessEqual(told.count({"done": True}), 1, told)
+        for name in "bc":
+            self.order(name, "drop", "abc", primary if self.has("b") else None)
+        self.assertIn("it lacks writes", self.order("c", "drop", "ac")["said"] if self.has("c") else "it lacks writes")
+        self.assertEqual([self.has(it) for it in "bc"].count(True), 1, told)
+
+    def test_who_gives_leave(self):
+        self.put("b", Cell.SECONDARY, 5)
+
+        def ask(asker=1, journal=9, heard=0, beside=True, view=0, position=5):
+            return value(self.its["b"].database.row("SELECT sm.leave(%s, %s, %s, %s, %s, %s, %s)", self.shard, asker, journal, heard, beside, view, position))
+
+        self.assertEqual([ask(), ask(position=6), ask(view=1, position=2)], ["leave", "it lacks writes", "it lacks writes"])
+        self.assertEqual([ask(journal=8), ask(heard=3)], ["it knows of another reopening"] * 2)
+        self.assertEqual(ask(beside=False), "it does not serve the shard")
+        self.put("b", Cell.SECONDARY, 5, is_whole=False)
+        self.assertEqual(ask(position=0), "its copy is not whole")
+        self.put("b", Cell.SECONDARY, 5, fenced=1)
+        self.assertEqual(ask(), "it knows of another reopening")
+        self.put("b", Cell.PRIMARY, 5)
+        with self.its["b"].database.transaction() as tx:
+            Records(tx).put_members(self.shard, {1: False, 3: False})
+        self.assertEqual([ask(), ask(beside=False)], ["it does not serve the shard", "leave"])
+        with self.its["b"].database.transaction() as tx:
+            self.assertEqual((Records(tx).members(self.shard), Records(tx).mark(self.shard).position), ({3: False}, 6))
+
+    def test_who_asks_gives_no_leave_to_a_higher_number(self):
+        for cell, beside in ((Cell.SECONDARY, True), (Cell.PRIMARY, False)):
+            self.put("b", cell, 5)
+            for asker, answer, stands in ((3, "it leaves, too", True), (1, "leave", False)):
+                self.its["b"].database.row("SELECT sm.begin_leaving(%s, 7)", self.shard)
+                self.assertEqual(value(self.its["b"].database.row("SELECT sm.leave(%s, %s, 9, 0, %s, 0, 5)", self.shard, asker, beside)), answer)
+                self.assertEqual(value(self.its["b"].database.row("SELECT sm.end_leaving(%s, 7)", self.shard)), stands)
+
+    def test_a_question_that_was_given_up_is_not_committed(self):
+        for name in "ab":
+            self.put(name, Cell.SECONDARY, 5)
+        given, sound = [], streams.halt
+
+        def halt(*words):
+            given.append(value(self.its["b"].database.row("SELECT sm.leave(%s, 1, 9, 0, true, 0, 5)", self.shard)))
+            sound(*words)
+
+        with mock.patch.object(streams, "halt", halt):
+            told = self.order("b", "drop", "ab")
+        self.assertIn("asks anew", told["said"])
+        self.assertEqual((set(given), self.has("b")), ({"leave"}, True))
+        self.assertEqual(value(self.its["b"].database.row("SELECT count(*) FROM sm.leaving")), 0)
+        self.assertEqual((self.order("b", "drop", "ab"), self.has("b")), ({"done": True}, False))
+
+    def test_who_has_lost_its_copy_is_waited_for(self):
+        self.put("b", Cell.SECONDARY, 5, is_whole=False)
+        self.put("c", Cell.SECONDARY, 3)
+        self.assertIn("b has no whole copy", self.order("c", "change", "bc", **{"from": "secondary", "to": "primary"})["said"])
+        self.assertIn("what is here is not whole", self.order("b", "drop", "bc")["said"])
+        self.assertIn("its copy is not whole", self.order("c", "drop", "bc")["said"])
+        self.assertIn("b has no whole copy", self.order("b", "change", "b", **{"from": "secondary", "to": "primary"})["said"])
+        self.put("a", Cell.PRIMARY, 5)
+        with self.its["a"].database.transaction() as tx:
+            Records(tx).put_members(self.shard, {2: False})
+        self.assertIn("b has no whole copy", self.order("a", "change", "ab", primary="a", **{"from": "primary", "to": "secondary"})["said"])
+        self.assertEqual([self.has(it) for it in "bc"], [True, True])
+
+    def test_a_primary_leaves_once_another_one_has_its_last_write(self):
+        self.put("a", Cell.PRIMARY, 5)
+        self.put("b", Cell.SECONDARY, 5)
+        sound = streams.halt
+
+        def halt(*words):
+            self.write("a", 6)  # (a request that ran while it asked)
+            sound(*words)
+
+        with mock.patch.object(streams, "halt", halt):
+            told = self.order("a", "drop", "ab", primary="a")
+        self.assertIn("it lacks writes", told["said"])
+        self.assertTrue(self.has("a"))
+        self.write("b", 6)
+        self.assertEqual((self.order("a", "drop", "ab", primary="a"), self.has("a")), ({"done": True}, False))
+
+    def test_streams_of_another_database(self):
+        self.put("a", Cell.PRIMARY, 5)
+        a, b = self.its["a"].database, self.its["b"].database
+        with a.transaction() as tx:
+            Records(tx).put_members(self.shard, {3: False})
+        streams.make_stream(b, self.shard, 3)
+        self.assertFalse(value(a.row("SELECT sm.has_all(%s, '0/1')", self.shard)))
+        self.assertFalse(a.row("SELECT has_stream FROM sm.offers(%s, 3)", self.shard)["has_stream"])
+        streams.drop_streams(a, self.shard)
+        with b.connection() as c:
+            self.assertEqual(len(streams.streams_of(c, self.shard)), 1)
+        streams.drop_streams(b, self.shard)
 
 
 class OldServer(socketserver.BaseRequestHandler):

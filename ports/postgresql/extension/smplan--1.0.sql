@@ -41,6 +41,9 @@ CREATE TABLE sm.asides (schema text PRIMARY KEY, shard text NOT NULL, since time
 -- The changes of shards' schemas that were made here by `smplan-pg ddl`.
 CREATE TABLE sm.changes (shard text, name text, at timestamptz NOT NULL DEFAULT now(), PRIMARY KEY (shard, name));
 
+-- The shards that this server wants to drop: the number of its question for leave, which is open until the drop is committed or given up.
+CREATE TABLE sm.leaving (shard text PRIMARY KEY, question bigint NOT NULL);
+
 -- The name of a shard's publication, and with a server's number that of the stream by which the server follows it.
 CREATE FUNCTION sm.stream(in_shard text, server int DEFAULT NULL) RETURNS text LANGUAGE sql IMMUTABLE PARALLEL SAFE AS $$
   SELECT 'sm_' || left(regexp_replace(lower(in_shard), '[^a-z0-9]', '_', 'g'), 34) || '_' || left(md5(in_shard), 8) || coalesce('_' || server, '')
@@ -50,6 +53,9 @@ $$;
 -- starve: sharers of rows pass whoever waits.)
 CREATE FUNCTION sm.share(in_shard text) RETURNS void LANGUAGE sql AS $$ SELECT pg_advisory_xact_lock_shared(1936531056, hashtext(in_shard)) $$;
 CREATE FUNCTION sm.hold(in_shard text) RETURNS void LANGUAGE sql AS $$ SELECT pg_advisory_xact_lock(1936531056, hashtext(in_shard)) $$;
+
+-- The lock of leave: one question or answer about a shard after the other. Who takes both takes that of the shard first.
+CREATE FUNCTION sm.lock_leave(in_shard text) RETURNS void LANGUAGE sql AS $$ SELECT pg_advisory_xact_lock(1936531059, hashtext(in_shard)) $$;
 
 -- ---- a shard's own tables
 
@@ -204,7 +210,7 @@ BEGIN
   LOOP
     IF NOT sm.is_adopted(in_shard) THEN RETURN false; END IF;
     EXECUTE format('SELECT EXISTS (SELECT FROM sm.slots WHERE shard = $1 AND (cell = 4 OR (cell = 2 AND has_cut = 1))),
-      EXISTS (SELECT FROM %I.sm_members m LEFT JOIN pg_replication_slots r ON r.slot_name = sm.stream($1, m.server)
+      EXISTS (SELECT FROM %I.sm_members m LEFT JOIN pg_replication_slots r ON r.slot_name = sm.stream($1, m.server) AND r.database = current_database()
               WHERE r.confirmed_flush_lsn IS NULL OR r.confirmed_flush_lsn < $2)', in_shard) INTO served, lacking USING in_shard, until;
     IF NOT served OR NOT lacking THEN RETURN served; END IF;
     IF clock_timestamp() > ends THEN RETURN false; END IF;
@@ -217,7 +223,7 @@ END $$;
 CREATE FUNCTION sm.has_all(in_shard text, until pg_lsn) RETURNS bool LANGUAGE plpgsql AS $$
 DECLARE lacking bool;
 BEGIN
-  EXECUTE format('SELECT EXISTS (SELECT FROM %I.sm_members m LEFT JOIN pg_replication_slots r ON r.slot_name = sm.stream($1, m.server)
+  EXECUTE format('SELECT EXISTS (SELECT FROM %I.sm_members m LEFT JOIN pg_replication_slots r ON r.slot_name = sm.stream($1, m.server) AND r.database = current_database()
     WHERE r.confirmed_flush_lsn IS NULL OR r.confirmed_flush_lsn < $2)', in_shard) INTO lacking USING in_shard, until;
   RETURN NOT lacking;
 END $$;
@@ -260,7 +266,8 @@ DECLARE b sm.state; s sm.slots; r record;
 BEGIN
   SELECT * INTO b FROM sm.state;
   SELECT * INTO s FROM sm.slots WHERE shard = in_shard;
-  SELECT slot_name, confirmed_flush_lsn, wal_status INTO r FROM pg_replication_slots WHERE slot_name = sm.stream(in_shard, follower);
+  SELECT slot_name, confirmed_flush_lsn, wal_status INTO r FROM pg_replication_slots
+    WHERE slot_name = sm.stream(in_shard, follower) AND database = current_database();
   cell := coalesce(s.cell, 1); party := coalesce(s.party, 0); has_cut := coalesce(s.has_cut, 0); at_work := coalesce(s.at_work, 0);
   journal := b.journal; number := b.number; known := b.known; fenced := b.fenced;
   place := s.sealed; view := s.sealed_view; "position" := s.sealed_position;
@@ -287,14 +294,43 @@ BEGIN
   RETURN true;
 END $$;
 
--- A follower may drop the shard, and counts no more. False if this server does not serve it.
-CREATE FUNCTION sm.leave(in_shard text, follower int) RETURNS bool LANGUAGE plpgsql AS $$
+-- This server asks for leave to drop a shard, under a number that no question had before.
+CREATE FUNCTION sm.begin_leaving(in_shard text, in_question bigint) RETURNS void LANGUAGE plpgsql AS $$
+BEGIN
+  PERFORM sm.lock_leave(in_shard);
+  INSERT INTO sm.leaving VALUES (in_shard, in_question) ON CONFLICT (shard) DO UPDATE SET question = excluded.question;
+END $$;
+
+-- The question is answered, and the drop is committed in this transaction. False if this server has given it up, since it gave leave itself.
+CREATE FUNCTION sm.end_leaving(in_shard text, in_question bigint) RETURNS bool LANGUAGE plpgsql AS $$
+BEGIN
+  PERFORM sm.lock_leave(in_shard);
+  DELETE FROM sm.leaving WHERE shard = in_shard AND question = in_question;
+  RETURN FOUND;
+END $$;
+
+-- Another server asks for leave to drop a shard: 'leave', or why not. A primary gives it, and counts the other no more; where there is none (`beside`), a
+-- secondary whose whole copy has what the other has. Who has a question open gives none; of two that ask each other the one with the higher number gives
+-- its own up, and asks anew.
+CREATE FUNCTION sm.leave(in_shard text, asker int, in_journal bigint, in_heard bigint, beside bool, in_view bigint, in_position bigint) RETURNS text
+LANGUAGE plpgsql AS $$
+DECLARE b sm.state; s sm.slots;
 BEGIN
   PERFORM sm.share(in_shard);
-  IF NOT EXISTS (SELECT FROM sm.state WHERE known = 1) OR NOT EXISTS (SELECT FROM sm.slots WHERE shard = in_shard AND cell = 4) THEN RETURN false; END IF;
-  EXECUTE format('DELETE FROM %I.sm_members WHERE server = $1', in_shard) USING follower;
-  PERFORM sm.count(in_shard);
-  RETURN true;
+  PERFORM sm.lock_leave(in_shard);
+  SELECT * INTO b FROM sm.state;
+  SELECT * INTO s FROM sm.slots WHERE shard = in_shard;
+  IF b.known = 0 OR b.fenced = 1 OR (b.journal, b.heard) <> (in_journal, in_heard) THEN RETURN 'it knows of another reopening'; END IF;
+  IF s.cell IS DISTINCT FROM (CASE WHEN beside THEN 3 ELSE 4 END) THEN RETURN 'it does not serve the shard'; END IF;
+  IF beside AND NOT s.is_whole THEN RETURN 'its copy is not whole'; END IF;
+  IF beside AND (sm.view(in_shard), sm.position(in_shard)) < (in_view, in_position) THEN RETURN 'it lacks writes'; END IF;
+  DELETE FROM sm.leaving WHERE shard = in_shard AND b.me > asker;
+  IF EXISTS (SELECT FROM sm.leaving WHERE shard = in_shard) THEN RETURN 'it leaves, too'; END IF;
+  IF NOT beside THEN
+    EXECUTE format('DELETE FROM %I.sm_members WHERE server = $1', in_shard) USING asker;
+    PERFORM sm.count(in_shard);
+  END IF;
+  RETURN 'leave';
 END $$;
 
 -- A copy begins, or goes on. False if so many are made from here already.

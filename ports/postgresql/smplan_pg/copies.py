@@ -22,9 +22,9 @@ if TYPE_CHECKING:
 
 Still = Callable[[], bool]
 
-# Why a copy is set aside whose place another one has taken: it is deleted by itself.
+# Why a copy is set aside whose place another one has taken. If that has all that this one has, this one is deleted by itself.
 REPLACED = "a whole copy has taken its place"
-
+LACKING = "a whole copy has taken its place, and lacks writes of this one"
 
 # How often a copy tells its source that it goes on, in seconds.
 TELLING = 1.0
@@ -179,10 +179,11 @@ class Copies:
             time.sleep(0.02)
 
     def end(self, tx: Connection, shard: str) -> None:
-        """The copy is whole: nobody needs the old one."""
+        """The copy is whole: nobody needs the old one, unless that has writes that the new one has not."""
         kept = value(tx.execute("DELETE FROM sm.copying WHERE shard = %s RETURNING kept", (shard,)).fetchone())
         if kept is not None:
-            tx.execute("INSERT INTO sm.asides (schema, shard, why) VALUES (%s, %s, %s)", (kept, shard, REPLACED))
+            why = REPLACED if Records(tx).begins(kept, shard) else LACKING
+            tx.execute("INSERT INTO sm.asides (schema, shard, why) VALUES (%s, %s, %s)", (kept, shard, why))
 
     def put_back(self, tx: Connection, shard: str) -> bool:
         """Puts an old copy back in place of one that is not whole and will not be. Whether there was one. The subscription is halted before."""

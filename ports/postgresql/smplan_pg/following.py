@@ -276,8 +276,8 @@ class Following:
         """Whether what a source sends could not be applied for a while, again and again, and nothing got on: it does not go on from the copy here."""
         row, now = self.server.database.row(APPLIED, shard, shard, shard, self.server.number), time.monotonic()
         assert row is not None
-        mark, errors = Mark(row["view"], row["position"]), row["errors"] or 0
-        if was is None or was.mark != mark or was.errors > errors or not mark < self.server.sources.mark_at(source, shard):
+        mark, errors, there = Mark(row["view"], row["position"]), row["errors"] or 0, self.server.sources.mark_at(source, shard)
+        if was is None or was.mark != mark or was.errors > errors or there is None or not mark < there:
             was = Applied(mark, errors, now)
         self.applied[shard] = was
         if errors < was.errors + 2 or now - was.since < self.server.limits.dead:

@@ -103,7 +103,7 @@ class Keeping:
             pass  # (it comes again)
 
     def tidy(self) -> None:
-        """Forgets identities that are old enough, guards tables that have come to a shard, and deletes copies that were replaced."""
+        """Forgets identities that are old enough, guards tables that have come to a shard, and deletes copies that were replaced by what has all of them."""
         for shard in self.served():
             self.server.database.row("SELECT sm.forget_requests(%s, make_interval(secs => %s))", shard, self.server.limits.keeping)
             self.server.database.row("SELECT sm.guard_tables(%s)", shard)

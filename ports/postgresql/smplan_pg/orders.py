@@ -3,7 +3,8 @@ from __future__ import annotations
 
 import threading
 import time
-from typing import TYPE_CHECKING, Any, Dict, List
+from contextlib import nullcontext
+from typing import TYPE_CHECKING, Any, Dict, List, Optional
 
 import psycopg
 from smplan.agent import Answer, Call, Cell, Order, Role, Slot
@@ -12,6 +13,7 @@ from smplan.control_agent import order_of
 from . import streams
 from .copies import GivenUp, remove
 from .database import Connection, value
+from .leave import Leave, leaving
 from .records import Cut, Mark, Records
 from .streams import Stuck
 
@@ -159,7 +161,12 @@ class Orders:
 
     def change(self, shard: str, order: Order, line: Line, others: List[int]) -> None:
         """Does the work of an order that copies nothing, and commits it."""
-        self.prepare(shard, order, line, others)
+        with leaving(self.server, shard, line, others) if order.call == Call.DROP else nullcontext() as leave:
+            self.prepare(shard, order, line, others, leave)
+            self.commit(shard, order, others, leave)
+
+    def commit(self, shard: str, order: Order, others: List[int], leave: Optional[Leave]) -> None:
+        """Commits an order that copies nothing, with its work."""
         live = self.server.live(shard)
         with self.server.database.transaction() as tx:
             it = Records(tx)
@@ -169,6 +176,8 @@ class Orders:
             tx.execute("SELECT FROM sm.slots WHERE shard = %s FOR UPDATE", (shard,))
             if self.server.agent.begin(it.slot(shard), order) != slot:
                 raise Stuck("the slot has changed")
+            if leave is not None:
+                self.keep(tx, shard, slot, leave)
             before = it.mark(shard)
             is_cut = order.call == Call.PREPARE_DROP or is_demotion(order)
             if is_cut:
@@ -209,16 +218,21 @@ class Orders:
                     raise Ended("not each secondary has all writes")
                 time.sleep(0.002)
 
-    def prepare(self, shard: str, order: Order, line: Line, others: List[int]) -> None:
+    def prepare(self, shard: str, order: Order, line: Line, others: List[int], leave: Optional[Leave]) -> None:
         """What goes before the transaction: leave, comparisons, streams, and an end of what is followed."""
         with self.server.database.transaction() as tx:
             slot = self.begin(tx, shard, order)
             mine = streams.name_of(tx, shard, self.server.number)
-        if order.call == Call.DROP:
-            self.get_leave(shard, slot, line, others)
+            words = leave.words(tx, slot) if leave is not None else ()
+        if leave is not None:
+            if slot.cell == Cell.FORWARDING:
+                self.wait_for_followers(shard)
+            leave.get(words)
             streams.halt(self.server.database, mine)
         elif order.call == Call.ADD and slot.cell == Cell.ABSENT and others:
             raise Stuck(f"others have {shard}: {line['replicas']}")
+        elif is_demotion(order):
+            self.marks(shard, others)
         elif is_promotion(order):
             self.compare(shard, others)
             for it in others:
@@ -253,33 +267,40 @@ class Orders:
         it.put_slot(shard, after)
         self.server.whole.begin_view(tx, shard, order.number, {})
 
-    def get_leave(self, shard: str, slot: Slot, line: Line, others: List[int]) -> None:
-        """Asks the primary for leave to drop a copy, or another server that has all that is here. Followers leave an old owner first."""
-        primary = self.server.numbers.get(line.get("primary") or "", 0)
-        if slot.cell == Cell.FORWARDING:
-            self.wait_for_followers(shard)
-        if primary not in (0, self.server.number):
-            if not value(self.server.peer(primary).row("SELECT sm.leave(%s, %s)", shard, self.server.number)):
-                raise Stuck(f"{line['primary']} gives no leave")
-        elif others and slot.cell != Cell.PREPARED:
-            mine = self.server.sources.mark_at(self.server.number, shard)
-            if all(self.server.sources.mark_at(it, shard) < mine for it in others):
-                raise Stuck("nobody else has all that is here")
+    def keep(self, tx: Connection, shard: str, slot: Slot, leave: Leave) -> None:
+        """Keeps leave to drop a copy, to which nothing more comes: a primary holds its requests now. It waits shortly, and rests long."""
+        try:
+            leave.keep(tx, slot)
+        except Stuck as why:
+            if slot.cell == Cell.PRIMARY:
+                self.server.live(shard).rest_until = time.monotonic() + self.limits.resting
+                raise Ended(str(why)) from None
+            raise
 
     def wait_for_followers(self, shard: str, seconds: float = 10.0) -> None:
         """Waits until nobody reads streams of a shard that begin here; not for those that are dead."""
         first = self.server.live(shard).first_try.setdefault(-1, time.monotonic())
-        head = "SELECT count(*) FROM pg_replication_slots WHERE active AND starts_with(slot_name, sm.stream(%s) || '_')"
+        head = "SELECT count(*) FROM pg_replication_slots WHERE database = current_database() AND active AND starts_with(slot_name, sm.stream(%s) || '_')"
         if value(self.server.database.row(head, shard)) and time.monotonic() < first + seconds:
             raise Stuck("followers have not left yet")
         self.server.live(shard).first_try.pop(-1, None)
 
     def compare(self, shard: str, others: List[int]) -> None:
-        """A secondary that becomes primary waits until it has what each other replica has."""
-        mine = self.server.sources.mark_at(self.server.number, shard)
-        for it in others:
-            if self.server.sources.mark_at(it, shard) > mine:
+        """A secondary that becomes primary waits until it has what each other replica has, and for one whose copy is not whole, which may have lost it."""
+        marks = self.marks(shard, [self.server.number, *others])
+        for it, mark in marks.items():
+            if mark > marks[self.server.number]:
                 raise Stuck(f"{self.server.names[it]} has more")
+
+    def marks(self, shard: str, numbers: List[int]) -> Dict[int, Mark]:
+        """What servers have of a shard; each has to have a whole copy. (A primary does not become a secondary before: nobody could become the primary.)"""
+        marks = {}
+        for it in numbers:
+            mark = self.server.sources.mark_at(it, shard)
+            if mark is None:
+                raise Stuck(f"{self.server.names[it]} has no whole copy: it is waited for until it is given up")
+            marks[it] = mark
+        return marks
 
 
 def is_promotion(order: Order) -> bool:

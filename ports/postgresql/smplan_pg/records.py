@@ -107,6 +107,10 @@ class Records:
         """Stores where the writes of its own begin, and what its copy was then."""
         self.tx.execute("UPDATE sm.slots SET sealed = %s::pg_lsn, sealed_view = %s, sealed_position = %s WHERE shard = %s", (place, mark.view, mark.position, shard))
 
+    def end_questions(self) -> None:
+        """Gives up all questions for leave, answered or not."""
+        self.tx.execute("DELETE FROM sm.leaving")
+
     # -- a shard's own tables
 
     def is_adopted(self, shard: str) -> bool:
@@ -118,6 +122,14 @@ class Records:
         row = self.tx.execute("SELECT sm.view(%s) AS view, sm.position(%s) AS position", (shard, shard)).fetchone()
         assert row is not None
         return Mark(row["view"], row["position"])
+
+    def begins(self, old: str, new: str) -> bool:
+        """Whether one copy is a beginning of the other's list: that has its last view, and all up to its position before the next one."""
+        mark, views = self.mark(old), "SELECT count(*) FILTER (WHERE view = %s) AS has, min(position) FILTER (WHERE view > %s) AS ends FROM {}.sm_views"
+        row = self.tx.execute(self.own(views, new), (mark.view, mark.view)).fetchone()
+        assert row is not None
+        ends = self.mark(new).position if row["ends"] is None else row["ends"]
+        return (row["has"] > 0 or mark.view == 0) and mark.position <= ends
 
     def kept(self, shard: str) -> Optional[str]:
         """The schema of an old copy that stands beside one that is made anew."""
@@ -158,6 +170,11 @@ class Records:
         self.tx.execute(self.own("DELETE FROM {}.sm_members", shard))
         for server, was_owner in members.items():
             self.tx.execute(self.own("INSERT INTO {}.sm_members VALUES (%s, %s)", shard), (server, was_owner))
+
+    def end_handover(self, shard: str) -> None:
+        """The old owner of a shard that is served here counts no more, unless it follows: a reopening has taken its part away."""
+        if self.tx.execute(self.own("DELETE FROM {}.sm_members WHERE was_owner", shard)).rowcount:
+            self.count(shard)
 
     def put_begun(self, shard: str, mark: Mark) -> None:
         """Stores what the copy here is as it begins to be written here: followers take nothing of it unless theirs is the same."""

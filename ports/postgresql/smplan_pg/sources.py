@@ -54,13 +54,13 @@ class Sources:
         if not it["has_stream"]:
             raise Stuck(f"{name} has dropped the stream: the copy begins anew")
 
-    def mark_at(self, number: int, shard: str) -> Mark:
-        """What a server has of a shard; of what is not whole nothing."""
+    def mark_at(self, number: int, shard: str) -> Optional[Mark]:
+        """What a server has of a shard; none if it has no whole copy, which is not less than another: it may have had all."""
         database = self.server.database if number == self.server.number else self.server.peer(number)
         row = database.row("SELECT sm.view(%s) AS view, sm.position(%s) AS position, "
                            "coalesce((SELECT is_whole FROM sm.slots WHERE shard = %s), false) AS is_whole", shard, shard, shard)
         assert row is not None
-        return Mark(row["view"], row["position"]) if row["is_whole"] else Mark()
+        return Mark(row["view"], row["position"]) if row["is_whole"] else None
 
 
 def is_of(offer: Dict[str, Any], base: Base) -> bool:

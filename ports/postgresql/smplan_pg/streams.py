@@ -99,9 +99,9 @@ def lacks_tables(tx: Connection, name: str) -> int:
 # -- streams at their source
 
 def streams_of(tx: Connection, shard: str) -> List[str]:
-    """The streams of a shard that begin at a server."""
-    head = name_of(tx, shard) + "_"
-    return [it["slot_name"] for it in tx.execute("SELECT slot_name FROM pg_replication_slots WHERE starts_with(slot_name, %s)", (head,)).fetchall()]
+    """The streams of a shard that begin in a server's database; other servers may be other databases of its cluster."""
+    its = "SELECT slot_name FROM pg_replication_slots WHERE database = current_database() AND starts_with(slot_name, %s)"
+    return [it["slot_name"] for it in tx.execute(its, (name_of(tx, shard) + "_",)).fetchall()]
 
 
 def make_stream(database: Database, shard: str, follower: int) -> None:

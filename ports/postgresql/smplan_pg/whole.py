@@ -115,7 +115,7 @@ class Whole:
             return ", ".join(shard for shard in served if it.kept(shard) is None and (not it.is_adopted(shard) or self.server.copies.is_copying(tx, shard)))
 
     def take(self, line: Line) -> Answer:
-        """Takes a settle or a restore as a whole: each slot that it does not bring is absent afterwards, and has no data."""
+        """Takes a settle or a restore as a whole: each slot that it does not bring is absent afterwards, and its data set aside."""
         self.server.know(line)
         told, brought = assignment_of(line), slots_of(line, self.server.numbers)
         with self.server.database.transaction() as tx:
@@ -173,12 +173,16 @@ class Whole:
         if after.cell == Cell.ABSENT:
             if before.cell == Cell.UNKNOWN:
                 set_aside(tx, shard, self.server.number, "another server has it, as this one was told when it was restored")
+            elif it.is_whole(shard):
+                set_aside(tx, shard, self.server.number, "a reopening has left it to other servers")
             else:
                 tx.execute("SET LOCAL lock_timeout = '3s'")
                 remove(tx, shard, self.server.number)
         elif after.cell == Cell.PRIMARY and before.cell != Cell.PRIMARY:
             self.server.copies.put_back(tx, shard)
             self.begin_view(tx, shard, view, {})
+        elif after.cell == Cell.PRIMARY:
+            it.end_handover(shard)
         elif after.cell == Cell.SECONDARY and before.cell in (Cell.PRIMARY, *IN_HANDOVER):
             streams.publish(tx, shard, "")
             it.put_source(shard, it.source(shard) if before.cell != Cell.PRIMARY else None, it.is_whole(shard))
@@ -237,7 +241,8 @@ class Whole:
             self.abandon_all(it)
 
     def abandon_all(self, it: Records) -> None:
-        """Gives up all work."""
+        """Gives up all work, and all questions for leave."""
+        it.end_questions()
         for shard, slot in it.slots().items():
             if slot.at_work:
                 it.put_slot(shard, self.server.agent.abandon(slot))
@@ -247,4 +252,5 @@ def forget(it: Records) -> None:
     """Turns a server Unknown: slots are deleted, data is kept."""
     it.base("FOR UPDATE")
     it.tx.execute("DELETE FROM sm.slots")
+    it.end_questions()
     it.put_base(agent.forget(nonce()), 0)
