@@ -15,14 +15,11 @@ use Rattle.sm_protocol.specs.Laws.{IsOpening}
 use Rattle.sm_network.specs.WorldLaws.{IsWorldOpening}
 use Rattle.sm_network.specs.Fleet.{Fleet}
 use Rattle.sm_network.specs.FleetLaws.{ArePermits, IsFleetOpening, world_of}
-use Rattle.sm_network.specs.FleetReopening.{FleetOpensInForce, IsFleetInForce, agent_settled}
-use Rattle.sm_network.specs.Reopening.{Settlement, Settling}
-use Rattle.sm_network.specs.ReopeningLaws.{EachSettling}
 use Rattle.sm_driver.specs.Driver.{DriverModel, base, record_of}
 use Rattle.sm_driver.specs.Permits.{AreEarlierPermits, new_permit, opening_permit, opening_permits, permit_of}
 use Rattle.sm_driver.specs.Restores.{RestoreModel, restore_at}
 use Rattle.sm_driver_laws.specs.Control.{IsControllerOf}
-use Rattle.sm_driver_laws.specs.DrivenLaws.{DriversOpen, IsJustOpened, ReopenedDriversOpen}
+use Rattle.sm_driver_laws.specs.DrivenLaws.{DriversOpen, IsJustOpened, OpenedControls}
 use Rattle.sm_driver_laws.proofs.Controls.{controller_of}
 
 -- a server's base that turns nothing away
@@ -150,48 +147,6 @@ drivers_open setup place room d rows is fence = (
 
 -- ---- after a reopening
 
-module _ (x : Settling) (s : Settlement) (f : Fleet) (before : List (Option ℕ)) (d : DriverModel) (force : IsFleetInForce x s f) (is : IsJustOpened s.setup s.place s.room before d)
-    (base_is : base d ≡ x.reopening.base) (fence_is : d.fence ≡ x.reopening.base) (permits : ArePermits (controller_of d [])) where
-  -- the same fleet under the driver's journal
-  abbrev under : Fleet
-  under = record f {
-    start = controller_of d [];
-    servers = λ v. record (f.servers v) { base = record (f.servers v).base { journal = d.journal } };
-    owner = agent_settled d.journal x.reopening.base;
-  }
-
-  in_force : IsFleetInForce x s under
-  in_force = record {
-    journal = force.journal;
-    record_is = is.state;
-    base = base_is;
-    fence = fence_is;
-    restores = refl;
-    permits = permits;
-    known = λ v l h. let t = force.known v l h in record { taken = t.taken; base = ap (λ (b : Base). record b { journal = d.journal }) t.base; cells = t.cells; lasts = t.lasts; loads = t.loads };
-    others = λ v l. let t = force.others v l in record { base = ap (λ (b : Base). record b { journal = d.journal }) t.base; cells = t.cells; lasts = t.lasts; loads = t.loads };
-    had = force.had;
-    nonces = force.nonces;
-    owner = refl;
-    shown = force.shown;
-    sent = force.sent;
-    answers = force.answers;
-    passes = force.passes;
-    published = force.published;
-    stored = force.stored;
-  }
-
--- the driver opens on the fleet in force
-pub reopened_drivers_open : EachSettling FleetOpensInForce → EachSettling ReopenedDriversOpen
-reopened_drivers_open opens setup x reached s f before d settled took force is earlier base_is fence_is =
-    let rows = (opens setup x reached s f settled took force).world.net.opening.rows in
-    let permits = permits_are s.setup s.place s.room before d is rows.servers earlier in
-    let here = in_force x s f before d force is base_is fence_is permits in
-    let fleet = under x s f before d force is base_is fence_is permits in (
-      fleet,
-      here,
-      record {
-        fleet = subst (λ c. IsFleetOpening c fleet) (sym is.setup) (opens setup x reached s fleet settled took here);
-        control = control_is s.setup s.place s.room before d is;
-      },
-    )
+-- with permits of before it is a controller, too
+pub opened_controls : OpenedControls
+opened_controls setup p room before d rows is earlier = (controller_of d [], control_is setup p room before d is, refl, permits_are setup p room before d is rows.rows.servers earlier)

@@ -5,12 +5,9 @@ use Rattle.sm_placement.specs.Setup.{sizes_of}
 use Rattle.sm_placement.specs.Place.{Place}
 use Rattle.sm_protocol.specs.State.{opened}
 use Rattle.sm_protocol.specs.Laws.{IsOpening}
-use Rattle.sm_network.specs.Controller.{Letter, Notice, Order, Publication, StreamId, order_of, publication_of}
+use Rattle.sm_network.specs.Controller.{Controller, Letter, Notice, Order, Publication, StreamId, order_of, publication_of}
 use Rattle.sm_network.specs.Fleet.{SendOrder, SendPublication, fleet_run}
-use Rattle.sm_network.specs.FleetLaws.{AllFleetFit, BeginningsAreHarmless, CommitsOncePerNumber, CommitsWhereUp, ExecutesAtOneServer, FleetCanFinish, FleetIsReached, FleetIsSafe, MapIsRight, NoLetterIsRefused, OnlyPresentCommits, PermitsEndOnce, PresentIsHeard, ServersAreAtEnds, ServersAreNear, ServersAreRecorded, SomeFleetCanGoOn}
-use Rattle.sm_network.specs.FleetReopening.{IsFleetInForce}
-use Rattle.sm_network.specs.Reopening.{Settlement, Settling}
-use Rattle.sm_network.specs.ReopeningLaws.{AllTook}
+use Rattle.sm_network.specs.FleetLaws.{AllFleetFit, ArePermits, BeginningsAreHarmless, CommitsOncePerNumber, CommitsWhereUp, ExecutesAtOneServer, FleetCanFinish, FleetIsReached, FleetIsSafe, MapIsRight, NoLetterIsRefused, OnlyPresentCommits, PermitsEndOnce, PresentIsHeard, ServersAreAtEnds, ServersAreNear, ServersAreRecorded, SomeFleetCanGoOn}
 use Rattle.sm_driver.specs.Driver.{base, record_of}
 use Rattle.sm_driver.specs.Permits.{AreEarlierPermits, opening_permits}
 use Rattle.sm_driver_laws.specs.Driven.{Command, Driven, DriverModel, Fleet, FleetEvent, IsControllerOf, IsDrivenOpening, IsFleetReached, JournalEntry, Setup, Takes, TurnFits, controller, fleet_comes, driver_setup, with_entries}
@@ -88,9 +85,7 @@ abbrev pub DriversOpen : Type 0
 DriversOpen = (setup : Setup) (p : Place) (room : ℕ) (d : DriverModel) → IsOpening setup p room → IsJustOpened setup p room [] d → d.fence ≡ 0 →
     (f : Fleet) × IsDrivenOpening (record { driver = d; fleet = f }) × ((s v : ℕ) → ((f.servers v).slots s).cell ≡ p.cells s v)
 
--- If a fleet is in force that a reopening has settled, the driver that opens on the settlement, with permits of before, is the controller of such
--- a fleet.
-abbrev pub ReopenedDriversOpen : Settling → Type 0
-ReopenedDriversOpen x = (s : Settlement) (f : Fleet) (before : List (Option ℕ)) (d : DriverModel) → x.reopening.settlement ≡ Some s → AllTook x.reopening → IsFleetInForce x s f →
-    IsJustOpened s.setup s.place s.room before d → AreEarlierPermits (base d) before → base d ≡ x.reopening.base → d.fence ≡ x.reopening.base →
-    (g : Fleet) × IsFleetInForce x s g × IsDrivenOpening (record { driver = d; fleet = g })
+-- A driver that has just been opened, with permits of before, is a controller that has given no restore, and whose permits are apart.
+abbrev pub OpenedControls : Type 0
+OpenedControls = (setup : Setup) (p : Place) (room : ℕ) (before : List (Option ℕ)) (d : DriverModel) → IsOpening setup p room → IsJustOpened setup p room before d →
+    AreEarlierPermits (base d) before → (c : Controller) × IsControllerOf d c × (c.restores ≡ []) × ArePermits c

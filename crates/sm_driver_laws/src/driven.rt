@@ -1,13 +1,12 @@
 //! A driver and its fleet.
-ghost use Rattle.sm_network.specs.ReopeningLaws.{EachSettling};
 ghost use Rattle.sm_driver_laws.specs.Driven.{EachDriven};
-ghost use Rattle.sm_driver_laws.specs.DrivenLaws.{CommandsAreEvents, DriversOpen, FleetDrivenIsSafe, IsDrivenSafely, IsFleetDriven, ReopenedDriversOpen, SendsAsDriven};
+ghost use Rattle.sm_driver_laws.specs.DrivenLaws.{CommandsAreEvents, DriversOpen, FleetDrivenIsSafe, IsDrivenSafely, IsFleetDriven, OpenedControls, SendsAsDriven};
 
 use sm_network::{
     beginnings_are_harmless, commits_once_per_number, commits_where_up, executes_at_one_server,
-    fleet_can_finish, fleet_is_reached, fleet_is_safe, fleet_opens_in_force, map_is_right,
-    no_letter_is_refused, only_present_commits, permits_end_once, present_is_heard,
-    servers_are_at_ends, servers_are_near, servers_are_recorded, some_fleet_can_go_on,
+    fleet_can_finish, fleet_is_reached, fleet_is_safe, map_is_right, no_letter_is_refused,
+    only_present_commits, permits_end_once, present_is_heard, servers_are_at_ends,
+    servers_are_near, servers_are_recorded, some_fleet_can_go_on,
 };
 
 /// States that the fleet is one that its laws are about, and the driver is its controller, whatever commands come, and
@@ -68,9 +67,7 @@ pub fn drivers_open()
     ensures { DriversOpen }
 {}
 
-/// States that the driver that opens on the settlement of a reopening is the controller of a fleet in force.
-pub fn reopened_drivers_open()
-    ensures { EachSettling ReopenedDriversOpen }
-{
-    fleet_opens_in_force();
-}
+/// States that a driver that has just been opened, with permits of before, is a controller.
+pub fn opened_controls()
+    ensures { OpenedControls }
+{}

@@ -10,7 +10,7 @@ mod taking;
 pub use control::{answers_have_entries, commands_are_entries};
 pub use driven::{
     commands_are_events, driven_is_controlled, driven_is_safe, drivers_open, fleet_driven_is_safe,
-    reopened_drivers_open, sends_as_driven,
+    opened_controls, sends_as_driven,
 };
 pub use first::open_with_fleet;
 pub use replicas::{replicas_open_alike, replicas_stay_alike};

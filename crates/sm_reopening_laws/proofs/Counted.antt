@@ -11,7 +11,7 @@ use Rattle.sm_network.specs.Fleet.{Fleet, FleetEvent, controller, fleet_comes, f
 use Rattle.sm_network.specs.FleetLaws.{AllFleetFit, EachFleet, IsFleetReached, PermitsEndOnce, restarts_ended}
 use Rattle.sm_network.specs.Reopening.{Arrives, Comes, Confirm, Fence, Fenced, Forgets, MapOwner, Message, Party, Records, Reopen, Restore, Server, Settle, Settled, Settlement, Settling, SettlingEvent, Told, Took, after_fence, arrives, fence_comes, granted, in_world, inventory_by, is_fenced_at, is_first, is_settled_at, is_taken, names_nonce, part_taken, put_party, settle_comes, settling_comes, takes_settle, with_messages}
 use Rattle.sm_network.specs.ReopeningLaws.{EachSettling, IsSettlingReached, SettlingFits}
-use Rattle.sm_network.specs.FleetReopening.{FleetOpensInForce}
+use Rattle.sm_reopening_laws.specs.Renumbering.{FleetOpensAs, Renumbering}
 use Rattle.sm_reopening_laws.specs.Service.{AllServiceFit, Begins, EachService, Goes, MayOpen, Meets, Opens, Reopens, Runs, Service, ServiceEvent, ServiceFits, opened_on, service_comes, service_run}
 use Rattle.sm_reopening_laws.specs.ServiceLaws.{IsWithinLaws, PermitEndsOnce, ended_by, ends_by}
 use Rattle.sm_reopening_laws.proofs.Within.{fits_append, fleet_on, opening_reached, run_append, within_laws, within_next}
@@ -129,10 +129,10 @@ counted_next once setup permit n f e fit c = elim c.so [
         }
 
 -- what has ended a restart is spent once a controller opens
-counted_open : EachFleet PermitsEndOnce → (setup : Setup) (permit n : ℕ) (f : Fleet) (x : Settling) (g : Fleet) (m : MayOpen setup f x g) → IsCounted setup permit n f → (controller f).base + EPOCH ≤ x.reopening.base →
-    IsFleetReached m.settlement.setup g → IsCounted m.settlement.setup permit n g
-counted_open once setup permit n f x g m c high there = elim (cases_lt 0 n) [
-  | inr l ↦ (let z : 0 ≡ n = omega arith in subst (λ k. IsCounted m.settlement.setup permit k g) z (counted_none m.settlement.setup permit g there))
+counted_open : EachFleet PermitsEndOnce → (setup : Setup) (permit n : ℕ) (f : Fleet) (x : Settling) (numbers : Renumbering) (new : Settlement) (g : Fleet) (m : MayOpen setup f x numbers new g) → IsCounted setup permit n f →
+    (controller f).base + EPOCH ≤ x.reopening.base → IsFleetReached new.setup g → IsCounted new.setup permit n g
+counted_open once setup permit n f x numbers new g m c high there = elim (cases_lt 0 n) [
+  | inr l ↦ (let z : 0 ≡ n = omega arith in subst (λ k. IsCounted new.setup permit k g) z (counted_none new.setup permit g there))
   | inl l ↦ record { most = c.most; reached = there; so = inl (spent l) }
 ]
   where
@@ -157,14 +157,14 @@ counted_open once setup permit n f x g m c high there = elim (cases_lt 0 n) [
     spent l = record {
       past = (let a = low_by l c.so in let b = m.opens.base in let d = ap (λ (q : Controller). q.base) starts in omega arith);
       none = λ v e. elim (m.permits v permit (sym (ap (λ (q : Controller). q.permits v) starts) ∙ e)) [
-        | inl h ↦ gone_by l c.so v h.0 h.1
+        | inl h ↦ gone_by l c.so h.0 h.2 h.3
         | inr h ↦ absurd (let a = low_by l c.so in omega arith)
       ];
     }
 
 -- ---- all events
 
-tallied_next : EachFleet PermitsEndOnce → EachSettling FleetOpensInForce → (permit n : ℕ) (p : Service) (e : ServiceEvent) → ServiceFits p e → IsTallied permit n p → IsTallied permit (n + bit (ends_by permit p e)) (service_comes p e)
+tallied_next : EachFleet PermitsEndOnce → EachSettling FleetOpensAs → (permit n : ℕ) (p : Service) (e : ServiceEvent) → ServiceFits p e → IsTallied permit n p → IsTallied permit (n + bit (ends_by permit p e)) (service_comes p e)
 tallied_next once opens permit n (Runs setup f) (Goes e) fits t = counted_next once setup permit n f e (fits, tt) t
 tallied_next once opens permit n (Runs setup f) (Begins world base servers lost) fits t =
     let same : n ≡ n + 0 = omega arith in
@@ -174,20 +174,21 @@ tallied_next once opens permit n (Runs setup f) (Begins world base servers lost)
     above : (controller f).base + EPOCH ≤ base
     above = let a = fits.may.places in let b = fits.over.base in let d = ap (λ (w : World). w.net.base) fits.world_is in omega arith
 tallied_next once opens permit n (Runs setup f) (Meets e) fits t = let same : n ≡ n + 0 = omega arith in subst (λ k. IsCounted setup permit k f) same t
-tallied_next once opens permit n (Runs setup f) (Opens g) fits t = let same : n ≡ n + 0 = omega arith in subst (λ k. IsCounted setup permit k f) same t
+tallied_next once opens permit n (Runs setup f) (Opens numbers new g) fits t = let same : n ≡ n + 0 = omega arith in subst (λ k. IsCounted setup permit k f) same t
 tallied_next once opens permit n (Reopens setup f x) (Goes e) fits t = let same : n ≡ n + 0 = omega arith in subst (λ k. IsTallied permit k (Reopens setup f x)) same t
 tallied_next once opens permit n (Reopens setup f x) (Begins world base servers lost) fits t = let same : n ≡ n + 0 = omega arith in subst (λ k. IsTallied permit k (Reopens setup f x)) same t
 tallied_next once opens permit n (Reopens setup f x) (Meets e) fits t =
     let same : n ≡ n + 0 = omega arith in
     subst (λ k. IsTallied permit k (Reopens setup f (settling_comes x e).1)) same
     (t.0, (within_next opens (Reopens setup f x) (Meets e) fits (t.0.reached, t.1)).1, (let a = number_grows x e fits in let b = t.2 in omega arith))
-tallied_next once opens permit n (Reopens setup f x) (Opens g) fits t =
+tallied_next once opens permit n (Reopens setup f x) (Opens numbers new g) fits t =
     let same : n ≡ n + 0 = omega arith in
-    subst (λ k. IsTallied permit k (service_comes (Reopens setup f x) (Opens g))) same
-    (subst (λ o. IsTallied permit n (opened_on (Reopens setup f x) g o)) (sym fits.settled)
-    (counted_open once setup permit n f x g fits t.0 t.2 (opening_reached fits.settlement.setup g (opens setup x t.1 fits.settlement g fits.settled fits.took fits.opens))))
+    subst (λ k. IsTallied permit k (service_comes (Reopens setup f x) (Opens numbers new g))) same
+    (subst (λ o. IsTallied permit n (opened_on (Reopens setup f x) new.setup g o)) (sym fits.settled)
+    (counted_open once setup permit n f x numbers new g fits t.0 t.2
+    (opening_reached new.setup g (opens setup x t.1 fits.settlement new numbers g fits.settled fits.took fits.renumbered fits.opens))))
 
-tallied_run : EachFleet PermitsEndOnce → EachSettling FleetOpensInForce → (permit n : ℕ) (es : List ServiceEvent) (p : Service) → AllServiceFit es p → IsTallied permit n p → n + ended_by permit es p ≤ 1
+tallied_run : EachFleet PermitsEndOnce → EachSettling FleetOpensAs → (permit n : ℕ) (es : List ServiceEvent) (p : Service) → AllServiceFit es p → IsTallied permit n p → n + ended_by permit es p ≤ 1
 tallied_run once opens permit n [] p fit t = let a = most_of p t in omega arith
   where
     most_of : (p : Service) → IsTallied permit n p → n ≤ 1
@@ -206,11 +207,11 @@ above_next : (p : Service) (e : ServiceEvent) → ServiceFits p e → IsAbove p 
 above_next (Runs setup f) (Goes e) fits a = tt
 above_next (Runs setup f) (Begins world base servers lost) fits a = let c = fits.may.places in let b = fits.over.base in let d = ap (λ (w : World). w.net.base) fits.world_is in omega arith
 above_next (Runs setup f) (Meets e) fits a = tt
-above_next (Runs setup f) (Opens g) fits a = tt
+above_next (Runs setup f) (Opens numbers new g) fits a = tt
 above_next (Reopens setup f x) (Goes e) fits a = a
 above_next (Reopens setup f x) (Begins world base servers lost) fits a = a
 above_next (Reopens setup f x) (Meets e) fits a = let b = number_grows x e fits in omega arith
-above_next (Reopens setup f x) (Opens g) fits a = subst (λ o. IsAbove (opened_on (Reopens setup f x) g o)) (sym fits.settled) tt
+above_next (Reopens setup f x) (Opens numbers new g) fits a = subst (λ o. IsAbove (opened_on (Reopens setup f x) new.setup g o)) (sym fits.settled) tt
 
 -- so it stays along events
 pub above_run : (es : List ServiceEvent) (p : Service) → AllServiceFit es p → IsAbove p → IsAbove (service_run es p)
@@ -222,7 +223,7 @@ tallied_none permit (Runs setup f) w a = counted_none setup permit f w
 tallied_none permit (Reopens setup f x) w a = (counted_none setup permit f w.0, w.1, a)
 
 -- a permit ends at most one restart
-pub permits_end_once : EachFleet PermitsEndOnce → EachSettling FleetOpensInForce → EachService PermitEndsOnce
+pub permits_end_once : EachFleet PermitsEndOnce → EachSettling FleetOpensAs → EachService PermitEndsOnce
 permits_end_once once opens p r es permit fit =
     let w = within_laws opens p r in
     let a = subst IsAbove (sym r.state) (above_run r.events (Runs r.setup r.first) r.fit tt) in

@@ -1,4 +1,4 @@
-mod FleetThere
+mod Renumbered
 mod Effects
 mod Standing
 mod Followed

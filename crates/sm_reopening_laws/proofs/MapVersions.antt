@@ -21,10 +21,10 @@ use Rattle.sm_network.proofs.Reopened.{frame, standing}
 use Rattle.sm_network.proofs.Shown.{IsMapKept, IsMet, reached_kept, shown_never_goes_back}
 use Rattle.sm_network.proofs.Standing.{IsGood, IsGoodSettle, addressee, is_live, taken_by}
 use Rattle.sm_network.specs.FleetLaws.{MapNeverGoesBack}
-use Rattle.sm_network.specs.FleetReopening.{FleetOpensInForce}
+use Rattle.sm_reopening_laws.specs.Renumbering.{FleetOpensAs}
 use Rattle.sm_reopening_laws.specs.Service.{AllServiceFit, Begins, EachService, Goes, Meets, Opens, Reopens, Runs, Service, ServiceEvent, ServiceFits, opened_on, service_comes, service_run}
 use Rattle.sm_reopening_laws.specs.ServiceLaws.{IsWithinLaws}
-use Rattle.sm_reopening_laws.specs.Versions.{VersionsNeverGoBack, shown_by}
+use Rattle.sm_reopening_laws.specs.Versions.{IsNumberAfter, IsNumberAfterAll, VersionsNeverGoBack, shown_by}
 use Rattle.sm_reopening_laws.proofs.Kept.{reached_on}
 use Rattle.sm_reopening_laws.proofs.Standing.{fence_cases}
 use Rattle.sm_reopening_laws.proofs.Within.{within_laws, within_next}
@@ -274,29 +274,35 @@ settling_forward setup x r es fit s = (run_next setup es x r fit (subst AreLow (
 
 -- ---- over all epochs
 
-service_next : MapNeverGoesBack → (p : Service) (e : ServiceEvent) → ServiceFits p e → IsWithinLaws p → (s : ℕ) → (shown_by p s).version ≤ (shown_by (service_comes p e) s).version
-service_next map (Runs setup f) (Goes e) fits w s = (map f (e ∷ []) s).0
-service_next map (Runs setup f) (Begins world base servers lost) fits w s =
+-- what is shown under a number that stays
+stays_next : (p q : Service) (s after : ℕ) → (shown_by p s).version ≤ (shown_by q s).version → after ≡ s → (shown_by p s).version ≤ (shown_by q after).version
+stays_next p q s after h e = subst (λ k. (shown_by p s).version ≤ (shown_by q k).version) (sym e) h
+
+service_next : MapNeverGoesBack → (p : Service) (e : ServiceEvent) → ServiceFits p e → IsWithinLaws p → (s after : ℕ) → IsNumberAfter p e s after →
+    (shown_by p s).version ≤ (shown_by (service_comes p e) after).version
+service_next map (Runs setup f) (Goes e) fits w s after is = stays_next (Runs setup f) (service_comes (Runs setup f) (Goes e)) s after (map f (e ∷ []) s).0 is
+service_next map (Runs setup f) (Begins world base servers lost) fits w s after is =
     let a = ap (λ (z : World). (z.shown s).version) fits.world_is in
     let b = ap (λ (g : ℕ → Entry). (g s).version) fits.over.shown in
-    omega arith
-service_next map (Runs setup f) (Meets e) fits w s = omega arith
-service_next map (Runs setup f) (Opens fleet) fits w s = omega arith
-service_next map (Reopens setup f x) (Goes e) fits w s = omega arith
-service_next map (Reopens setup f x) (Begins world base servers lost) fits w s = omega arith
-service_next map (Reopens setup f x) (Meets e) fits w s = settling_forward setup x w.1 (e ∷ []) (fits, tt) s
-service_next map (Reopens setup f x) (Opens fleet) fits w s =
-    subst (λ o. (x.world.shown s).version ≤ (shown_by (opened_on (Reopens setup f x) fleet o) s).version) (sym fits.settled)
-    (let a = ap (λ (g : ℕ → Entry). (g s).version) fits.opens.shown in omega arith)
+    stays_next (Runs setup f) (service_comes (Runs setup f) (Begins world base servers lost)) s after (omega arith) is
+service_next map (Runs setup f) (Meets e) fits w s after is = stays_next (Runs setup f) (Runs setup f) s after (omega arith) is
+service_next map (Runs setup f) (Opens n new fleet) fits w s after is = stays_next (Runs setup f) (Runs setup f) s after (omega arith) is
+service_next map (Reopens setup f x) (Goes e) fits w s after is = stays_next (Reopens setup f x) (Reopens setup f x) s after (omega arith) is
+service_next map (Reopens setup f x) (Begins world base servers lost) fits w s after is = stays_next (Reopens setup f x) (Reopens setup f x) s after (omega arith) is
+service_next map (Reopens setup f x) (Meets e) fits w s after is =
+    stays_next (Reopens setup f x) (service_comes (Reopens setup f x) (Meets e)) s after (settling_forward setup x w.1 (e ∷ []) (fits, tt) s) is
+service_next map (Reopens setup f x) (Opens n new fleet) fits w s after is =
+    subst (λ o. (x.world.shown s).version ≤ (shown_by (opened_on (Reopens setup f x) new.setup fleet o) after).version) (sym fits.settled)
+    (let a = (fits.opens.shown after s is).0 in omega arith)
 
-forward_run : EachSettling FleetOpensInForce → MapNeverGoesBack → (es : List ServiceEvent) (p : Service) → AllServiceFit es p → IsWithinLaws p → (s : ℕ) →
-    (shown_by p s).version ≤ (shown_by (service_run es p) s).version
-forward_run opens map [] p fit w s = omega arith
-forward_run opens map (e ∷ es) p fit w s =
-    let a = service_next map p e fit.0 w s in
-    let b = forward_run opens map es (service_comes p e) fit.1 (within_next opens p e fit.0 w) s in
+forward_run : EachSettling FleetOpensAs → MapNeverGoesBack → (es : List ServiceEvent) (p : Service) → AllServiceFit es p → IsWithinLaws p → (s after : ℕ) → IsNumberAfterAll p es s after →
+    (shown_by p s).version ≤ (shown_by (service_run es p) after).version
+forward_run opens map [] p fit w s after is = stays_next p p s after (omega arith) is
+forward_run opens map (e ∷ es) p fit w s after is =
+    let a = service_next map p e fit.0 w s is.0 is.1 in
+    let b = forward_run opens map es (service_comes p e) fit.1 (within_next opens p e fit.0 w) is.0 after is.2 in
     omega arith
 
 -- no version goes back
-pub versions_never_go_back : EachSettling FleetOpensInForce → MapNeverGoesBack → EachService VersionsNeverGoBack
+pub versions_never_go_back : EachSettling FleetOpensAs → MapNeverGoesBack → EachService VersionsNeverGoBack
 versions_never_go_back opens map p r es fit = forward_run opens map es p fit (within_laws opens p r)

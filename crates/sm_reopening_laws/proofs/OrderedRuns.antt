@@ -13,15 +13,16 @@ use Rattle.sm_network.specs.World.{World}
 use Rattle.sm_network.specs.Controller.{JournalEntry, Restore as ServerRestore, replayed}
 use Rattle.sm_network.specs.Fleet.{Fleet, controller, has_lost}
 use Rattle.sm_network.specs.FleetLaws.{IsFleetReached}
-use Rattle.sm_network.specs.Reopening.{Reopen, Server, Settling, entered, records, sends}
+use Rattle.sm_network.specs.Reopening.{Reopen, Server, Settlement, Settling, entered, records, sends}
 use Rattle.sm_network.specs.ReopeningLaws.{EachSettling, IsOutset, IsSettlingReached}
-use Rattle.sm_network.specs.FleetReopening.{FleetOpensInForce, base_by, bases_of, restore_seen, settling_of}
+use Rattle.sm_network.specs.FleetReopening.{base_by, bases_of, restore_seen, settling_of}
 use Rattle.sm_network.proofs.Deliveries.{shade_of}
 use Rattle.sm_network.proofs.Lists.{all_append, all_at, all_map}
 use Rattle.sm_network.proofs.Overlay.{put2-at}
 use Rattle.sm_network.proofs.OfFleet.{net_of}
 use Rattle.sm_network.proofs.Reaching.{fleet_shadow}
 use Rattle.sm_network.proofs.Shadow.{IsLetter, IsRestore, IsShadow}
+use Rattle.sm_reopening_laws.specs.Renumbering.{FleetOpensAs, Renumbering}
 use Rattle.sm_reopening_laws.specs.Service.{AllServiceFit, Begins, EachService, Goes, MayBegin, MayOpen, Meets, Opens, Reopens, Runs, Service, ServiceEvent, ServiceFits, opened_on, service_comes, service_run}
 use Rattle.sm_reopening_laws.specs.ServiceLaws.{IsWithinLaws}
 use Rattle.sm_reopening_laws.specs.OrderLaws.{OldOrdersRest, OrderActsOnce, effects_by, effects_of}
@@ -166,14 +167,15 @@ IsOrdered s v number n (Runs setup f) = IsOrderedFleet s v number n setup f
 IsOrdered s v number n (Reopens setup f x) = IsOrderedSettling s v number n setup f x
 
 -- a fleet that a controller opens on is closed for what is at or below the reopening
-opened_closed : (s v number : ℕ) (setup : Setup) (f : Fleet) (x : Settling) (g : Fleet) (m : MayOpen setup f x g) → number ≤ x.reopening.base → IsClosed s v number m.settlement.setup g
-opened_closed s v number setup f x g m l = inl (
+opened_closed : (s v number : ℕ) (setup : Setup) (f : Fleet) (x : Settling) (numbers : Renumbering) (new : Settlement) (g : Fleet) (m : MayOpen setup f x numbers new g) → number ≤ x.reopening.base →
+    IsClosed s v number new.setup g
+opened_closed s v number setup f x numbers new g m l = inl (
     let a = ap (λ (j : List JournalEntry). (replayed g.start j).fence) m.opens.journal in
     let b = m.opens.fence in
     omega arith
     )
 
-module _ (opens : EachSettling FleetOpensInForce) (s v number : ℕ) where
+module _ (opens : EachSettling FleetOpensAs) (s v number : ℕ) where
   ordered_next : (n : ℕ) (p : Service) (e : ServiceEvent) → ServiceFits p e → IsOrdered s v number n p → IsOrdered s v number (n + count_by (is_for s v number) (effects_by p e)) (service_comes p e)
   ordered_next n (Runs setup f) (Goes e) fits o = elim o.so [
     | inl z ↦ elim (open_next s v number setup f o.reached e fits) [
@@ -198,7 +200,7 @@ module _ (opens : EachSettling FleetOpensInForce) (s v number : ℕ) where
         ];
       }
   ordered_next n (Runs setup f) (Meets e) fits o = record { most = (let a = o.most in omega arith); reached = o.reached; so = elim o.so [ inl z ↦ inl (omega arith) | inr k ↦ inr k ] }
-  ordered_next n (Runs setup f) (Opens g) fits o = record { most = (let a = o.most in omega arith); reached = o.reached; so = elim o.so [ inl z ↦ inl (omega arith) | inr k ↦ inr k ] }
+  ordered_next n (Runs setup f) (Opens numbers new g) fits o = record { most = (let a = o.most in omega arith); reached = o.reached; so = elim o.so [ inl z ↦ inl (omega arith) | inr k ↦ inr k ] }
   ordered_next n (Reopens setup f x) (Goes e) fits o = record { most = (let a = o.most in omega arith); reached = o.reached; settling = o.settling; low = o.low; sound = o.sound; so = elim o.so [ inl z ↦ inl (omega arith) | inr k ↦ inr k ] }
   ordered_next n (Reopens setup f x) (Begins world base servers lost) fits o = record { most = (let a = o.most in omega arith); reached = o.reached; settling = o.settling; low = o.low; sound = o.sound; so = elim o.so [ inl z ↦ inl (omega arith) | inr k ↦ inr k ] }
   ordered_next n (Reopens setup f x) (Meets e) fits o =
@@ -214,15 +216,15 @@ module _ (opens : EachSettling FleetOpensInForce) (s v number : ℕ) where
             record { most = (let a = c.0 in let b = o.most in omega arith); reached = o.reached; settling = w.1; low = o.low; sound = sound; so = inr (k.0, c.1) }
             )
       ]
-  ordered_next n (Reopens setup f x) (Opens g) fits o =
+  ordered_next n (Reopens setup f x) (Opens numbers new g) fits o =
       let same : n ≡ n + 0 = omega arith in
-      let there = opening_reached fits.settlement.setup g (opens setup x o.settling fits.settlement g fits.settled fits.took fits.opens) in
-      let new : IsOrderedFleet s v number n fits.settlement.setup g = record {
+      let there = opening_reached new.setup g (opens setup x o.settling fits.settlement new numbers g fits.settled fits.took fits.renumbered fits.opens) in
+      let after : IsOrderedFleet s v number n new.setup g = record {
         most = o.most;
         reached = there;
-        so = elim o.so [ inl z ↦ inl z | inr k ↦ inr (opened_closed s v number setup f x g fits (let a = k.0 in let b = o.sound.above in omega arith)) ];
+        so = elim o.so [ inl z ↦ inl z | inr k ↦ inr (opened_closed s v number setup f x numbers new g fits (let a = k.0 in let b = o.sound.above in omega arith)) ];
       } in
-      subst (λ k. IsOrdered s v number k (service_comes (Reopens setup f x) (Opens g))) same (subst (λ q. IsOrdered s v number n (opened_on (Reopens setup f x) g q)) (sym fits.settled) new)
+      subst (λ k. IsOrdered s v number k (service_comes (Reopens setup f x) (Opens numbers new g))) same (subst (λ q. IsOrdered s v number n (opened_on (Reopens setup f x) new.setup g q)) (sym fits.settled) after)
 
   ordered_run : (n : ℕ) (es : List ServiceEvent) (p : Service) → AllServiceFit es p → IsOrdered s v number n p → n + effects_of s v number es p ≤ 1
   ordered_run n [] p fit o = let a = most_of p o in omega arith
@@ -240,7 +242,7 @@ module _ (opens : EachSettling FleetOpensInForce) (s v number : ℕ) where
 abbrev IsSoundService : Service → Type 0
 IsSoundService p = IsOrdered 0 0 0 0 p
 
-sound_run : EachSettling FleetOpensInForce → (es : List ServiceEvent) (p : Service) → AllServiceFit es p → (n : ℕ) → IsOrdered 0 0 0 n p → (k : ℕ) × IsOrdered 0 0 0 k (service_run es p)
+sound_run : EachSettling FleetOpensAs → (es : List ServiceEvent) (p : Service) → AllServiceFit es p → (n : ℕ) → IsOrdered 0 0 0 n p → (k : ℕ) × IsOrdered 0 0 0 k (service_run es p)
 sound_run opens [] p fit n o = (n, o)
 sound_run opens (e ∷ es) p fit n o = sound_run opens es (service_comes p e) fit.1 (n + count_by (is_for 0 0 0) (effects_by p e)) (ordered_next opens 0 0 0 n p e fit.0 o)
 
@@ -249,30 +251,30 @@ start_over s v number k (Runs setup f) o = record { most = omega arith; reached 
 start_over s v number k (Reopens setup f x) o = record { most = omega arith; reached = o.reached; settling = o.settling; low = o.low; sound = o.sound; so = inl refl }
 
 -- each order has its effect at most once
-pub order_acts_once : EachSettling FleetOpensInForce → EachService OrderActsOnce
+pub order_acts_once : EachSettling FleetOpensAs → EachService OrderActsOnce
 order_acts_once opens p r es s v number fit =
     let o = sound_run opens r.events (Runs r.setup r.first) r.fit 0 (record { most = omega arith; reached = opening_reached r.setup r.first r.opening; so = inl refl }) in
     let z = ordered_run opens s v number 0 es p fit (start_over s v number o.0 p (subst (IsOrdered 0 0 0 o.0) (sym r.state) o.1)) in
     omega arith
 
 -- and an old one has none
-pub old_orders_rest : EachSettling FleetOpensInForce → EachService OldOrdersRest
+pub old_orders_rest : EachSettling FleetOpensAs → EachService OldOrdersRest
 old_orders_rest opens p r = by_service p (within_laws opens p r) (subst IsAbove (sym r.state) (above_run r.events (Runs r.setup r.first) r.fit tt))
   where
     by_service : (p : Service) → IsWithinLaws p → IsAbove p → OldOrdersRest p
     by_service (Runs setup f) w a = tt
-    by_service (Reopens setup f x) w a = λ g l es m i fit.
+    by_service (Reopens setup f x) w a = λ numbers new g l es s v m i fit.
         let k = fleet_shadow setup f w.0 in
         let z = low_orders setup (shade_of f k).net (net_of f k) in
         let among = (all_at (IsLetter (sizes_of setup) k.shade) f.sent i.0 l k.sent i.1).among in
         let low = all_at (λ (o : Order). o.number ≤ top (shade_of f k).net) k.shade.sent among.0 l.order z.sent among.1 in
         let log = z.log in
         let below : l.order.number ≤ x.reopening.base = omega arith in
-        let new : IsOrderedFleet l.order.call.shard l.order.call.server l.order.number 1 m.settlement.setup g = record {
+        let after : IsOrderedFleet s v l.order.number 1 new.setup g = record {
           most = omega arith;
-          reached = opening_reached m.settlement.setup g (opens setup x w.1 m.settlement g m.settled m.took m.opens);
-          so = inr (opened_closed l.order.call.shard l.order.call.server l.order.number setup f x g m below);
+          reached = opening_reached new.setup g (opens setup x w.1 m.settlement new numbers g m.settled m.took m.renumbered m.opens);
+          so = inr (opened_closed s v l.order.number setup f x numbers new g m below);
         } in
-        let q = ordered_run opens l.order.call.shard l.order.call.server l.order.number 1 es (service_comes (Reopens setup f x) (Opens g)) fit
-        (subst (λ q. IsOrdered l.order.call.shard l.order.call.server l.order.number 1 (opened_on (Reopens setup f x) g q)) (sym m.settled) new) in
+        let q = ordered_run opens s v l.order.number 1 es (service_comes (Reopens setup f x) (Opens numbers new g)) fit
+        (subst (λ q. IsOrdered s v l.order.number 1 (opened_on (Reopens setup f x) new.setup g q)) (sym m.settled) after) in
         omega arith

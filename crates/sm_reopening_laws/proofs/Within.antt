@@ -6,11 +6,12 @@ use Rattle.sm_network.specs.Fleet.{Fleet, FleetEvent, fleet_comes, fleet_run}
 use Rattle.sm_network.specs.FleetLaws.{AllFleetFit, EachFleet, ExecutesAtOneServer, FleetIsSafe, IsFleetOpening, IsFleetReached, MapIsRight, NoLetterIsRefused, SomeFleetCanGoOn}
 use Rattle.sm_network.specs.Reopening.{Reopen, records}
 use Rattle.sm_network.specs.ReopeningLaws.{EachSettling, ExecutesSafely, IsOutset, IsSettlingReached, LoadsFit, RefusesNone, ShownExecutes}
-use Rattle.sm_network.specs.FleetReopening.{FleetOpensInForce, settling_of}
+use Rattle.sm_network.specs.FleetReopening.{settling_of}
 use Rattle.sm_reopening_laws.specs.Floors.{FloorsStay}
 use Rattle.sm_reopening_laws.specs.FloorsBegun.{FloorsRemain}
+use Rattle.sm_reopening_laws.specs.Renumbering.{FleetIsThereAs, FleetOpensAs}
 use Rattle.sm_reopening_laws.specs.Service.{AllServiceFit, Begins, EachService, Goes, MayBegin, Meets, Opens, Reopens, Runs, Service, ServiceEvent, ServiceFits, opened_on, service_comes, service_run}
-use Rattle.sm_reopening_laws.specs.ServiceLaws.{IsWithinLaws, ServiceIsSafe}
+use Rattle.sm_reopening_laws.specs.ServiceLaws.{CanOpen, IsWithinLaws, ServiceIsSafe}
 use Rattle.sm_reopening_laws.proofs.Kept.{reached_on}
 
 -- ---- the fleet
@@ -58,24 +59,33 @@ begun_reached setup f world base servers lost m = record {
 -- ---- all events
 
 -- an event leads on within the laws
-pub within_next : EachSettling FleetOpensInForce → (p : Service) (e : ServiceEvent) → ServiceFits p e → IsWithinLaws p → IsWithinLaws (service_comes p e)
+pub within_next : EachSettling FleetOpensAs → (p : Service) (e : ServiceEvent) → ServiceFits p e → IsWithinLaws p → IsWithinLaws (service_comes p e)
 within_next opens (Runs setup f) (Goes e) fits w = fleet_on setup f (e ∷ []) w (fits, tt)
 within_next opens (Runs setup f) (Begins world base servers lost) fits w = (w, begun_reached setup f world base servers lost fits)
 within_next opens (Runs setup f) (Meets e) fits w = w
-within_next opens (Runs setup f) (Opens fleet) fits w = w
+within_next opens (Runs setup f) (Opens n new fleet) fits w = w
 within_next opens (Reopens setup f x) (Goes e) fits w = w
 within_next opens (Reopens setup f x) (Begins world base servers lost) fits w = w
 within_next opens (Reopens setup f x) (Meets e) fits w = (w.0, reached_on setup x (e ∷ []) w.1 (fits, tt))
-within_next opens (Reopens setup f x) (Opens fleet) fits w = subst (λ o. IsWithinLaws (opened_on (Reopens setup f x) fleet o)) (sym fits.settled)
-    (opening_reached fits.settlement.setup fleet (opens setup x w.1 fits.settlement fleet fits.settled fits.took fits.opens))
+within_next opens (Reopens setup f x) (Opens n new fleet) fits w = subst (λ o. IsWithinLaws (opened_on (Reopens setup f x) new.setup fleet o)) (sym fits.settled)
+    (opening_reached new.setup fleet (opens setup x w.1 fits.settlement new n fleet fits.settled fits.took fits.renumbered fits.opens))
 
-pub within_run : EachSettling FleetOpensInForce → (es : List ServiceEvent) (p : Service) → AllServiceFit es p → IsWithinLaws p → IsWithinLaws (service_run es p)
+pub within_run : EachSettling FleetOpensAs → (es : List ServiceEvent) (p : Service) → AllServiceFit es p → IsWithinLaws p → IsWithinLaws (service_run es p)
 within_run opens [] p fit w = w
 within_run opens (e ∷ es) p fit w = within_run opens es (service_comes p e) fit.1 (within_next opens p e fit.0 w)
 
 -- it is always within the laws
-pub within_laws : EachSettling FleetOpensInForce → EachService IsWithinLaws
+pub within_laws : EachSettling FleetOpensAs → EachService IsWithinLaws
 within_laws opens p r = subst IsWithinLaws (sym r.state) (within_run opens r.events (Runs r.setup r.first) r.fit (opening_reached r.setup r.first r.opening))
+
+-- so a controller can open on the fleet that is there
+pub can_open : EachService IsWithinLaws → EachSettling FleetIsThereAs → EachService CanOpen
+can_open within fleets (Runs setup f) reached = tt
+can_open within fleets (Reopens setup f x) reached = λ s new n settled took renumbered.
+    let g = fleets setup x (within (Reopens setup f x) reached).1 s new n settled took renumbered in (
+      g.0,
+      record { settlement = s; settled = settled; took = took; renumbered = renumbered; opens = g.1; permits = λ v permit h. absurd (let z = sym (g.2 v) ∙ h in cc) },
+    )
 
 -- ---- so it is safe
 
@@ -98,5 +108,5 @@ safe_where l (Runs setup f) w = record { safe = l.safe setup f w; executes = l.e
 safe_where l (Reopens setup f x) w = record { loads = l.loads setup x w.1; floors_before = l.floors_before setup x w.1; floors = l.floors setup x w.1; executes = l.settling_executes setup x w.1; refuses = l.settling_refuses setup x w.1; shown = l.settling_shows setup x w.1 }
 
 -- so the service is safe
-pub service_is_safe : EachSettling FleetOpensInForce → AreLaws → EachService ServiceIsSafe
+pub service_is_safe : EachSettling FleetOpensAs → AreLaws → EachService ServiceIsSafe
 service_is_safe opens l p r = safe_where l p (within_laws opens p r)

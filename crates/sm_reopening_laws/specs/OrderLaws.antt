@@ -5,7 +5,7 @@ use Rattle.sm_network.specs.Laws.{is_for, order_served}
 use Rattle.sm_network.specs.Controller.{Letter}
 use Rattle.sm_network.specs.FleetLaws.{order_committed}
 use Rattle.sm_network.specs.FleetReopening.{IsOneOf}
-use Rattle.sm_reopening_laws.specs.Service.{AllServiceFit, Fleet, Goes, MayOpen, Meets, Opens, Reopens, Runs, Service, ServiceEvent, fleet_comes, service_comes, settling_comes}
+use Rattle.sm_reopening_laws.specs.Service.{AllServiceFit, Fleet, Goes, MayOpen, Meets, Opens, Renumbering, Reopens, Runs, Service, ServiceEvent, Settlement, fleet_comes, service_comes, settling_comes}
 
 -- the order that has its effect by an event, if there is one: it is committed by its server, also by one that a fence has not come to yet
 abbrev pub effects_by : Service → ServiceEvent → List Order
@@ -18,12 +18,14 @@ abbrev pub effects_of : ℕ → ℕ → ℕ → List ServiceEvent → Service �
 effects_of s v number [] p = 0
 effects_of s v number (e ∷ es) p = count_by (is_for s v number) (effects_by p e) + effects_of s v number es (service_comes p e)
 
--- No number has its effect twice on a cell, over all epochs, crashes, restores and reopenings.
+-- No number has its effect twice on a cell, over all epochs, crashes, restores and reopenings. (A cell is named by the numbers of the epoch in which the
+-- order has its effect.)
 abbrev pub OrderActsOnce : Service → Type 0
 OrderActsOnce p = (es : List ServiceEvent) (s v number : ℕ) → AllServiceFit es p → effects_of s v number es p ≤ 1
 
--- Once a controller opens on what a reopening has settled, no order that was sent before has an effect any more.
+-- Once a controller opens on what a reopening has settled, no order that was sent before has an effect any more, on whatever cell.
 abbrev pub OldOrdersRest : Service → Type 0
 OldOrdersRest (Runs setup f) = Unit {0}
-OldOrdersRest (Reopens setup f x) = (g : Fleet) (l : Letter) (es : List ServiceEvent) → MayOpen setup f x g → IsOneOf f.sent l → AllServiceFit es (service_comes (Reopens setup f x) (Opens g)) →
-    effects_of l.order.call.shard l.order.call.server l.order.number es (service_comes (Reopens setup f x) (Opens g)) ≡ 0
+OldOrdersRest (Reopens setup f x) = (n : Renumbering) (new : Settlement) (g : Fleet) (l : Letter) (es : List ServiceEvent) (s v : ℕ) → MayOpen setup f x n new g →
+    IsOneOf f.sent l → AllServiceFit es (service_comes (Reopens setup f x) (Opens n new g)) →
+    effects_of s v l.order.number es (service_comes (Reopens setup f x) (Opens n new g)) ≡ 0

@@ -5,7 +5,7 @@ use Rattle.sm_network.specs.FleetLaws.{ExecutesAtOneServer, FleetIsSafe, IsFleet
 use Rattle.sm_network.specs.ReopeningLaws.{ExecutesSafely, IsSettlingReached, LoadsFit, RefusesNone, ShownExecutes}
 use Rattle.sm_reopening_laws.specs.Floors.{FloorsStay}
 use Rattle.sm_reopening_laws.specs.FloorsBegun.{FloorsRemain}
-use Rattle.sm_reopening_laws.specs.Service.{AllServiceFit, AllTook, Fleet, Goes, MayOpen, Reopens, Runs, Service, ServiceEvent, Settlement, Settling, Setup, service_comes}
+use Rattle.sm_reopening_laws.specs.Service.{AllServiceFit, AllTook, Fleet, Goes, IsRenumberedAs, MayOpen, Renumbering, Reopens, Runs, Service, ServiceEvent, Settlement, Settling, Setup, service_comes}
 
 -- The laws of one epoch hold wherever events of the fleet lead from an opening, and those of a reopening wherever events lead from its beginning.
 -- The service is always at one of these: so all of them hold of it.
@@ -36,10 +36,11 @@ abbrev pub ServiceIsSafe : Service → Type 0
 ServiceIsSafe (Runs setup f) = IsSafeFleet setup f
 ServiceIsSafe (Reopens setup f x) = IsSafeSettling x
 
--- once all have taken a settlement, there is a fleet on which a controller can open
+-- once all have taken a settlement, there is a fleet on which a controller can open, in whatever numbers
 abbrev pub CanOpen : Service → Type 0
 CanOpen (Runs setup f) = Unit {0}
-CanOpen (Reopens setup f x) = (s : Settlement) → x.reopening.settlement ≡ Some s → AllTook x.reopening → (g : Fleet) × MayOpen setup f x g
+CanOpen (Reopens setup f x) = (s new : Settlement) (n : Renumbering) → x.reopening.settlement ≡ Some s → AllTook x.reopening → IsRenumberedAs n s new →
+    (g : Fleet) × MayOpen setup f x n new g
 
 -- ---- permits
 

@@ -8,11 +8,11 @@ ghost use Rattle.sm_reopening_laws.specs.Restarts.{RulesKeepFloors};
 ghost use Rattle.sm_reopening_laws.specs.Service.{EachService};
 ghost use Rattle.sm_reopening_laws.specs.ServiceLaws.{CanOpen, IsWithinLaws, PermitEndsOnce, ServiceIsSafe};
 
-use crate::in_force::fleet_is_there;
+use crate::in_force::{fleet_is_there_as, fleet_opens_as};
 use sm_network::{
-    executes_at_one_server, executes_safely, fleet_is_safe, fleet_opens_in_force, loads_fit,
-    map_is_right, no_letter_is_refused, opens_with_past, permits_end_once, refuses_none,
-    shown_executes, some_fleet_can_go_on,
+    executes_at_one_server, executes_safely, fleet_is_safe, loads_fit, map_is_right,
+    no_letter_is_refused, opens_with_past, permits_end_once, refuses_none, shown_executes,
+    some_fleet_can_go_on,
 };
 
 /// States that until a settlement is confirmed no shard has fewer live replicas than the floor of the record that the
@@ -42,23 +42,23 @@ pub fn rules_keep_floors()
 pub fn laws_hold()
     ensures { EachService IsWithinLaws }
 {
-    fleet_opens_in_force();
+    fleet_opens_as();
 }
 
 /// States that once all parties of a reopening have taken its settlement, a controller can open on the fleet that comes
-/// of it.
+/// of it, in whatever numbers.
 pub fn can_open()
     ensures { EachService CanOpen }
 {
     laws_hold();
-    fleet_is_there();
+    fleet_is_there_as();
 }
 
 /// States that wherever events lead, reopenings among them, the service is safe.
 pub fn service_is_safe()
     ensures { EachService ServiceIsSafe }
 {
-    fleet_opens_in_force();
+    fleet_opens_as();
     fleet_is_safe();
     executes_at_one_server();
     no_letter_is_refused();
@@ -76,7 +76,7 @@ pub fn service_is_safe()
 pub fn permit_ends_once()
     ensures { EachService PermitEndsOnce }
 {
-    fleet_opens_in_force();
+    fleet_opens_as();
     permits_end_once();
 }
 
@@ -84,13 +84,13 @@ pub fn permit_ends_once()
 pub fn order_acts_once()
     ensures { EachService OrderActsOnce }
 {
-    fleet_opens_in_force();
+    fleet_opens_as();
 }
 
 /// States that once a controller opens on what a reopening has settled, no order that was sent before has an effect any
-/// more.
+/// more, on whatever cell.
 pub fn old_orders_rest()
     ensures { EachService OldOrdersRest }
 {
-    fleet_opens_in_force();
+    fleet_opens_as();
 }

@@ -9,7 +9,7 @@ mod play;
 mod versions;
 
 pub use adopt::settles_without_record;
-pub use in_force::fleet_is_there;
+pub use in_force::{fleet_is_there_as, fleet_opens_as, numbers_may_stay};
 pub use late::{
     carried_executes_safely, heard_is_settled, late_changes_nothing, late_fence_forgets,
     late_is_overtaken, overtaken_commits_nothing,

@@ -2,12 +2,13 @@
 ghost use Rattle.sm_reopening_laws.specs.Service.{EachService};
 ghost use Rattle.sm_reopening_laws.specs.Versions.{VersionsNeverGoBack};
 
-use sm_network::{fleet_opens_in_force, map_never_goes_back};
+use crate::in_force::fleet_opens_as;
+use sm_network::map_never_goes_back;
 
 /// States that wherever events lead, reopenings among them, no version that the map shows goes back.
 pub fn versions_never_go_back()
     ensures { EachService VersionsNeverGoBack }
 {
-    fleet_opens_in_force();
+    fleet_opens_as();
     map_never_goes_back();
 }

@@ -7,21 +7,21 @@ use Rattle.sm_protocol.specs.Laws.{IsReached}
 use Rattle.sm_machine.specs.State.{whole_of}
 use Rattle.sm_network.specs.Controller.{EPOCH}
 use Rattle.sm_network.specs.FleetLaws.{EachFleet, FleetIsReached, IsFleetOpening}
-use Rattle.sm_network.specs.FleetReopening.{FleetOpensInForce}
 use Rattle.sm_network.specs.Reopening.{Inventory, Party, Reopening, arrives, is_first, put_party}
 use Rattle.sm_network.specs.ReopeningLaws.{EachSettling, MaySettle, SettlingFits}
 use Rattle.sm_driver.specs.Permits.{permit_of}
 use Rattle.sm_driver_laws.specs.Control.{ApproveRestart, BeginPlan, Command, EndRestart, JournalEntry, OpenEpoch, RestoreServer, TakeAnswer, Writes as WritesEntries}
 use Rattle.sm_driver_laws.specs.Driven.{EachDriven, Goes, IsDrivenReached, Takes, with_entries}
 use Rattle.sm_driver_laws.specs.DrivenLaws.{CommandsAreEvents, IsFleetDriven}
+use Rattle.sm_reopening_laws.specs.Renumbering.{FleetOpensAs, Renumbering}
 use Rattle.sm_reopening_laws.specs.Service.{EachService, Goes as ServiceGoes, Begins, IsServiceReached, MayBegin, MayOpen, Meets as ServiceMeets, Opens as ServiceOpens, Reopens as ServiceReopens, Runs, opened_on}
 use Rattle.sm_reopening_laws.specs.ServiceLaws.{IsWithinLaws}
 use Rattle.sm_reopening.specs.Ongoing.{past_state}
-use Rattle.sm_service_laws.specs.Controlled.{AllControlledFit, AllTook, Arrives, AreLow, Comes, Confirm, Controlled, Driven, DriverModel, Drives, EachControlled, Entry, Fleet, Forgets, IsControllerOf, IsDrivenOpening, MayOpenAs, MayReopenAs, MayWriteAs, Meets, ControlledEvent, ControlledFits, OngoingReopening, Opens, Records, Reopen, Reopens, Settlement, Settles, Settling, SettlingEvent, Told, Took, Turn, TurnFits, Turns, World, Writes, WritesNone, controlled_comes, controlled_run, after_turn, base, controller, driver_setup, entered, no_reopening, record_of, records, settling_comes, settling_of}
+use Rattle.sm_service_laws.specs.Controlled.{AllControlledFit, AllTook, Arrives, AreLow, Comes, Confirm, Controlled, Driven, DriverModel, Drives, EachControlled, Entry, Fleet, Forgets, IsControllerOf, IsDrivenOpening, MayOpenAs, MayReopenAs, MayWriteAs, Meets, ControlledEvent, ControlledFits, OngoingReopening, Opens, Records, Reopen, Reopens, Settlement, Settles, Settling, SettlingEvent, Told, Took, Turn, TurnFits, Turns, World, Writes, WritesNone, controlled_comes, controlled_run, after_turn, base, controller, driver_setup, entered, no_reopening, permits_as, record_of, records, settling_comes, settling_of}
 use Rattle.sm_service_laws.specs.ControlledLaws.{IsReopeningOf, IsServiceControlled, VersionsStayBelow}
 use Rattle.sm_service_laws.proofs.Lists.{all_go, none_fits, one_more, run_goes, service_on}
 use Rattle.sm_service_laws.proofs.Low.{low_stays}
-use Rattle.sm_service_laws.proofs.Permits.{permits_kept, within_permits}
+use Rattle.sm_service_laws.proofs.Permits.{permit_was, permits_kept, within_permits}
 use Rattle.sm_service_laws.proofs.Stays.{event_stays}
 use Rattle.sm_service_laws.proofs.Versions.{AreVersionsRaised, versions_are_raised}
 
@@ -30,7 +30,7 @@ pub record AreLaws : Type 0 where
   pub controlled : EachDriven IsFleetDriven
   pub events : EachDriven CommandsAreEvents
   pub reached : EachFleet FleetIsReached
-  pub opens : EachSettling FleetOpensInForce
+  pub opens : EachSettling FleetOpensAs
   pub within : EachService IsWithinLaws
 
 -- Turns lead to the driver and its fleet, events to the service, and versions at the driver's opening are low.
@@ -234,7 +234,7 @@ module _ (laws : AreLaws) (x : Driven) (ongoing : OngoingReopening) (y : Settlin
 
   -- ---- a driver opens
 
-  module _ (driver : DriverModel) (fleet : Fleet) (m : MayOpenAs x ongoing y driver fleet) where
+  module _ (numbers : Renumbering) (opening : Settlement) (driver : DriverModel) (fleet : Fleet) (m : MayOpenAs x ongoing y numbers opening driver fleet) where
     settled : y.reopening.settlement ≡ Some m.settlement
     settled = ap (λ (r : Reopening). r.settlement) (sym under.reopening) ∙ m.settled
 
@@ -244,15 +244,21 @@ module _ (laws : AreLaws) (x : Driven) (ongoing : OngoingReopening) (y : Settlin
     control_was : IsControllerOf x.driver (controller x.fleet)
     control_was = (laws.controlled x h.0).1
 
-    may_open : MayOpen (driver_setup x) x.fleet y fleet
+    may_open : MayOpen (driver_setup x) x.fleet y numbers opening fleet
     may_open = record {
       settlement = m.settlement;
       settled = settled;
       took = took;
+      renumbered = m.renumbered;
       opens = m.force;
-      permits = λ v permit e. elim (permits_kept (base driver) x.driver.permits (length m.settlement.setup.servers) m.settlement.place.down v permit
+      permits = λ v permit e. elim (permits_kept (base driver) (permits_as numbers x.driver.permits) (length opening.setup.servers) opening.place.down v permit
           (ap (λ ps. permit_of ps v) (sym m.opened.permits) ∙ sym (m.control.permits v) ∙ e)) [
-            | inl old ↦ inl (subst (λ n. v < n) (control_was.servers ∙ ap (λ (s : Sizes). s.servers) (sizes_are x.driver)) (within_permits x.driver.permits v permit old), control_was.permits v ∙ old)
+            | inl kept ↦ inl (let old = permit_was x.driver.permits numbers.servers v permit kept in (
+              old.0,
+              old.1,
+              subst (λ n. old.0 < n) (control_was.servers ∙ ap (λ (s : Sizes). s.servers) (sizes_are x.driver)) (within_permits x.driver.permits old.0 permit old.2),
+              control_was.permits old.0 ∙ old.2,
+            ))
             | inr given ↦ inr (let b = m.base_is in let r = ap (λ (r : Reopening). r.base) under.reopening in omega arith)
           ];
     }
@@ -260,15 +266,15 @@ module _ (laws : AreLaws) (x : Driven) (ongoing : OngoingReopening) (y : Settlin
     opening_there : IsDrivenOpening (record { driver = driver; fleet = fleet })
     opening_there = record {
       fleet = subst (λ c. IsFleetOpening c fleet) (sym m.opened.setup)
-          (laws.opens (driver_setup x) y (laws.within (ServiceReopens (driver_setup x) x.fleet y) h.1).1 m.settlement fleet settled took m.force);
+          (laws.opens (driver_setup x) y (laws.within (ServiceReopens (driver_setup x) x.fleet y) h.1).1 m.settlement opening numbers fleet settled took m.renumbered m.force);
       control = m.control;
     }
 
     open_held : IsHeld (Drives (record { driver = driver; fleet = fleet }))
     open_held = (
       record { first = record { driver = driver; fleet = fleet }; opening = opening_there; turns = []; fit = tt; state = refl },
-      subst IsServiceReached (ap (opened_on (ServiceReopens (driver_setup x) x.fleet y) fleet) settled ∙ ap (λ c. Runs c fleet) (sym m.opened.setup))
-          (service_on (ServiceReopens (driver_setup x) x.fleet y) (ServiceOpens fleet ∷ []) h.1 (may_open, tt)),
+      subst IsServiceReached (ap (opened_on (ServiceReopens (driver_setup x) x.fleet y) opening.setup fleet) settled ∙ ap (λ c. Runs c fleet) (sym m.opened.setup))
+          (service_on (ServiceReopens (driver_setup x) x.fleet y) (ServiceOpens numbers opening fleet ∷ []) h.1 (may_open, tt)),
       subst (λ (w : State). AreLow w.opening.version) (sym m.opened.state) m.low,
     )
 
@@ -279,10 +285,10 @@ comes_held laws (Drives x) (Turns t) h fits = turn_held laws x t h fits
 comes_held laws (Drives x) (Reopens world number servers lost new) h fits = reopen_held laws x world number servers lost new h fits
 comes_held laws (Drives x) (Meets e) h fits = absurd fits
 comes_held laws (Drives x) (Writes entry new) h fits = absurd fits
-comes_held laws (Drives x) (Opens driver fleet) h fits = absurd fits
+comes_held laws (Drives x) (Opens numbers opening driver fleet) h fits = absurd fits
 comes_held laws (Settles x ongoing y) (Meets e) h fits = meet_held x ongoing y e h fits
 comes_held laws (Settles x ongoing y) (Writes entry new) h fits = write_held laws x ongoing y h entry new fits
-comes_held laws (Settles x ongoing y) (Opens driver fleet) h fits = open_held laws x ongoing y h driver fleet fits
+comes_held laws (Settles x ongoing y) (Opens numbers opening driver fleet) h fits = open_held laws x ongoing y h numbers opening driver fleet fits
 comes_held laws (Settles x ongoing y) (Turns t) h fits = absurd fits
 comes_held laws (Settles x ongoing y) (Reopens world number servers lost new) h fits = absurd fits
 

@@ -1,6 +1,6 @@
 -- The permits of a driver at its opening: one of before, or a new one.
-use Rattle.std.proofs.Common.{◌≡◌, ◌<◌, ◌∙◌, ◌⊎◌, ℕ, Bool, true, false, Option, Some, None, List, length, refl, sym, arith, inl, inr}
-use Rattle.std.specs.Prelude.{if◌then◌else◌}
+use Rattle.std.proofs.Common.{◌≡◌, ◌<◌, ◌∙◌, ◌⊎◌, ℕ, zero, suc, Bool, true, false, Option, Some, None, List, [], ◌∷◌, length, refl, sym, arith, inl, inr}
+use Rattle.std.specs.Prelude.{if◌then◌else◌, map, slice_get}
 use Rattle.std.specs.Option.{option_or}
 use Rattle.std.proofs.lemmas.Bool.{cases_lt}
 use Rattle.std.proofs.lemmas.List.{get_or_past}
@@ -13,6 +13,13 @@ within_permits permits v permit e = elim (cases_lt v (length permits)) [
   | inl l ↦ l
   | inr past ↦ absurd (let none = get_or_past permits v None past in cc)
 ]
+
+-- a permit in new numbers was that of the server by its old number
+pub permit_was : (before : List (Option ℕ)) (numbers : List ℕ) (v permit : ℕ) → permit_of (map (permit_of before) numbers) v ≡ Some permit →
+    (j : ℕ) × (slice_get numbers v ≡ Some j) × (permit_of before j ≡ Some permit)
+permit_was before [] v permit e = absurd (cc)
+permit_was before (j ∷ numbers) zero permit e = (j, refl, e)
+permit_was before (j ∷ numbers) (suc v) permit e = permit_was before numbers v permit e
 
 -- a permit at an opening was there before, or is the new one of its server
 pub permits_kept : (base : ℕ) (before : List (Option ℕ)) (servers : ℕ) (down : ℕ → Bool) (v permit : ℕ) → permit_of (opening_permits base before servers down) v ≡ Some permit →

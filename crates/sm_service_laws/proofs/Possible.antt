@@ -1,15 +1,19 @@
 -- Events that may come: a first driver has a service, each driver can reopen, and one that opens on what was settled has a fleet.
-use Rattle.std.proofs.Common.{◌∙◌, refl, sym, ap, subst, []}
+use Rattle.std.proofs.Common.{◌≡◌, ◌∙◌, ℕ, Option, List, refl, sym, ap, subst, []}
 use Rattle.sm_protocol.specs.State.{State}
-use Rattle.sm_network.specs.FleetLaws.{EachFleet}
-use Rattle.sm_network.specs.FleetReopening.{FleetCanReopen}
-use Rattle.sm_network.specs.Reopening.{Reopening}
+use Rattle.sm_agent.specs.declared.base.Base.{Base as AgentBase}
+use Rattle.sm_network.specs.Controller.{Controller}
+use Rattle.sm_network.specs.Fleet.{Fleet}
+use Rattle.sm_network.specs.FleetLaws.{ArePermits, EachFleet}
+use Rattle.sm_network.specs.FleetReopening.{FleetCanReopen, agent_settled}
+use Rattle.sm_network.specs.Reopening.{Reopening, Settlement, Settling}
 use Rattle.sm_network.specs.ReopeningLaws.{EachSettling}
-use Rattle.sm_driver_laws.specs.DrivenLaws.{DriversOpen, ReopenedDriversOpen}
-use Rattle.sm_reopening_laws.specs.FleetInForce.{FleetIsThere}
+use Rattle.sm_driver_laws.specs.Control.{IsControllerOf}
+use Rattle.sm_driver_laws.specs.DrivenLaws.{DriversOpen, IsJustOpened, OpenedControls}
+use Rattle.sm_reopening_laws.specs.Renumbering.{FleetIsThereAs, IsFleetInForceAs, Renumbering}
 use Rattle.sm_reopening_laws.specs.Service.{EachService, Reopens as ServiceReopens, Runs}
 use Rattle.sm_reopening_laws.specs.ServiceLaws.{IsWithinLaws}
-use Rattle.sm_service_laws.specs.Controlled.{AllTook, AreLow, Drives, EachControlled, Settles, driver_setup}
+use Rattle.sm_service_laws.specs.Controlled.{AllTook, AreLow, DriverModel, Drives, EachControlled, Settles, base, driver_setup, permits_as}
 use Rattle.sm_service_laws.specs.ControlledLaws.{ControlledOpens, DriverCanOpen, DriverCanReopen, IsServiceControlled}
 
 -- the first driver has a service
@@ -37,18 +41,63 @@ driver_can_reopen controlled can within (Drives x) r = λ epoch servers lost new
       record { reopening = reopening; place = place; epoch = epoch; later = later; number_is = refl; over = over; world_is = refl; given_up = given over.world },
     )
 
--- a driver that opens has a fleet
-pub driver_can_open : EachControlled IsServiceControlled → EachService IsWithinLaws → EachSettling FleetIsThere → EachSettling ReopenedDriversOpen → EachControlled DriverCanOpen
+-- ---- a driver opens
+
+module _ (y : Settling) (n : Renumbering) (new : Settlement) (f : Fleet) (force : IsFleetInForceAs y n new f) (d : DriverModel) (c : Controller) (before : List (Option ℕ))
+    (is : IsJustOpened new.setup new.place new.room before d) (control : IsControllerOf d c) (restores : c.restores ≡ []) (permits : ArePermits c)
+    (base_is : base d ≡ y.reopening.base) (fence_is : d.fence ≡ y.reopening.base) where
+  -- the same fleet under the driver's journal
+  abbrev under : Fleet
+  under = record f {
+    start = c;
+    servers = λ v. record (f.servers v) { base = record (f.servers v).base { journal = c.journal } };
+    owner = agent_settled c.journal y.reopening.base;
+  }
+
+  force_under : IsFleetInForceAs y n new under
+  force_under = record {
+    journal = force.journal;
+    record_is = control.recorded ∙ is.state;
+    base = control.base ∙ base_is;
+    fence = control.fence ∙ fence_is;
+    restores = restores;
+    permits = permits;
+    known = λ v j at h. let t = force.known v j at h in record { taken = t.taken; base = ap (λ (b : AgentBase). record b { journal = c.journal }) t.base; cells = t.cells; lasts = t.lasts; loads = t.loads };
+    others = λ v at. let t = force.others v at in record { base = ap (λ (b : AgentBase). record b { journal = c.journal }) t.base; cells = t.cells; lasts = t.lasts; loads = t.loads };
+    had = force.had;
+    nonces = force.nonces;
+    owner = refl;
+    shown = force.shown;
+    none_shown = force.none_shown;
+    sent = force.sent;
+    answers = force.answers;
+    passes = force.passes;
+    published = force.published;
+    stored = force.stored;
+  }
+
+-- so a driver that opens has a fleet
+pub driver_can_open : EachControlled IsServiceControlled → EachService IsWithinLaws → EachSettling FleetIsThereAs → OpenedControls → EachControlled DriverCanOpen
 driver_can_open controlled within there opens (Drives x) r = tt
-driver_can_open controlled within there opens (Settles x ongoing y) r = λ s d settled took is earlier base_is fence_is low.
+driver_can_open controlled within there opens (Settles x ongoing y) r = λ s new n d settled took renumbered is earlier base_is fence_is low.
     let reached = controlled (Settles x ongoing y) r in
-    let control = reached.1 in
-    let under = control.1 in
+    let under_way = reached.1.1 in
     let at = (within (ServiceReopens (driver_setup x) x.fleet y) reached.0).1 in
-    let number = ap (λ (z : Reopening). z.base) under.reopening in
-    let g = opens (driver_setup x) y at s (there (driver_setup x) y at s).0 x.driver.permits d
-    (ap (λ (z : Reopening). z.settlement) (sym under.reopening) ∙ settled) (subst AllTook under.reopening took) (there (driver_setup x) y at s).1
-    is earlier (base_is ∙ number) (fence_is ∙ number) in (
-      g.0,
-      record { settlement = s; settled = settled; took = took; opened = is; base_is = base_is; fence_is = fence_is; low = low; force = g.1; control = g.2.control },
+    let number = ap (λ (z : Reopening). z.base) under_way.reopening in
+    let f = there (driver_setup x) y at s new n (ap (λ (z : Reopening). z.settlement) (sym under_way.reopening) ∙ settled) (subst AllTook under_way.reopening took) renumbered in
+    let c = opens new.setup new.place new.room (permits_as n x.driver.permits) d renumbered.opening is earlier in
+    let before = permits_as n x.driver.permits in (
+      under y n new f.0 f.1 d c.0 before is c.1 c.2 c.3 (base_is ∙ number) (fence_is ∙ number),
+      record {
+        settlement = s;
+        settled = settled;
+        took = took;
+        renumbered = renumbered;
+        opened = is;
+        base_is = base_is;
+        fence_is = fence_is;
+        low = low;
+        force = force_under y n new f.0 f.1 d c.0 before is c.1 c.2 c.3 (base_is ∙ number) (fence_is ∙ number);
+        control = c.1;
+      },
     )

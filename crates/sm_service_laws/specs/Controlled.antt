@@ -1,14 +1,16 @@
 -- A driver and the service that it controls, over all its epochs and reopenings: what may happen to them, in any order and any number of times.
-use Rattle.std.specs.Prelude.{◌≡◌, ◌<◌, ℕ, Bool, true, Option, Some, List, [], ◌∷◌, length, slice_get}
+use Rattle.std.specs.Prelude.{◌≡◌, ◌<◌, ℕ, Bool, true, Option, Some, List, [], ◌∷◌, length, map, slice_get}
 use Rattle.sm_plan_code.specs.declared.limits.TheConstants.{MOST_PLACES}
 pub use Rattle.sm_network.specs.World.{World}
 pub use Rattle.sm_network.specs.Reopening.{Arrives, Comes, Confirm, Entry, Fenced, Forgets, Message, Records, Reopen, Settled, Settlement, Settling, SettlingEvent, Told, Took, entered, records, settling_comes}
 pub use Rattle.sm_network.specs.ReopeningLaws.{AllTook, IsGivenUp, no_reopening}
-pub use Rattle.sm_network.specs.FleetReopening.{FleetCanReopen, IsFleetInForce, IsOneOf, settling_of}
+pub use Rattle.sm_network.specs.FleetReopening.{FleetCanReopen, IsOneOf, settling_of}
 pub use Rattle.sm_driver.specs.Driver.{DriverModel, base, record_of}
 pub use Rattle.sm_driver.specs.Orders.{epoch_base}
+pub use Rattle.sm_driver.specs.Permits.{permit_of}
 pub use Rattle.sm_driver_laws.specs.Driven.{Driven, Fleet, IsControllerOf, IsDrivenOpening, Turn, TurnFits, after_turn, controller, driver_setup}
 pub use Rattle.sm_driver_laws.specs.DrivenLaws.{IsJustOpened}
+pub use Rattle.sm_reopening_laws.specs.Renumbering.{IsFleetInForceAs, IsRenumberedAs, Renumbering}
 pub use Rattle.sm_reopening.specs.declared.ongoing.OngoingReopening.{OngoingReopening}
 pub use Rattle.sm_reopening.specs.Faults.{MayConfirm}
 pub use Rattle.sm_reopening.specs.Ongoing.{net_reopening, recorded_place}
@@ -30,8 +32,8 @@ pub data ControlledEvent : Type 0 where
   Meets : (event : SettlingEvent) → ControlledEvent
   -- the controller writes this of the reopening, which is this one then
   Writes : (entry : Entry) (ongoing : OngoingReopening) → ControlledEvent
-  -- what was settled is in force, and this driver opens over this fleet
-  Opens : (driver : DriverModel) (fleet : Fleet) → ControlledEvent
+  -- what was settled is in force: in numbers of its own it is this settlement, on which this driver opens over this fleet
+  Opens : (numbers : Renumbering) (opening : Settlement) (driver : DriverModel) (fleet : Fleet) → ControlledEvent
 
 -- what an event does
 abbrev pub controlled_comes : Controlled → ControlledEvent → Controlled
@@ -39,7 +41,7 @@ controlled_comes (Drives x) (Turns t) = Drives (after_turn x t)
 controlled_comes (Drives x) (Reopens world base servers lost new) = Settles x new (records (settling_of x.fleet world) (Reopen base servers lost))
 controlled_comes (Settles x ongoing y) (Meets e) = Settles x ongoing (settling_comes y e).1
 controlled_comes (Settles x ongoing y) (Writes entry new) = Settles x new (records y entry)
-controlled_comes (Settles x ongoing y) (Opens driver fleet) = Drives (record { driver = driver; fleet = fleet })
+controlled_comes (Settles x ongoing y) (Opens n new driver fleet) = Drives (record { driver = driver; fleet = fleet })
 controlled_comes c _ = c
 
 -- after a list of events
@@ -100,16 +102,21 @@ pub record MayWriteAs (ongoing : OngoingReopening) (y : Settling) (entry : Entry
 abbrev pub AreLow : (ℕ → ℕ) → Type 0
 AreLow versions = (s : ℕ) → versions s < MOST_PLACES
 
--- All have taken the settlement, and by its contract the driver opens on it, as the controller of a fleet in force.
-pub record MayOpenAs (x : Driven) (ongoing : OngoingReopening) (y : Settling) (driver : DriverModel) (fleet : Fleet) : Type 0 where
+-- permits of before, in new numbers
+abbrev pub permits_as : Renumbering → List (Option ℕ) → List (Option ℕ)
+permits_as n before = map (permit_of before) n.servers
+
+-- All have taken the settlement, and by its contract the driver opens on it in numbers of its own, as the controller of a fleet in force.
+pub record MayOpenAs (x : Driven) (ongoing : OngoingReopening) (y : Settling) (n : Renumbering) (new : Settlement) (driver : DriverModel) (fleet : Fleet) : Type 0 where
   pub settlement : Settlement
   pub settled : (net_reopening ongoing).settlement ≡ Some settlement
   pub took : AllTook (net_reopening ongoing)
-  pub opened : IsJustOpened settlement.setup settlement.place settlement.room x.driver.permits driver
+  pub renumbered : IsRenumberedAs n settlement new
+  pub opened : IsJustOpened new.setup new.place new.room (permits_as n x.driver.permits) driver
   pub base_is : base driver ≡ (net_reopening ongoing).base
   pub fence_is : driver.fence ≡ (net_reopening ongoing).base
-  pub low : AreLow settlement.place.version
-  pub force : IsFleetInForce y settlement fleet
+  pub low : AreLow new.place.version
+  pub force : IsFleetInForceAs y n new fleet
   pub control : IsControllerOf driver fleet.start
 
 -- the event may come now
@@ -118,7 +125,7 @@ ControlledFits (Drives x) (Turns t) = TurnFits x t
 ControlledFits (Drives x) (Reopens world number servers lost new) = MayReopenAs x world number servers lost new
 ControlledFits (Settles x ongoing y) (Meets e) = WritesNone y e
 ControlledFits (Settles x ongoing y) (Writes entry new) = MayWriteAs ongoing y entry new
-ControlledFits (Settles x ongoing y) (Opens driver fleet) = MayOpenAs x ongoing y driver fleet
+ControlledFits (Settles x ongoing y) (Opens n new driver fleet) = MayOpenAs x ongoing y n new driver fleet
 ControlledFits c _ = ⊥
 
 -- each of these events may come when it does

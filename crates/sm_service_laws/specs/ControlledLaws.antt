@@ -10,7 +10,7 @@ use Rattle.sm_driver_laws.specs.DrivenLaws.{IsDrivenSafely}
 use Rattle.sm_reopening_laws.specs.OrderLaws.{OldOrdersRest, OrderActsOnce}
 use Rattle.sm_reopening_laws.specs.Service.{IsServiceReached, Reopens as ServiceReopens, Runs, Service}
 use Rattle.sm_reopening_laws.specs.ServiceLaws.{PermitEndsOnce, ServiceIsSafe}
-use Rattle.sm_service_laws.specs.Controlled.{AllTook, AreGivenUp, AreLow, Controlled, Driven, DriverModel, Drives, Fleet, IsControlledReached, IsControllerOf, IsJustOpened, ControlledFits, OngoingReopening, Opens, Reopen, Reopens, Settlement, Settles, Settling, World, base, controller, driver_setup, entered, epoch_base, net_reopening, no_reopening, record_of, recorded_place, settling_of}
+use Rattle.sm_service_laws.specs.Controlled.{AllTook, AreGivenUp, AreLow, Controlled, Driven, DriverModel, Drives, Fleet, IsControlledReached, IsControllerOf, IsJustOpened, IsRenumberedAs, ControlledFits, OngoingReopening, Opens, Renumbering, Reopen, Reopens, Settlement, Settles, Settling, World, base, controller, driver_setup, entered, epoch_base, net_reopening, no_reopening, permits_as, record_of, recorded_place, settling_of}
 
 -- ---- the relation of a driver to its service
 
@@ -77,10 +77,10 @@ DriverCanReopen (Drives x) = (epoch servers : ℕ) (lost : ℕ → Bool) (new : 
     recorded_place new ≡ (record_of x.driver).place → ((world : World) → AreGivenUp (settling_of x.fleet world) lost) →
     (world : World) × ControlledFits (Drives x) (Reopens world (epoch_base epoch) servers lost new)
 
--- Once all have taken the settlement, a driver that opens on it has a fleet.
+-- Once all have taken the settlement, a driver that opens on it, in whatever numbers, has a fleet.
 abbrev pub DriverCanOpen : Controlled → Type 0
 DriverCanOpen (Drives x) = Unit {0}
-DriverCanOpen (Settles x ongoing y) = (s : Settlement) (d : DriverModel) → (net_reopening ongoing).settlement ≡ Some s → AllTook (net_reopening ongoing) →
-    IsJustOpened s.setup s.place s.room x.driver.permits d → AreEarlierPermits (base d) x.driver.permits →
-    base d ≡ (net_reopening ongoing).base → d.fence ≡ (net_reopening ongoing).base → AreLow s.place.version →
-    (g : Fleet) × ControlledFits (Settles x ongoing y) (Opens d g)
+DriverCanOpen (Settles x ongoing y) = (s new : Settlement) (n : Renumbering) (d : DriverModel) → (net_reopening ongoing).settlement ≡ Some s → AllTook (net_reopening ongoing) →
+    IsRenumberedAs n s new → IsJustOpened new.setup new.place new.room (permits_as n x.driver.permits) d → AreEarlierPermits (base d) (permits_as n x.driver.permits) →
+    base d ≡ (net_reopening ongoing).base → d.fence ≡ (net_reopening ongoing).base → AreLow new.place.version →
+    (g : Fleet) × ControlledFits (Settles x ongoing y) (Opens n new d g)

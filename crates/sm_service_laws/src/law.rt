@@ -3,22 +3,24 @@ ghost use Rattle.sm_service_laws.specs.Controlled.{EachControlled};
 ghost use Rattle.sm_service_laws.specs.ControlledLaws.{ControlledOpens, DriverCanOpen, DriverCanReopen, IsControlledSafely, IsServiceControlled, VersionsStayBelow};
 
 use sm_driver_laws::{
-    commands_are_events, driven_is_controlled, driven_is_safe, drivers_open, reopened_drivers_open,
+    commands_are_events, driven_is_controlled, driven_is_safe, drivers_open, opened_controls,
 };
-use sm_network::{fleet_can_reopen, fleet_is_reached, fleet_opens_in_force};
+use sm_network::{fleet_can_reopen, fleet_is_reached};
 use sm_reopening_laws::{
-    fleet_is_there, laws_hold, old_orders_rest, order_acts_once, permit_ends_once, service_is_safe,
+    fleet_is_there_as, fleet_opens_as, laws_hold, old_orders_rest, order_acts_once,
+    permit_ends_once, service_is_safe,
 };
 
 /// States that whatever commands come, reopenings among them, and whatever else happens to servers and network, the
-/// service is one that its laws are about, and the driver is its controller.
+/// service is one that its laws are about, and the driver is its controller, which after each reopening has numbers of
+/// its own.
 pub fn service_is_controlled()
     ensures { EachControlled IsServiceControlled }
 {
     commands_are_events();
     driven_is_controlled();
     fleet_is_reached();
-    fleet_opens_in_force();
+    fleet_opens_as();
     laws_hold();
 }
 
@@ -43,7 +45,7 @@ pub fn versions_stay_below()
     commands_are_events();
     driven_is_controlled();
     fleet_is_reached();
-    fleet_opens_in_force();
+    fleet_opens_as();
     laws_hold();
 }
 
@@ -63,12 +65,12 @@ pub fn driver_can_reopen()
     laws_hold();
 }
 
-/// States that once all have taken a settlement, a driver that opens on it has a fleet.
+/// States that once all have taken a settlement, a driver that opens on it has a fleet, whatever numbers it gives.
 pub fn driver_can_open()
     ensures { EachControlled DriverCanOpen }
 {
     service_is_controlled();
     laws_hold();
-    fleet_is_there();
-    reopened_drivers_open();
+    fleet_is_there_as();
+    opened_controls();
 }

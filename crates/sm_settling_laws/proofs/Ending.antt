@@ -6,6 +6,7 @@ use Rattle.sm_network.specs.Fleet.{Fleet}
 use Rattle.sm_network.specs.Reopening.{Confirm, Records, Settlement, Settling, SettlingEvent, records, settling_comes, settling_run}
 use Rattle.sm_network.specs.ReopeningLaws.{AllTook, EachSettling, IsSettlingReached, MaySettle}
 use Rattle.sm_network.specs.ReopeningPlays.{arrive}
+use Rattle.sm_reopening_laws.specs.Renumbering.{NumbersMayStay, own_numbers}
 use Rattle.sm_reopening_laws.specs.Service.{AllServiceFit, EachService, IsServiceReached, MayOpen, Meets, Opens, Reopens, Runs, Service, ServiceEvent, opened_on, service_comes, service_run}
 use Rattle.sm_reopening_laws.specs.ServiceLaws.{CanOpen, IsWithinLaws}
 use Rattle.sm_settling_laws.specs.Ending.{CanEnd, CanSettle}
@@ -46,7 +47,7 @@ arrivals_fit setup f (k ∷ places) x = (tt, arrivals_fit setup f places (settli
 
 -- ---- the end
 
-module _ (opens : EachService CanOpen) (setup : Setup) (f : Fleet) (x : Settling) (r : IsServiceReached (Reopens setup f x)) (s : Settlement) (may : MaySettle x.reopening x.world.net.w s) (places : List ℕ) where
+module _ (stay : NumbersMayStay) (opens : EachService CanOpen) (setup : Setup) (f : Fleet) (x : Settling) (r : IsServiceReached (Reopens setup f x)) (s : Settlement) (may : MaySettle x.reopening x.world.net.w s) (places : List ℕ) where
   abbrev settled : Settling
   settled = settling_run (arrive places) (records x (Confirm s))
 
@@ -61,24 +62,24 @@ module _ (opens : EachService CanOpen) (setup : Setup) (f : Fleet) (x : Settling
 
   module _ (confirmed : settled.reopening.settlement ≡ Some s) (took : AllTook settled.reopening) where
     -- a controller may open on this fleet
-    opened : (g : Fleet) × MayOpen setup f settled g
-    opened = subst CanOpen front_run (opens (service_run front (Reopens setup f x)) (reached_after (Reopens setup f x) front r front_fits)) s confirmed took
+    opened : (g : Fleet) × MayOpen setup f settled (own_numbers s.setup) s g
+    opened = subst CanOpen front_run (opens (service_run front (Reopens setup f x)) (reached_after (Reopens setup f x) front r front_fits)) s s (own_numbers s.setup) confirmed took (stay s may.opening)
 
     pub ends : (es : List ServiceEvent) × (g : Fleet) × AllServiceFit es (Reopens setup f x) × (service_run es (Reopens setup f x) ≡ Runs s.setup g)
     ends = (
-      front ++ Opens opened.0 ∷ [],
+      front ++ Opens (own_numbers s.setup) s opened.0 ∷ [],
       opened.0,
-      fits_append front (Opens opened.0 ∷ []) (Reopens setup f x) front_fits (subst (AllServiceFit (Opens opened.0 ∷ [])) (sym front_run) (opened.1, tt)),
-      run_append front (Opens opened.0 ∷ []) (Reopens setup f x) ∙ ap (service_run (Opens opened.0 ∷ [])) front_run ∙ ap (opened_on (Reopens setup f settled) opened.0) confirmed,
+      fits_append front (Opens (own_numbers s.setup) s opened.0 ∷ []) (Reopens setup f x) front_fits (subst (AllServiceFit (Opens (own_numbers s.setup) s opened.0 ∷ [])) (sym front_run) (opened.1, tt)),
+      run_append front (Opens (own_numbers s.setup) s opened.0 ∷ []) (Reopens setup f x) ∙ ap (service_run (Opens (own_numbers s.setup) s opened.0 ∷ [])) front_run ∙ ap (opened_on (Reopens setup f settled) s.setup opened.0) confirmed,
     )
 
 -- so it can end
-reopening_ends : EachSettling CanSettle → EachService CanOpen → (setup : Setup) (f : Fleet) (x : Settling) → IsSettlingReached setup x → IsServiceReached (Reopens setup f x) → CanEnd (Reopens setup f x)
-reopening_ends settles opens setup f x reached r first stand new place =
+reopening_ends : NumbersMayStay → EachSettling CanSettle → EachService CanOpen → (setup : Setup) (f : Fleet) (x : Settling) → IsSettlingReached setup x → IsServiceReached (Reopens setup f x) → CanEnd (Reopens setup f x)
+reopening_ends stay settles opens setup f x reached r first stand new place =
     let c = settles setup x reached first stand new 0 0 place (omega arith) in
-    ends opens setup f x r (settlement_told x.reopening new 0 0) c.0 c.1.0 c.1.1 c.1.2
+    ends stay opens setup f x r (settlement_told x.reopening new 0 0) c.0 c.1.0 c.1.1 c.1.2
 
 -- and so at each moment of a service
-pub can_end : EachSettling CanSettle → EachService CanOpen → EachService IsWithinLaws → EachService CanEnd
-can_end settles opens within (Runs setup f) r = tt
-can_end settles opens within (Reopens setup f x) r = reopening_ends settles opens setup f x (within (Reopens setup f x) r).1 r
+pub can_end : NumbersMayStay → EachSettling CanSettle → EachService CanOpen → EachService IsWithinLaws → EachService CanEnd
+can_end stay settles opens within (Runs setup f) r = tt
+can_end stay settles opens within (Reopens setup f x) r = reopening_ends stay settles opens setup f x (within (Reopens setup f x) r).1 r

@@ -4,7 +4,7 @@ ghost use Rattle.sm_reopening_laws.specs.Service.{EachService};
 ghost use Rattle.sm_settling_laws.specs.Ending.{CanEnd, CanSettle, CanTell};
 
 use sm_network::{executes_safely, told_is_had};
-use sm_reopening_laws::{can_open, laws_hold};
+use sm_reopening_laws::{can_open, laws_hold, numbers_may_stay};
 
 /// States that another reopening may begin whatever is under way, and that all can tell then.
 pub fn can_tell()
@@ -26,5 +26,6 @@ pub fn reopening_can_end()
 {
     can_settle();
     can_open();
+    numbers_may_stay();
     laws_hold();
 }

@@ -3,4 +3,4 @@ use Rattle.sm_reopening_laws.proofs.Within.{within_laws}
 use Rattle.sm_reopening_laws.proofs.law.laws_hold.Goals as goal
 
 pub returns : goal.returns
-returns c = within_laws c.fleet_opens_in_force.ensures
+returns c = within_laws c.fleet_opens_as.ensures

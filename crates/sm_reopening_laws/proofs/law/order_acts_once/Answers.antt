@@ -3,4 +3,4 @@ use Rattle.sm_reopening_laws.proofs.OrderedRuns.{order_acts_once}
 use Rattle.sm_reopening_laws.proofs.law.order_acts_once.Goals as goal
 
 pub returns : goal.returns
-returns c = order_acts_once c.fleet_opens_in_force.ensures
+returns c = order_acts_once c.fleet_opens_as.ensures

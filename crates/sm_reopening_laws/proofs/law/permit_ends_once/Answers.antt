@@ -3,4 +3,4 @@ use Rattle.sm_reopening_laws.proofs.Counted.{permits_end_once}
 use Rattle.sm_reopening_laws.proofs.law.permit_ends_once.Goals as goal
 
 pub returns : goal.returns
-returns c = permits_end_once c.permits_end_once.ensures c.fleet_opens_in_force.ensures
+returns c = permits_end_once c.permits_end_once.ensures c.fleet_opens_as.ensures

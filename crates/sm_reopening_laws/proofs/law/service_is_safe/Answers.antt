@@ -3,7 +3,7 @@ use Rattle.sm_reopening_laws.proofs.Within.{service_is_safe}
 use Rattle.sm_reopening_laws.proofs.law.service_is_safe.Goals as goal
 
 pub returns : goal.returns
-returns c = service_is_safe c.fleet_opens_in_force.ensures (record {
+returns c = service_is_safe c.fleet_opens_as.ensures (record {
   safe = c.fleet_is_safe.ensures;
   executes = c.executes_at_one_server.ensures;
   refuses = c.no_letter_is_refused.ensures;

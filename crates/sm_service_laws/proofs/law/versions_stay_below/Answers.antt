@@ -7,6 +7,6 @@ returns c = versions_stay_below (record {
   controlled = c.driven_is_controlled.ensures;
   events = c.commands_are_events.ensures;
   reached = c.fleet_is_reached.ensures;
-  opens = c.fleet_opens_in_force.ensures;
+  opens = c.fleet_opens_as.ensures;
   within = c.laws_hold.ensures;
 })

@@ -3,4 +3,4 @@ use Rattle.sm_settling_laws.proofs.Ending.{can_end}
 use Rattle.sm_settling_laws.proofs.law.reopening_can_end.Goals as goal
 
 pub returns : goal.returns
-returns c = can_end c.can_settle.ensures c.can_open.ensures c.laws_hold.ensures
+returns c = can_end c.numbers_may_stay.ensures c.can_settle.ensures c.can_open.ensures c.laws_hold.ensures
