@@ -16,7 +16,7 @@ ELSEWHERE = {"TooManyPlans", "VersionsSpent", "NotThere", "Held", "NoRoom", "NoP
 
 
 # The words of bad lines, which have a table of their own.
-BAD = {"NotJson", "Shape", "UnknownName", "Number"}
+BAD = {"NotJson", "Shape", "Number"}
 
 
 def documented() -> set[str]:

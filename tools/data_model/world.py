@@ -289,7 +289,7 @@ class World(Following, Asking, Serving, base.World):
             if is_last and not others:
                 self.writes.drop(shard)
         elif was == ABSENT and (cell.kind is Kind.PRIMARY or (begins and not replica.copy.is_whole)):
-            replica.copy.begin_empty(order.number)
+            replica.copy.begin_empty(order.number if cell.kind is Kind.PRIMARY else 0)
             self.writes.history[shard] = []
         elif cell.kind is Kind.PRIMARY and was == SECONDARY:
             if self.rules.change_begins_view:

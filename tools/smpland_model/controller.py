@@ -85,6 +85,10 @@ class NamedController(Controller):
         self.document: documents.Document | None = None
         self.next_document: documents.Document | None = None
         self.start: Placement | None = None
+        # The servers that the reopening under way has numbered.
+        self.names_under_way: frozenset[str] = frozenset()
+        # The plans of this epoch that have begun, as they were begun, by their names.
+        self.plans_begun: dict[str, documents.Plan] = {}
 
     # Names.
 
@@ -183,6 +187,15 @@ class NamedController(Controller):
         if sum(not it.is_done for it in record.plans) >= MOST_PLANS:
             raise Refusal(words.reported("not begun: 5 TooManyPlans"))
 
+    def is_kept(self, name: str) -> bool:
+        """Returns whether the plan that has begun under a name is of this epoch: those of earlier ones are not kept."""
+        return self.begun[name].epoch == self.epoch
+
+    def check_again(self, command: Beginning) -> None:
+        """Refuses another plan than the one that has begun under its name."""
+        if command.plan != self.plans_begun[command.name]:
+            raise refuse("OtherPlan", name=command.name)
+
     def begun_before(self, name: str) -> Outcome:
         """Tells what came of a plan of this name. It begins nothing."""
         known = self.begun[name]
@@ -199,6 +212,7 @@ class NamedController(Controller):
         number = len(self.record.plans) - 1
         reply = replies.Begun(self.epoch, number, command.plan.calls, len(plan.streams))
         self.begun[command.name] = Named(self.epoch, reply)
+        self.plans_begun[command.name] = command.plan
         self.advance(number)
         return self.outcome(reply, number, range(len(plan.streams)))
 
@@ -253,6 +267,10 @@ class NamedController(Controller):
 
     def begin_reopening(self, command: Reopened) -> Outcome:
         """Begins a reopening, or replaces the one under way."""
+        known = self.names_under_way if self.reopening else frozenset(self.document.servers if self.document else ())
+        unknown = [it for it in command.lost if it not in known]
+        if unknown and self.record:
+            raise refuse("UnknownName", server=unknown[0])
         refuse_first([*double_cells(command.document), *bad_leads(command.document)])
         kept = [it for it in command.document.servers if it in command.lost]
         if kept:
@@ -263,6 +281,7 @@ class NamedController(Controller):
         outcome = self.reopen(commands.Reopen(document, lost, command.journal, command.epoch))
         self.renumber(numbering)
         self.next_document = command.document
+        self.names_under_way = known | frozenset(command.document.servers)
         self.reopening = NamedReopening.of(self.reopening, numbering, numbering.shards_of(command.document))
         return outcome
 

@@ -133,6 +133,13 @@ def by_name(faults: Iterable[Fault], place: str) -> Iterator[Fault]:
         yield replace(fault, member=f"{fault.member} has no member {name}") if is_unknown else fault
 
 
+def with_words(faults: Iterable[Fault], words: Iterable[str]) -> Iterator[Fault]:
+    """Yields faults. Of one in the command's word the words that there are are told."""
+    choices = " ".join(["do has to be one of", *words])
+    for fault in faults:
+        yield replace(fault, member=choices) if fault.member == "do" else fault
+
+
 def slot_faults(value: Json, place: str, needed: dict[str, tuple[str, ...]]) -> Iterator[Fault]:
     """Yields the faults of the slots of a server."""
     for entry, inner in entries(value, "slots", place):
@@ -242,7 +249,7 @@ def line_faults(value: Any, known: Known) -> Iterator[Fault]:
     if not isinstance(value, dict):
         yield shape("command", "$", f"an object belongs here, not {kind_of(value)}")
         return
-    yield from by_name(reading.worded_faults("command", "do", known.tables, value, "$"), "$")
+    yield from with_words(by_name(reading.worded_faults("command", "do", known.tables, value, "$"), "$"), known.tables)
     if value.get("do") == "fenced":
         yield from inventory_faults(value)
     if value.get("do") == "state":

@@ -170,20 +170,28 @@ class NamedReopening(Reopening):
             return all(self.recorded(shard, it) in (ABSENT, SECONDARY) for it in self.servers)
         return cell != ABSENT
 
+    def may_have_served_any(self, server: int) -> bool:
+        """Returns whether a server may have served any shard: a replaced reopening sent it a settle, or nothing is
+        recorded."""
+        return server in self.already_settled or self.record is None
+
+    def may_have_order(self, shard: int, server: int) -> bool:
+        """Returns whether a server may have had an order for a shard: both are recorded."""
+        return self.record is not None and shard < len(self.record.cells) and server < len(self.record.document.rooms)
+
     def may_be_first(self, shard: int, server: int) -> bool:
-        """Returns whether a server that has its slots no more may have become the first primary of a recorded shard of
-        which nobody is recorded to have anything: an order to add it there may have been carried out unanswered."""
-        if self.record is None or shard >= len(self.record.cells) or server >= len(self.record.document.rooms):
+        """Returns whether a server that has its slots no more may have become the first primary of a shard: nobody is
+        recorded with a part in its lead, and an order or a settle may have made the server so, or nothing is recorded."""
+        if not self.has_no_slots(server) or any(self.recorded(shard, it) not in (ABSENT, SECONDARY) for it in self.servers):
             return False
-        return self.has_no_slots(server) and all(it == ABSENT for it in self.record.cells[shard])
+        return self.may_have_served_any(server) or self.may_have_order(shard, server)
 
     def has_gone(self, shard: int, server: int) -> bool:
-        """Returns whether a server that may have served a shard is lost or Unknown, or tells nothing of it. Any shard
-        may have been served by one that a replaced reopening sent a settle, and by each if nothing is recorded."""
+        """Returns whether a server that may have served a shard is lost or Unknown, or tells nothing of it."""
         has_served = self.may_have_served(shard, server) and self.standing(shard, server)[0] == 0
         if has_served or self.may_be_first(shard, server):
             return True
-        return self.has_no_slots(server) and (server in self.already_settled or self.record is None)
+        return self.has_no_slots(server) and self.may_have_served_any(server)
 
     def has_lost_settled(self) -> bool:
         """Returns whether a server to which a replaced reopening sent a settle has its slots no more."""

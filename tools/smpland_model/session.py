@@ -150,6 +150,9 @@ class Session:
         """Begins a plan."""
         controller = self.controller
         if command["name"] in controller.begun:
+            if controller.is_kept(command["name"]):
+                self.read_inside(command)
+                controller.check_again(Beginning(command["name"], plan_of(command["plan"])))
             return controller.begun_before(command["name"])
         controller.need_open()
         self.read_inside(command)

@@ -1,6 +1,7 @@
 -- A reply to a line that is no command tells the kind of its fault, where the fault lies, and both in words.
 -- `told_first` is internal: you need not read it for the public contracts.
 use Rattle.std.specs.Prelude.{ℕ, List, [], ◌++◌, Option, Some, None, codes, decimal, nat_lt, if◌then◌else◌}
+use Rattle.std.specs.List.{flat_map}
 use Rattle.json.specs.Token.{Token}
 use Rattle.sm_plan_text.specs.declared.fault.TextFault.{TextFault}
 use Rattle.sm_plan_text.specs.declared.fault.TextFault.TheVariants as within
@@ -11,9 +12,10 @@ use Rattle.sm_plan_text.specs.Members.{text_of}
 use Rattle.sm_commands.specs.declared.bad_line.BadLine.{BadLine}
 use Rattle.sm_commands.specs.declared.bad_line.BadLine.TheVariants.{NotJson, TooLong, Malformed, UnknownMember, Missing, Shape, UnknownName, TooMany, Number, Within}
 use Rattle.sm_commands.specs.declared.command_member.CommandMember.{CommandMember}
-use Rattle.sm_commands.specs.declared.command_member.CommandMember.TheVariants.{Command}
+use Rattle.sm_commands.specs.declared.command_member.CommandMember.TheVariants.{Command, Do}
 use Rattle.sm_commands.specs.declared.line_part.LinePart.{LinePart}
 use Rattle.sm_commands.specs.declared.line_part.LinePart.TheVariants.{Line, Entry, InnerEntry}
+use Rattle.sm_commands.specs.Lines.{command_words}
 use Rattle.sm_commands.specs.Members.{object_member}
 use Rattle.sm_commands.specs.Refusals.{bad_members}
 use Rattle.sm_commands.specs.Texts.{member_text}
@@ -138,6 +140,21 @@ abbrev pub unknown_words : BadLine → List ℕ
 unknown_words (UnknownMember _ name) = codes " has no member " ++ name.now
 unknown_words _ = []
 
+-- what a line's `do` has to be: one of the words that there are
+abbrev pub command_choices : List ℕ
+command_choices = codes " has to be one of" ++ flat_map (λ word. codes " " ++ word) command_words
+
+-- what a member has to be, if that is told
+abbrev pub member_choices : CommandMember → List ℕ
+member_choices Do = command_choices
+member_choices _ = []
+
+-- the same of the member that is missing, or not in its form
+abbrev pub choices_words : BadLine → List ℕ
+choices_words (Missing _ member) = member_choices member
+choices_words (Shape _ member) = member_choices member
+choices_words _ = []
+
 -- a kind with its number, in words
 abbrev pub kind_words : ℕ → List ℕ → List ℕ
 kind_words n kind = codes "bad input: " ++ decimal n ++ codes " " ++ kind
@@ -148,7 +165,7 @@ plain_words bad = kind_words (bad_number bad) (bad_kind bad) ++ member_words (ba
 
 -- a fault in words
 abbrev pub bad_words : BadLine → List ℕ
-bad_words bad = plain_words bad ++ unknown_words bad
+bad_words bad = plain_words bad ++ unknown_words bad ++ choices_words bad
 
 -- what is wrong with a line, as a member of its reply
 abbrev pub told_bad : BadLine → List Token

@@ -1,7 +1,8 @@
 -- Commands as lines say them: a line is an object, whose member `do` has the command's word, and whose other members have what it asks for.
 -- `TellsFound` and `OfWord` are internal: you need not read them for the public contracts.
-use Rattle.std.specs.Prelude.{◌≡◌, ℕ, List, codes, Option, Some, None, Result, IfOk, option_map}
+use Rattle.std.specs.Prelude.{◌≡◌, ℕ, Bool, List, [], ◌∷◌, bytes_eq, codes, Option, Some, None, Result, IfOk, option_map}
 use Rattle.std.specs.Borrow.{Bor}
+use Rattle.std.specs.List.{list_any}
 use Rattle.serde_json.specs.Data.{Data, Items, null}
 use Rattle.json_tree.specs.View.{view, items_view}
 use Rattle.json_tree.specs.declared.tree.Tree.{Tree}
@@ -46,6 +47,18 @@ command_word (line.Question (question.State _)) = codes "state"
 command_word (line.Question (question.Since _)) = codes "since"
 command_word (line.Question (question.InForce (plans.Audit _ _ _))) = codes "audit"
 command_word (line.Question (question.InForce (plans.Failed _ _ _ _))) = codes "failed"
+
+-- the words that there are
+abbrev pub command_words : List (List ℕ)
+command_words =
+    codes "open" ∷ codes "begin" ∷ codes "answered" ∷ codes "approve" ∷ codes "restarted" ∷ codes "restore"
+    ∷ codes "new_epoch" ∷ codes "reopen" ∷ codes "fenced" ∷ codes "confirm" ∷ codes "settled" ∷ codes "hello"
+    ∷ codes "orders" ∷ codes "map" ∷ codes "document" ∷ codes "state" ∷ codes "moves" ∷ codes "drain"
+    ∷ codes "check" ∷ codes "since" ∷ codes "audit" ∷ codes "failed" ∷ []
+
+-- a text is one of them
+abbrev pub is_command_word : List ℕ → Bool
+is_command_word word = list_any (bytes_eq word) command_words
 
 -- the word of an answer that failed
 abbrev pub failed_word : FailedAnswer → List ℕ

@@ -2,7 +2,8 @@
 ghost use Rattle.std.specs.Prelude.{◌≡◌, ◌++◌, IfOk, OnOk, codes, option_map, string_bytes};
 ghost use Rattle.sm_commands.specs.Members.{object_member};
 ghost use Rattle.sm_commands.specs.BadLines.{bad_kind, bad_path, bad_words, below_path, inner_text, kind_words};
-ghost use Rattle.sm_commands.specs.BadLines.{member_words, path_in, text_fault_kind, told_bad, unknown_words};
+ghost use Rattle.sm_commands.specs.BadLines.{command_choices, member_choices, member_words, path_in, text_fault_kind};
+ghost use Rattle.sm_commands.specs.BadLines.{told_bad};
 ghost use Rattle.sm_commands.specs.Refusals.{bad_members};
 
 use crate::command_member::CommandMember;
@@ -70,7 +71,7 @@ fn inner_member(fault: TextFault) -> Option<&'static str>
 impl BadLine<'_> {
     ghost use Rattle.std.specs.Prelude.{◌≡◌, ◌++◌, OnOk, option_map, string_bytes};
     ghost use Rattle.sm_commands.specs.BadLines.{bad_kind, bad_member, bad_number, bad_path, bad_words, plain_words};
-    ghost use Rattle.sm_commands.specs.BadLines.{unknown_words};
+    ghost use Rattle.sm_commands.specs.BadLines.{choices_words, unknown_words};
 
     /// Returns the kind of the fault.
     pub fn kind(self) -> &'static str
@@ -148,12 +149,14 @@ impl BadLine<'_> {
         }
     }
 
-    /// Adds the words for the fault, which are those of `smplan`, and of a member that is not known its name.
+    /// Adds the words for the fault, which are those of `smplan`, of a member that is not known its name, and of a line's
+    /// `do` the words that there are.
     pub fn push_words(self, out: &mut String) -> Result<(), AllocError>
         ensures { OnOk result (string_bytes out.new ≡ string_bytes out.old ++ bad_words self.entry) }
     {
         self.push_plain(out)?;
-        self.push_unknown(out)
+        self.push_unknown(out)?;
+        self.push_choices(out)
     }
 
     /// Adds the words for the fault that `smplan` has, too.
@@ -172,6 +175,44 @@ impl BadLine<'_> {
             BadLine::UnknownMember(_, name) => write!(out, " has no member {name}"),
             _ => Ok(()),
         }
+    }
+
+    /// Adds what the member has to be that is missing, or not in its form.
+    fn push_choices(self, out: &mut String) -> Result<(), AllocError>
+        ensures { OnOk result (string_bytes out.new ≡ string_bytes out.old ++ choices_words self.entry) }
+    {
+        match self {
+            BadLine::Missing(_, member) | BadLine::Shape(_, member) => push_member_choices(
+                out, member,
+            ),
+            _ => Ok(()),
+        }
+    }
+}
+
+/// Adds what a line's `do` has to be: one of the words that there are.
+fn push_command_choices(out: &mut String) -> Result<(), AllocError>
+    ensures { OnOk result (string_bytes out.new ≡ string_bytes out.old ++ command_choices) }
+{
+    write!(
+        out,
+        " has to be one of open begin answered approve restarted restore"
+    )?;
+    write!(
+        out,
+        " new_epoch reopen fenced confirm settled hello orders map document"
+    )?;
+    write!(out, " state moves drain check since audit failed")?;
+    Ok(())
+}
+
+/// Adds what a member has to be, if that is told.
+fn push_member_choices(out: &mut String, member: CommandMember) -> Result<(), AllocError>
+    ensures { OnOk result (string_bytes out.new ≡ string_bytes out.old ++ member_choices member) }
+{
+    match member {
+        CommandMember::Do => push_command_choices(out),
+        _ => Ok(()),
     }
 }
 

@@ -1,6 +1,11 @@
 //! The cells that a confirmation chooses, over the names of a configuration.
-ghost use Rattle.std.specs.Prelude.{All, IfOk};
-ghost use Rattle.sm_commands.specs.Choices.{HasKnownServer, IsKnownChoice};
+ghost use Rattle.std.specs.Prelude.{◌≡◌, All, IfOk, IfSome, OnOk, Some, true};
+ghost use Rattle.json_tree.specs.View.{items_view, view};
+ghost use Rattle.sm_commands.specs.Choices.{AreCellsSaid, AreChoicesSaid, HasKnownServer, IsCellSaid, IsChoiceSaid};
+ghost use Rattle.sm_commands.specs.Choices.{IsKnownChoice, role_chosen_word};
+ghost use Rattle.sm_commands.specs.Reading.{ReadsOn, is_clean, object_data};
+ghost use Rattle.sm_commands.specs.Values.{text_at};
+ghost use Rattle.sm_commands.specs.declared.command_member.CommandMember.TheVariants as members;
 
 use crate::bad_line::BadLine;
 use crate::command_member::CommandMember;
@@ -28,7 +33,9 @@ pub struct ShardChoice {
 }
 
 /// Returns the role that a word names.
-fn role_named(word: &str) -> Option<Role> {
+fn role_named(word: &str) -> Option<Role>
+    ensures { IfSome result (λ role. role_chosen_word role ≡ word.now) }
+{
     match word {
         "primary" => Some(Role::Primary),
         "secondary" => Some(Role::Secondary),
@@ -37,7 +44,11 @@ fn role_named(word: &str) -> Option<Role> {
 }
 
 /// Returns the role that a cell has to tell.
-fn role_in(reader: &mut Reader<'_, '_>) -> Option<Role> {
+fn role_in(reader: &mut Reader<'_, '_>) -> Option<Role>
+    ensures on { ReadsOn reader.old reader.new }
+    ensures told { is_clean reader.new.faults ≡ true
+        → IfSome result (λ role. text_at members.State (object_data reader.old) ≡ Some (role_chosen_word role)) }
+{
     let row = Row::One(CommandMember::State);
     let value = reader.value(row)?;
     reader.shaped(row, value.as_str().and_then(role_named))
@@ -49,7 +60,8 @@ fn read_cell<'a>(
     entry: &Tree<'a>,
     part: LinePart,
 ) -> Result<CellChoice, BadLine<'a>>
-    ensures { IfOk result (HasKnownServer config.now) }
+    ensures known { IfOk result (HasKnownServer config.now) }
+    ensures said { IfOk result (IsCellSaid config.now (view entry.now)) }
 {
     let names = &[CommandMember::Server, CommandMember::State];
     let mut reader = Reader::new(entry, part, names);
@@ -69,7 +81,10 @@ fn read_cells<'a>(
     part: LinePart,
     faults: &mut Faults<'a>,
 ) -> Result<Vec<CellChoice>, AllocError>
-    ensures { IfOk result (λ cells. All (HasKnownServer config.now) cells.items) }
+    ensures known { IfOk result (λ cells. All (HasKnownServer config.now) cells.items) }
+    ensures kept { OnOk result (is_clean faults.new ≡ true → is_clean faults.old ≡ true) }
+    ensures said { IfOk result (λ cells. is_clean faults.new ≡ true
+        → AreCellsSaid config.now (items_view entries.now) cells.items) }
 {
     let mut cells = Vec::with_capacity(alloc, entries.len())?;
     for at in 0..entries.len() {
@@ -88,7 +103,8 @@ fn read_choice<'a>(
     entry: &Tree<'a>,
     part: LinePart,
 ) -> Result<Result<ShardChoice, BadLine<'a>>, AllocError>
-    ensures { IfOk result (λ read. IfOk read (IsKnownChoice config.now)) }
+    ensures known { IfOk result (λ read. IfOk read (IsKnownChoice config.now)) }
+    ensures said { IfOk result (λ read. IfOk read (IsChoiceSaid config.now (view entry.now))) }
 {
     let names = &[CommandMember::Shard, CommandMember::Cells];
     let mut reader = Reader::new(entry, part, names);
@@ -110,13 +126,16 @@ pub fn read_choices<'a>(
     config: &Config,
     entries: &[Tree<'a>],
 ) -> Result<Result<Vec<ShardChoice>, BadLine<'a>>, AllocError>
-    ensures { IfOk result (λ read. IfOk read (λ choices. All (IsKnownChoice config.now) choices.items)) }
+    ensures known { IfOk result (λ read. IfOk read (λ choices. All (IsKnownChoice config.now) choices.items)) }
+    ensures said { IfOk result (λ read. IfOk read (λ choices.
+        AreChoicesSaid config.now (items_view entries.now) choices.items)) }
 {
     let mut faults = Faults::new();
     let mut choices = Vec::with_capacity(alloc, entries.len())?;
     for at in 0..entries.len() {
         let part = LinePart::Entry(CommandMember::Cells, at);
-        match read_choice(alloc, config, &entries[at], part)? {
+        let read = read_choice(alloc, config, &entries[at], part)?;
+        match read {
             Ok(found) => choices.push(found)?,
             Err(fault) => faults.note(fault),
         }

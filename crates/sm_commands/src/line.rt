@@ -1,10 +1,10 @@
 //! Lines, and what they ask for.
-ghost use Rattle.std.specs.Prelude.{◌≡◌, IfOk, IfSome, None, Some};
+ghost use Rattle.std.specs.Prelude.{◌≡◌, IfOk, IfSome, None, Some, true};
 ghost use Rattle.json_tree.specs.View.{view};
 ghost use Rattle.sm_plan_text.specs.Reading.{data_of};
 ghost use Rattle.sm_commands.specs.Commands.{IsKnownCommand};
 ghost use Rattle.sm_commands.specs.Ids.{line_id};
-ghost use Rattle.sm_commands.specs.Lines.{OfWord, Says};
+ghost use Rattle.sm_commands.specs.Lines.{OfWord, Says, command_word, is_command_word};
 ghost use Rattle.sm_commands.specs.Members.{id_members};
 
 use crate::asking_lines::{
@@ -91,6 +91,7 @@ pub fn read_command<'t, 'a>(
 ) -> Result<Result<LineCommand<'t, 'a>, BadLine<'a>>, AllocError>
     ensures known { IfOk result (λ read. IfOk read (IsKnownCommand config.entry)) }
     ensures told { IfOk result (λ read. IfOk read (Says (view line.now))) }
+    ensures word { IfOk result (λ read. IfOk read (λ command. is_command_word (command_word command) ≡ true)) }
 {
     if !line.is_object() {
         return Ok(Err(BadLine::Malformed(LinePart::Line)));

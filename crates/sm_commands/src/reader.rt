@@ -1,6 +1,8 @@
 //! An object of a line, with the faults that are met on the way.
-ghost use Rattle.std.specs.Prelude.{◌≡◌, ◌≢◌, ◌≤◌, ◌<◌, IfOk, IfSome, false, is_some, length, option_map, true};
+ghost use Rattle.std.specs.Prelude.{◌≡◌, ◌≢◌, ◌≤◌, ◌<◌, IfOk, IfSome, false, is_some, length};
+ghost use Rattle.std.specs.Prelude.{option_and_then, option_map, true};
 ghost use Rattle.sm_placement.specs.Names.{is_name};
+ghost use Rattle.sm_placement.specs.Setup.{server_named, shard_named};
 ghost use Rattle.sm_plan_code.specs.declared.limits.TheConstants.{MOST_RIGHTS};
 ghost use Rattle.sm_commands.specs.Commands.{IsServerOf, IsShardOf};
 ghost use Rattle.json_tree.specs.View.{items_view, view};
@@ -319,6 +321,8 @@ impl<'t, 'a> Reader<'t, 'a> {
     pub fn server(&mut self, row: Row, config: &Config) -> Option<ServerId>
         ensures read { IsRead self.old self.new row (is_some result) }
         ensures known { IfSome result (λ server. server < length config.now.servers) }
+        ensures told { IsValueOf self.old self.new
+            (λ member d. option_and_then (server_named config.now) (text_at member d)) row result }
     {
         let name = self.text(row)?;
         let found = config.server_named(name);
@@ -332,6 +336,8 @@ impl<'t, 'a> Reader<'t, 'a> {
     pub fn shard(&mut self, row: Row, config: &Config) -> Option<ShardId>
         ensures read { IsRead self.old self.new row (is_some result) }
         ensures known { IfSome result (λ shard. shard < length config.now.shards) }
+        ensures told { IsValueOf self.old self.new
+            (λ member d. option_and_then (shard_named config.now) (text_at member d)) row result }
     {
         let name = self.text(row)?;
         let found = config.shard_named(name);

@@ -9,13 +9,16 @@ use Rattle.std.proofs.lemmas.List.Folds.{list_any-append}
 use Rattle.sm_server.specs.declared.call.Role.{Role}
 use Rattle.sm_placement.specs.Sums.{put2}
 use Rattle.sm_placement.proofs.Sums.{put2-apart, put2-here, put2-row}
+use Rattle.sm_placement.specs.Layout.{PlacementModel, place_of}
 use Rattle.sm_placement.specs.Place.{Place}
 use Rattle.sm_network.specs.Reopening.{Confirm, Settlement, entered}
 use Rattle.sm_reopening.specs.Faults.{MayConfirm}
 use Rattle.sm_reopening.specs.Ongoing.{net_reopening}
 use Rattle.sm_reopening.specs.Proposal.{is_the}
 use Rattle.sm_document_reopening.specs.Chosen.{IsAsChosen, chosen_role, given_too, is_choice_of, is_replica_of, last_that, proposed_role, role_assigned, role_given, role_by_proposal, roles_with}
+use Rattle.sm_document_reopening.specs.Confirmed.{KeepsChosen, SettlesChosen, down_in_order, is_down_next, roles_chosen, roles_in_order}
 use Rattle.sm_document_reopening.specs.Reopening.{ReopeningModel}
+use Rattle.sm_document_reopening.specs.Settled.{IsPlacedBy}
 use Rattle.sm_document_reopening.specs.declared.choice.Choice.{Choice}
 use Rattle.sm_document_reopening.specs.declared.fault.ConfirmRefusal.{ConfirmRefusal}
 
@@ -217,10 +220,24 @@ given_step f g h a servers replicas n x s v l is before now =
 
 -- ---- what is confirmed
 
--- a confirmed settlement has the cells that were chosen, if the placement that was to be confirmed has them
-pub confirmed_as : {A : Type 0} (old new : ReopeningModel) (chosen : List Choice) (place : Place) (result : Result A ConfirmRefusal) →
-    OnOk result ((s : Settlement) × MayConfirm old.ongoing s × (net_reopening new.ongoing ≡ entered (Confirm s) (net_reopening old.ongoing)) × (s.place ≡ place)) →
-    IsAsChosen old chosen place →
-    OnOk result ((s : Settlement) × MayConfirm old.ongoing s × (net_reopening new.ongoing ≡ entered (Confirm s) (net_reopening old.ongoing)) × IsAsChosen old chosen s.place)
-confirmed_as old new chosen place (Ok x) p is = (p.0, p.1, p.2, subst (λ (q : Place). IsAsChosen old chosen q) (sym p.3) is)
-confirmed_as old new chosen place (Err e) p is = tt
+-- a confirmed settlement is that of the roles that were chosen, if the placement that was to be confirmed is
+pub confirmed_as : {A : Type 0} (old new : ReopeningModel) (chosen : List Choice) (q : PlacementModel) (result : Result A ConfirmRefusal) →
+    OnOk result ((s : Settlement) × MayConfirm old.ongoing s × (net_reopening new.ongoing ≡ entered (Confirm s) (net_reopening old.ongoing)) × (s.place ≡ place_of q)
+    × (s.setup ≡ q.setup) × (s.room ≡ old.document.log)) →
+    IsAsChosen old chosen (place_of q) → IsPlacedBy old.numbering (roles_chosen old chosen) (is_down_next old) old.document.limit q →
+    OnOk result ((s : Settlement) × MayConfirm old.ongoing s × (net_reopening new.ongoing ≡ entered (Confirm s) (net_reopening old.ongoing)) × IsAsChosen old chosen s.place
+    × SettlesChosen old chosen s)
+confirmed_as old new chosen q (Ok x) p is placed = (
+  p.0,
+  p.1,
+  p.2,
+  subst (λ (w : Place). IsAsChosen old chosen w) (sym p.3) is,
+  record { setup = p.4 ∙ placed.setup; place = p.3 ∙ placed.place; room = p.5 },
+)
+confirmed_as old new chosen q (Err e) p is placed = tt
+
+-- and the next driver opens with it in the document's order
+pub kept_as : {A : Type 0} (old new : ReopeningModel) (chosen : List Choice) (q : PlacementModel) (result : Result A ConfirmRefusal) → OnOk result (new.next ≡ Some q) →
+    IsPlacedBy old.document.config (roles_in_order old (roles_chosen old chosen)) (down_in_order old) old.document.limit q → OnOk result (KeepsChosen old new chosen)
+kept_as old new chosen q (Ok x) is placed = record { placement = q; kept = is; placed = placed }
+kept_as old new chosen q (Err e) is placed = tt

@@ -57,7 +57,7 @@ kept_earlier r kept is setup e = subst (λ ps. AreEarlierPermits (epoch_base r.e
 })
 
 -- what is read of a list over the numbers from 0 on
-read_range : {A : Type 0} (f : ℕ → A) (n v : ℕ) (none : A) → v < n → get_or (map f (range_with_len 0 n)) v none ≡ f v
+pub read_range : {A : Type 0} (f : ℕ → A) (n v : ℕ) (none : A) → v < n → get_or (map f (range_with_len 0 n)) v none ≡ f v
 read_range f n v none h = get_or-map-range_with_len f 0 n v v none h (omega arith)
 
 -- what is there

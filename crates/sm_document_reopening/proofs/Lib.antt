@@ -12,3 +12,5 @@ pub mod Begun
 pub mod Renumbered
 pub mod InForce
 pub mod Awaited
+pub mod Written
+pub mod Settled

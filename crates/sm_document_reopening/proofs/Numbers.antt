@@ -1,13 +1,14 @@
 -- Names and their numbers.
-use Rattle.std.proofs.Common.{◌≡◌, ◌∙◌, ◌+◌, ◌<◌, ◌≤◌, ◌-◌, ℕ, suc, List, [], ◌∷◌, ◌++◌, Some, length, get_or, take, map, slice_get, zero, length-append, sym, ap, refl, inl, inr, ◌⊎◌, arith, add-one}
-use Rattle.std.specs.List.{position}
+use Rattle.std.proofs.Common.{◌≡◌, ◌∙◌, ◌+◌, ◌<◌, ◌≤◌, ◌-◌, ℕ, suc, List, [], ◌∷◌, ◌++◌, Some, None, Option, length, get_or, take, map, slice_get, zero, length-append, sym, ap, refl, inl, inr, ◌⊎◌, arith, add-one, append-nil, append_assoc, take_all, Bool}
+use Rattle.std.specs.List.{filter, position}
 use Rattle.std.specs.Str.{bytes_eq}
 use Rattle.std.proofs.Math.Seq.{take-suc}
 use Rattle.std.proofs.lemmas.Bool.{cases_lt}
-use Rattle.std.proofs.lemmas.List.{get_or-map, map-append}
+use Rattle.std.proofs.lemmas.List.{get_or-map, map-append, take_more}
+use Rattle.std.proofs.lemmas.List.Elements.{filter-append}
 use Rattle.std.proofs.lemmas.List.Quantifiers.{position-Some}
 use Rattle.std.proofs.lemmas.Option.{slice_get-get_or, slice_get_within, none-some}
-use Rattle.std.specs.Option.{unwrap_or}
+use Rattle.std.specs.Option.{option_map_or, unwrap_or}
 use Rattle.std.proofs.lemmas.Slice.Eq.{bytes_eq-Decides}
 use Rattle.sm_placement.proofs.ConfigLemmas.{length_map}
 use Rattle.sm_placement.specs.declared.config.Server.{Server}
@@ -15,7 +16,7 @@ use Rattle.sm_placement.specs.declared.config.Shard.{Shard}
 use Rattle.sm_placement.specs.Config.{server_names, server_row, shard_names, shard_row}
 use Rattle.sm_placement.specs.Setup.{ServerRow, Setup, ShardRow, names_of_servers, names_of_shards, no_server, no_shard, server_named, shard_named}
 use Rattle.sm_protocol.proofs.Scripts.{slice_get_before, slice_get_last}
-use Rattle.sm_document_reopening.specs.Numbers.{AreNumberedBelow, KeepsNames}
+use Rattle.sm_document_reopening.specs.Numbers.{AreNumberedBelow, KeepsNames, shard_as_documented}
 
 -- a name that is found stands at its number
 pub named_at : (names : List (List ℕ)) (name : List ℕ) (n : ℕ) → position (λ x. bytes_eq name x) names ≡ Some n → slice_get names n ≡ Some name
@@ -123,3 +124,31 @@ numbered_next old new some before after i n name is keeps e at here = record {
         let within : k < length some = omega (arith, slice_get_within before k m there, is.count, slice_get_within some i name here) in
         let found = slice_get-get_or some k [] within in
         keeps m (get_or some k []) (is.named k m there ∙ found) ∙ sym found
+
+-- ---- rows
+
+-- the rows so far under a function, and the next one
+pub mapped_next : {A B : Type 0} (f : A → B) (xs : List A) (d : A) (ys zs : List B) (y : B) (i : ℕ) → i < length xs → ys ≡ map f (take i xs) → zs ≡ ys ++ y ∷ [] →
+    y ≡ f (get_or xs i d) → zs ≡ map f (take (i + 1) xs)
+mapped_next f xs d ys zs y i l before now is =
+    now ∙ ap (λ ws. ws ++ y ∷ []) before ∙ ap (λ w. map f (take i xs) ++ w ∷ []) is ∙ sym (map-append f (take i xs) (get_or xs i d ∷ []))
+    ∙ ap (map f) (sym (take_more xs i d l))
+
+-- the rows that pass so far, and the next one
+pub filtered_next : {A : Type 0} (p : A → Bool) (front xs : List A) (d : A) (ys zs : List A) (y : A) (i : ℕ) → i < length xs → ys ≡ front ++ filter p (take i xs) →
+    zs ≡ ys ++ filter p (y ∷ []) → y ≡ get_or xs i d → zs ≡ front ++ filter p (take (i + 1) xs)
+filtered_next p front xs d ys zs y i l before now is =
+    now ∙ ap (λ ws. ws ++ filter p (y ∷ [])) before ∙ append_assoc front (filter p (take i xs)) (filter p (y ∷ []))
+    ∙ ap (λ ws. front ++ ws) (sym (filter-append p (take i xs) (y ∷ [])) ∙ ap (λ w. filter p (take i xs ++ w ∷ [])) is ∙ ap (filter p) (sym (take_more xs i d l)))
+
+-- a function of all rows
+pub mapped_all : {A B : Type 0} (f : A → B) (xs : List A) (n : ℕ) → length xs ≤ n → map f (take n xs) ≡ map f xs
+mapped_all f xs n l = ap (map f) (take_all n xs l)
+
+-- a shard keeps its name, whatever the document makes of it
+pub shard_name_kept : (document : Setup) (row : ShardRow) → (shard_as_documented document row).name ≡ row.name
+shard_name_kept document row = by_number (shard_named document row.name)
+  where
+    by_number : (n : Option ℕ) → (option_map_or (λ (s : ℕ). record (get_or document.shards s no_shard) { name = row.name }) n (record row { want = 0; cap = 0; spread = 0 })).name ≡ row.name
+    by_number None = refl
+    by_number (Some s) = refl

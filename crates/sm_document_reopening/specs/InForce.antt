@@ -1,6 +1,5 @@
 -- The outcome of a reopening once its settlement is in force.
--- `IsOpenedOver` is internal: you need not read it for the public contracts.
-use Rattle.std.specs.Prelude.{◌≡◌, ◌&&◌, ℕ, Bool, List, Option, None, Some, is_some, length, not, replicate, slice_get, true}
+use Rattle.std.specs.Prelude.{◌≡◌, ◌&&◌, ℕ, Bool, List, Option, None, Some, is_some, length, map, not, replicate, slice_get, true}
 use Rattle.sm_placement.specs.Setup.{sizes_of}
 use Rattle.sm_placement.specs.Layout.{PlacementModel, place_of}
 use Rattle.sm_protocol.specs.State.{opened}
@@ -27,7 +26,7 @@ pub record IsInForce (r : ReopeningModel) (s : Settlement) (d : DriverModel) : T
   pub carried : (v j : ℕ) → slice_get r.servers v ≡ Some j → was_carried d.carried v ≡ (not (is_some ((net_reopening r.ongoing).told (Server j))) && s.place.down j)
   pub restores : d.restores ≡ replicate (length r.document.config.servers) None
 
--- the driver was opened over a placement, with permits and carried servers of before
+-- The driver was opened over a placement, with permits and carried servers of before: these determine it.
 pub record IsOpenedOver (p : PlacementModel) (log journal epoch : ℕ) (permits : List (Option ℕ)) (marks : List Bool) (d : DriverModel) : Type 0 where
   pub state : record_of d ≡ opened (sizes_of p.setup) (place_of p) log
   pub setup : d.machine.placement.setup ≡ p.setup
@@ -37,3 +36,17 @@ pub record IsOpenedOver (p : PlacementModel) (log journal epoch : ℕ) (permits 
   pub given : d.permits ≡ opening_permits (base d) permits (length p.setup.servers) (place_of p).down
   pub carried : d.carried ≡ carried_down marks (length p.setup.servers) (place_of p).down
   pub restored : d.restores ≡ replicate (length p.setup.servers) None
+
+-- what is known of the permits of the document's servers, in its order
+abbrev pub permits_kept : ReopeningModel → List (Option ℕ)
+permits_kept r = map (permit_of r.permits) r.servers
+
+-- which of the document's servers have told nothing, in its order
+abbrev pub silent_servers : ReopeningModel → List Bool
+silent_servers r = map (λ v. not (is_some ((net_reopening r.ongoing).told (Server v)))) r.servers
+
+-- The driver was opened over the placement that was kept when the settlement was confirmed.
+pub record IsOpenedFrom (r : ReopeningModel) (d : DriverModel) : Type 0 where
+  pub placement : PlacementModel
+  pub kept : r.next ≡ Some placement
+  pub opened_over : IsOpenedOver placement r.document.log r.journal r.epoch (permits_kept r) (silent_servers r) d

@@ -11,3 +11,5 @@ pub mod Begun
 pub mod Members
 pub mod InForce
 pub mod Eased
+pub mod Settled
+pub mod Confirmed

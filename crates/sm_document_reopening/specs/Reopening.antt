@@ -9,7 +9,7 @@ use Rattle.sm_plan_code.specs.declared.limits.TheConstants.{MOST_PLACES}
 use Rattle.sm_network.specs.Reopening.{Settlement}
 use Rattle.sm_plan_text.specs.declared.document.Document.{Document}
 use Rattle.sm_reopening.specs.declared.ongoing.OngoingReopening.{OngoingReopening}
-use Rattle.sm_reopening.specs.Ongoing.{net_reopening, shards_of}
+use Rattle.sm_reopening.specs.Ongoing.{IsSameButTold, net_reopening, shards_of}
 use Rattle.sm_driver.specs.Orders.{epoch_base}
 use Rattle.sm_driver.specs.Permits.{AreEarlierPermits}
 use Rattle.sm_document_reopening.specs.declared.roles.Roles.{Roles}
@@ -62,6 +62,7 @@ pub record IsReopening (r : ReopeningModel) : Type 0 where
 
 -- all but what is told, and what is confirmed, is as it was
 pub record IsUnder (old new : ReopeningModel) : Type 0 where
+  pub same : IsSameButTold old.ongoing new.ongoing
   pub journal : new.journal ≡ old.journal
   pub epoch : new.epoch ≡ old.epoch
   pub document : new.document ≡ old.document

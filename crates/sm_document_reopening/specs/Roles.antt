@@ -1,6 +1,5 @@
 -- Roles by shard and server, and the cells that they give.
--- All but the first two are internal: you need not read them for the public contracts (`is_down_in`, `AreOfRoles`,
--- `is_pair_before`, `NamesRoles`).
+-- `AreOfRoles`, `is_pair_before` and `NamesRoles` are internal: you need not read them for the public contracts.
 use Rattle.std.specs.Prelude.{◌≡◌, ℕ, ◌&&◌, ◌||◌, ◌==◌, Bool, true, false, List, [], ◌∷◌, Option, Some, None, is_some, nat_lt, slice_index_or}
 use Rattle.std.specs.List.{list_any}
 use Rattle.sm_server.specs.declared.call.Cell.{Cell}

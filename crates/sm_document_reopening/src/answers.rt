@@ -36,6 +36,7 @@ impl DocumentReopening {
     fn note_strays(&mut self, server: ServerId, strays: Vec<String>) -> Result<(), AllocError>
         ensures ongoing { OnOk result (self.new.ongoing ≡ self.old.ongoing) }
         ensures under { OnOk result (IsUnder self.old self.new) }
+        ensures next { OnOk result (self.new.next ≡ self.old.next) }
     {
         note(&mut self.strays, server, strays)
     }
@@ -58,6 +59,7 @@ impl DocumentReopening {
         ensures positions { OnOk result (told_positions self.new.ongoing
             ≡ position_after self.old.ongoing server base inventory) }
         ensures under { OnOk result (IsUnder self.old self.new) }
+        ensures next { OnOk result (self.new.next ≡ self.old.next) }
     {
         if !self.is_first(&Party::Server(server), base) {
             return Ok(FencedEffect::Old);
@@ -75,6 +77,7 @@ impl DocumentReopening {
             ≡ entered (Told (Server server) base (net_inventory inventory)) (net_reopening self.old.ongoing) }
         ensures positions { told_positions self.new.ongoing ≡ position_after self.old.ongoing server base inventory }
         ensures under { IsUnder self.old self.new }
+        ensures next { self.new.next ≡ self.old.next }
     {
         self.ongoing.fenced(server, base, inventory)
     }
@@ -85,7 +88,9 @@ impl DocumentReopening {
         ensures unchanged { result ≡ FencedEffect.Old → self.new ≡ self.old }
         ensures reopening { net_reopening self.new.ongoing
             ≡ entered (Told MapOwner base Entries) (net_reopening self.old.ongoing) }
+        ensures positions { told_positions self.new.ongoing ≡ told_positions self.old.ongoing }
         ensures under { IsUnder self.old self.new }
+        ensures next { self.new.next ≡ self.old.next }
     {
         if !self.is_first(&Party::MapOwner, base) {
             return FencedEffect::Old;
@@ -131,7 +136,9 @@ impl DocumentReopening {
         ensures reopening { (result ≡ SettledEffect.Old)
             ⊎ (net_reopening self.new.ongoing ≡ entered (Took (net_party party) base)
             (net_reopening self.old.ongoing)) }
+        ensures positions { told_positions self.new.ongoing ≡ told_positions self.old.ongoing }
         ensures under { IsUnder self.old self.new }
+        ensures next { self.new.next ≡ self.old.next }
     {
         self.ongoing.settled(party, base)
     }

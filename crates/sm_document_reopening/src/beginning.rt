@@ -1,13 +1,17 @@
 //! The beginning of a reopening under a document: its numbers, and its parties.
-ghost use Rattle.std.specs.Prelude.{◌≡◌, ◌+◌, [], IfOk, length, map};
+ghost use Rattle.std.specs.Prelude.{◌≡◌, ◌+◌, ◌<◌, [], ℕ, IfOk, OnOk, if◌then◌else◌, length, map};
 ghost use Rattle.sm_placement.specs.Layout.{place_of};
+ghost use Rattle.sm_placement.specs.Setup.{IsSetup};
 ghost use Rattle.sm_placement.specs.Config.{setup_of};
+ghost use Rattle.sm_placement.specs.Opening.{opened_place};
 ghost use Rattle.sm_network.specs.ReopeningLaws.{no_reopening};
-ghost use Rattle.sm_reopening.specs.Ongoing.{recorded_place, recorded_setup};
 ghost use Rattle.sm_driver.specs.Driver.{record_of};
 ghost use Rattle.sm_driver.specs.Orders.{epoch_base};
 ghost use Rattle.sm_driver.specs.Permits.{AreEarlierPermits};
-ghost use Rattle.sm_document_reopening.specs.Begun.{BeginsUnder, IsBegun, IsGround, members_under};
+ghost use Rattle.sm_document_reopening.specs.Begun.{BeginsUnder, HasRecorded, IsBegun, IsGround, IsNumberedGround};
+ghost use Rattle.sm_document_reopening.specs.Begun.{is_cell_at, members_under, roles_by};
+ghost use Rattle.sm_document_reopening.specs.RoleGrids.{role_at};
+ghost use Rattle.sm_document_reopening.specs.Roles.{role_by_cell};
 
 use crate::fault::ReopenFault;
 use crate::members::{first_lost, members_of};
@@ -17,7 +21,7 @@ use sm_driver::{Driver, EPOCH_STEP};
 use sm_placement::{Config, ConfigFault, OpenFault, Placement};
 use sm_plan_text::Document;
 use sm_reopening::{Membership, OngoingReopening};
-use sm_server::{ServerId, ShardId};
+use sm_server::{Cell, ServerId, ShardId};
 use std::alloc::{AllocError, Global};
 
 /// The configuration by which all parties of a reopening are numbered, and the document's roles.
@@ -65,6 +69,26 @@ fn check_document(alloc: Global, document: &Document, lost: &[&str]) -> Result<(
     }
 }
 
+/// Writes the role that a document's cell gives, by the numbers of a reopening.
+fn write_role(
+    roles: &mut Roles,
+    named: &(ShardId, ServerId, Cell),
+    shards: &[ShardId],
+    servers: &[ServerId],
+)
+    ensures roles { (s v : ℕ) → s < roles.old.shards → v < roles.old.servers → role_at roles.new s v
+        ≡ (if is_cell_at shards.now servers.now s v named.now then role_by_cell named.now.2
+        else role_at roles.old s v) }
+    ensures shards { roles.new.shards ≡ roles.old.shards }
+    ensures servers { roles.new.servers ≡ roles.old.servers }
+{
+    if let Some(shard) = shards.get(named.0.number() as usize) {
+        if let Some(server) = servers.get(named.1.number() as usize) {
+            roles.assign(*shard, *server, role_of(&named.2));
+        }
+    }
+}
+
 /// Returns the roles that a document gives, by the numbers of a reopening.
 fn documented_roles(
     alloc: Global,
@@ -72,14 +96,15 @@ fn documented_roles(
     numbering: &Config,
     shards: &[ShardId],
     servers: &[ServerId],
-) -> Result<Roles, AllocError> {
+) -> Result<Roles, AllocError>
+    ensures roles { IfOk result (λ roles. role_at roles
+        ≡ roles_by numbering.now shards.now servers.now document.now.cells.items) }
+    ensures width { IfOk result (λ roles. roles.servers ≡ length numbering.now.servers) }
+    ensures apart { OnOk result (IsSetup numbering.now) }
+{
     let mut roles = Roles::none(alloc, numbering.shard_count(), numbering.server_count())?;
-    for (shard, server, cell) in &document.cells {
-        let shard = shards.get(shard.number() as usize);
-        let server = servers.get(server.number() as usize);
-        if let (Some(shard), Some(server)) = (shard, server) {
-            roles.assign(*shard, *server, role_of(cell));
-        }
+    for named in &document.cells {
+        write_role(&mut roles, named, shards, servers);
     }
     Ok(roles)
 }
@@ -92,6 +117,8 @@ pub(crate) fn ground_of(
     lost: &[&str],
 ) -> Result<(Ground, Vec<Membership>), ReopenFault>
     ensures ground { IfOk result (λ g. IsGround recorded.now document.now.config g.0) }
+    ensures numbered { IfOk result (λ g. IsNumberedGround recorded.now document.now.config
+        document.now.cells.items g.0) }
     ensures members { IfOk result (λ g. g.1.items
         ≡ members_under g.0.numbering document.now.config (map (λ n. n.now) lost.now)) }
 {
@@ -117,7 +144,9 @@ pub(crate) fn ground_of(
 
 /// Returns a placement of nothing.
 fn nothing(alloc: Global) -> Result<Placement, AllocError>
-    ensures { IfOk result (λ p. p.setup ≡ setup_of [] []) }
+    ensures setup { IfOk result (λ p. p.setup ≡ setup_of [] []) }
+    ensures place { IfOk result (λ p. place_of p
+        ≡ opened_place (record { cells = []; listed = []; down = []; limit = 0 })) }
 {
     let config = no_config(alloc)?;
     match Placement::open(alloc, &config, &[], &[], &[], 0) {
@@ -139,8 +168,10 @@ fn begin_over(
     ensures over { IfOk result (λ b. BeginsUnder
         (no_reopening (length placement.now.setup.servers)) placement.now.setup document.now.config
         b.ground.numbering (map (λ n. n.now) lost.now) epoch b.ongoing) }
-    ensures setup { IfOk result (λ b. recorded_setup b.ongoing ≡ placement.now.setup) }
-    ensures place { IfOk result (λ b. recorded_place b.ongoing ≡ place_of placement.now) }
+    ensures numbered { IfOk result (λ b. IsNumberedGround placement.now.setup document.now.config
+        document.now.cells.items b.ground) }
+    ensures recorded { IfOk result (λ b. HasRecorded placement.now.setup (place_of placement.now)
+        (length b.ground.numbering.shards) b.ongoing) }
 {
     let (ground, members) = ground_of(alloc, placement.config(), document, lost)?;
     let base = epoch as u64 * EPOCH_STEP;
@@ -161,7 +192,10 @@ pub(crate) fn begin_over_driver(
     ensures over { IfOk result (λ b. BeginsUnder
         (no_reopening (length driver.now.machine.placement.setup.servers)) driver.now.machine.placement.setup
         document.now.config b.0.ground.numbering (map (λ n. n.now) lost.now) epoch b.0.ongoing) }
-    ensures place { IfOk result (λ b. recorded_place b.0.ongoing ≡ (record_of driver.now).place) }
+    ensures numbered { IfOk result (λ b. IsNumberedGround driver.now.machine.placement.setup document.now.config
+        document.now.cells.items b.0.ground) }
+    ensures recorded { IfOk result (λ b. HasRecorded driver.now.machine.placement.setup (record_of driver.now).place
+        (length b.0.ground.numbering.shards) b.0.ongoing) }
     ensures permits { IfOk result (λ b. b.1.items ≡ driver.now.permits) }
     ensures earlier { IfOk result (λ b. AreEarlierPermits (epoch_base (driver.now.epoch + 1)) b.1.items) }
 {
@@ -181,6 +215,11 @@ pub(crate) fn begin_over_nothing(
     ensures begun { IfOk result (λ b. IsBegun document.now.config epoch b) }
     ensures over { IfOk result (λ b. BeginsUnder (no_reopening 0)
         (setup_of [] []) document.now.config b.ground.numbering (map (λ n. n.now) lost.now) epoch b.ongoing) }
+    ensures numbered { IfOk result (λ b. IsNumberedGround (setup_of [] []) document.now.config
+        document.now.cells.items b.ground) }
+    ensures recorded { IfOk result (λ b. HasRecorded (setup_of [] [])
+        (opened_place (record { cells = []; listed = []; down = []; limit = 0 }))
+        (length b.ground.numbering.shards) b.ongoing) }
 {
     let placement = nothing(alloc)?;
     begin_over(alloc, &placement, document, lost, epoch)

@@ -1,20 +1,27 @@
 //! Confirming what is settled.
-ghost use Rattle.std.specs.Prelude.{◌≡◌, ◌≢◌, ◌≤◌, ◌<◌, ℕ, IfOk, OnErr, OnOk, Some, length, map, slice_index_or, true};
+ghost use Rattle.std.specs.Prelude.{◌≡◌, ◌≢◌, ◌≤◌, ◌<◌, ◌&&◌, ◌||◌, ℕ, IfOk, OnErr, OnOk, Some, false, length, map};
+ghost use Rattle.std.specs.Prelude.{not, slice_get, slice_index_or, true};
+ghost use Rattle.std.specs.List.{range_with_len};
 ghost use Rattle.sm_placement.specs.Layout.{place_of};
 ghost use Rattle.sm_placement.specs.Lead.{IsSettled};
 ghost use Rattle.sm_placement.specs.Setup.{names_of_servers, names_of_shards, sizes_of};
-ghost use Rattle.sm_network.specs.Reopening.{Confirm, Settlement, entered};
+ghost use Rattle.sm_network.specs.Reopening.{Confirm, Server, Settlement, entered, is_asked};
 ghost use Rattle.sm_reopening.specs.Faults.{MayConfirm};
-ghost use Rattle.sm_reopening.specs.Ongoing.{net_reopening};
+ghost use Rattle.sm_reopening.specs.Ongoing.{left_out_of, net_reopening, told_positions};
+ghost use Rattle.sm_reopening.specs.Proposal.{is_the};
 ghost use Rattle.sm_document_reopening.specs.Chosen.{IsAsChosen, chosen_role};
+ghost use Rattle.sm_document_reopening.specs.Confirmed.{KeepsChosen, SettlesChosen, down_in_order, is_down_next};
+ghost use Rattle.sm_document_reopening.specs.Confirmed.{is_still_down, roles_chosen, roles_in_order};
 ghost use Rattle.sm_document_reopening.specs.Eased.{IsEased};
 ghost use Rattle.sm_document_reopening.specs.Proposal.{NamesLost};
 ghost use Rattle.sm_document_reopening.specs.Reopening.{IsRenumbered, IsUnder};
 ghost use Rattle.sm_document_reopening.specs.RoleGrids.{role_at};
 ghost use Rattle.sm_document_reopening.specs.Roles.{cell_by_role, is_down_in};
+ghost use Rattle.sm_document_reopening.specs.Settled.{IsPlacedBy};
 
 use crate::choice::Choice;
 use crate::fault::ConfirmRefusal;
+use crate::marks::mark;
 use crate::opening::{is_down, settled_placement};
 use crate::reopening::DocumentReopening;
 use crate::roles::Roles;
@@ -26,12 +33,19 @@ use std::alloc::{AllocError, Global};
 
 impl DocumentReopening {
     /// Returns whether the document has a server that has a number.
-    fn has_server(&self, server: ServerId) -> bool {
+    fn has_server(&self, server: ServerId) -> bool
+        ensures { result ≡ (is_asked (net_reopening self.now.ongoing) (Server server)
+            && not (left_out_of self.now.ongoing server)) }
+    {
         self.ongoing.is_asked(server) && !self.ongoing.is_left_out(server)
     }
 
     /// Returns by number which servers are recorded down, of those that the document has.
-    fn recorded_down(&self, alloc: Global) -> Result<Vec<bool>, AllocError> {
+    #[tactic(auto, using(crate::proofs::Lists::pushed_more))]
+    fn recorded_down(&self, alloc: Global) -> Result<Vec<bool>, AllocError>
+        ensures { IfOk result (λ down. down.items
+            ≡ map (is_still_down self.now) (range_with_len 0 (net_reopening self.now.ongoing).servers)) }
+    {
         let mut down = Vec::new(alloc);
         for number in 0..self.ongoing.server_count() {
             let server = ServerId::new(number);
@@ -40,17 +54,25 @@ impl DocumentReopening {
         Ok(down)
     }
 
+    /// Marks a server that the document calls down.
+    fn call_down(&self, down: &mut Vec<bool>, server: ServerId)
+        ensures length { length down.new.items ≡ length down.old.items }
+        ensures marked { (v : ℕ) → v < length down.old.items → slice_index_or down.new.items v false
+            ≡ (slice_index_or down.old.items v false || is_the (slice_get self.now.servers server) v) }
+    {
+        if let Some(number) = self.servers.get(server.number() as usize) {
+            mark(down, number.number());
+        }
+    }
+
     /// Returns by number which servers are down: those that the document calls so, and those that it has and that are
     /// recorded so.
-    pub(crate) fn down_servers(&self, alloc: Global) -> Result<Vec<bool>, AllocError> {
+    pub(crate) fn down_servers(&self, alloc: Global) -> Result<Vec<bool>, AllocError>
+        ensures { IfOk result (λ down. is_down_in down.items ≡ is_down_next self.now) }
+    {
         let mut down = self.recorded_down(alloc)?;
         for server in &self.document.down {
-            if let Some(number) = self.servers.get(server.number() as usize) {
-                let place = number.number() as usize;
-                if place < down.len() {
-                    down[place] = true;
-                }
-            }
+            self.call_down(&mut down, *server);
         }
         Ok(down)
     }
@@ -93,10 +115,13 @@ impl DocumentReopening {
 
     /// Returns the roles of the document's servers and shards, under its own numbers.
     fn documents_roles(&self, alloc: Global, roles: &Roles) -> Result<Roles, AllocError>
-        ensures { IfOk result (λ list. (k v : ℕ) → k < length self.now.document.config.shards
+        ensures roles { IfOk result (λ list. (k v : ℕ) → k < length self.now.document.config.shards
             → v < length self.now.document.config.servers
             → role_at list k v ≡ role_at roles.now (slice_index_or self.now.shards k u32.MAX)
             (slice_index_or self.now.servers v u32.MAX)) }
+        ensures shards { IfOk result (λ list. list.shards ≡ length self.now.document.config.shards) }
+        ensures servers { IfOk result (λ list. list.servers ≡ length self.now.document.config.servers) }
+        ensures order { IfOk result (λ list. role_at list ≡ roles_in_order self.now (role_at roles.now)) }
     {
         let shards = self.document.config.shard_count();
         let servers = self.document.config.server_count();
@@ -134,6 +159,8 @@ impl DocumentReopening {
             (slice_index_or self.now.servers v u32.MAX))) }
         ensures down { IfOk result (λ p. (v : ℕ) → v < length self.now.document.config.servers
             → (place_of p).down v ≡ is_down_in (map (is_down_in down.now) self.now.servers) v) }
+        ensures placed { IfOk result (IsPlacedBy self.now.document.config (roles_in_order self.now (role_at roles.now))
+            (is_down_in (map (is_down_in down.now) self.now.servers)) self.now.document.limit) }
     {
         let roles = self.documents_roles(alloc, roles)?;
         let down = self.documents_down(alloc, down)?;
@@ -147,6 +174,8 @@ impl DocumentReopening {
         alloc: Global,
         roles: &Roles,
     ) -> Result<(Placement, Placement), OpenFault>
+        requires shards { roles.now.shards ≡ length self.now.numbering.shards }
+        requires servers { roles.now.servers ≡ length self.now.numbering.servers }
         ensures settled { IfOk result (λ p. IsSettled (sizes_of p.0.setup) (place_of p.0)) }
         ensures servers { IfOk result (λ p. names_of_servers p.0.setup ≡ names_of_servers self.now.numbering) }
         ensures shards { IfOk result (λ p. names_of_shards p.0.setup ≡ names_of_shards self.now.numbering) }
@@ -155,6 +184,10 @@ impl DocumentReopening {
             → IsRenumbered self.now.document.config self.now.shards self.now.servers
             (record { setup = p.0.setup; place = place_of p.0; room = room }) p.1) }
         ensures cells { IfOk result (λ p. (s v : ℕ) → (place_of p.0).cells s v ≡ cell_by_role (role_at roles.now s v)) }
+        ensures placed { IfOk result (λ p. IsPlacedBy self.now.numbering (role_at roles.now) (is_down_next self.now)
+            self.now.document.limit p.0) }
+        ensures kept { IfOk result (λ p. IsPlacedBy self.now.document.config
+            (roles_in_order self.now (role_at roles.now)) (down_in_order self.now) self.now.document.limit p.1) }
     {
         let down = self.down_servers(alloc)?;
         let limit = self.document.limit;
@@ -165,9 +198,12 @@ impl DocumentReopening {
 
     /// The roles that were chosen for some shards, and those that are proposed for the others.
     fn chosen_roles(&self, alloc: Global, chosen: &[Choice]) -> Result<Roles, AllocError>
-        ensures { IfOk result (λ roles. (s v : ℕ)
+        ensures roles { IfOk result (λ roles. (s v : ℕ)
             → s < length self.now.numbering.shards → v < length self.now.numbering.servers
             → role_at roles s v ≡ chosen_role self.now chosen.now s v) }
+        ensures shards { IfOk result (λ roles. roles.shards ≡ length self.now.numbering.shards) }
+        ensures servers { IfOk result (λ roles. roles.servers ≡ length self.now.numbering.servers) }
+        ensures all { IfOk result (λ roles. role_at roles ≡ roles_chosen self.now chosen.now) }
     {
         let mut roles = self.proposed_roles(alloc)?;
         for choice in chosen {
@@ -186,8 +222,10 @@ impl DocumentReopening {
     ) -> Result<(), ConfirmRefusal>
         ensures confirmed { OnOk result ((s : Settlement) × MayConfirm self.old.ongoing s
             × (net_reopening self.new.ongoing ≡ entered (Confirm s) (net_reopening self.old.ongoing))
-            × IsAsChosen self.old chosen.now s.place) }
+            × IsAsChosen self.old chosen.now s.place × SettlesChosen self.old chosen.now s) }
+        ensures kept { OnOk result (KeepsChosen self.old self.new chosen.now) }
         ensures named { OnOk result (NamesLost self.old named.now) }
+        ensures positions { OnOk result (told_positions self.new.ongoing ≡ told_positions self.old.ongoing) }
         ensures under { OnOk result (IsUnder self.old self.new) }
         ensures unchanged { OnErr result (self.new ≡ self.old) }
     {
@@ -228,7 +266,9 @@ impl DocumentReopening {
             (record { setup = settlement.setup; place = place_of settlement; room = room }) next }
         ensures confirmed { OnOk result ((s : Settlement) × MayConfirm self.old.ongoing s
             × (net_reopening self.new.ongoing ≡ entered (Confirm s) (net_reopening self.old.ongoing))
-            × (s.place ≡ place_of settlement)) }
+            × (s.place ≡ place_of settlement) × (s.setup ≡ settlement.setup) × (s.room ≡ self.old.document.log)) }
+        ensures next { OnOk result (self.new.next ≡ Some next) }
+        ensures positions { OnOk result (told_positions self.new.ongoing ≡ told_positions self.old.ongoing) }
         ensures under { OnOk result (IsUnder self.old self.new) }
         ensures unchanged { OnErr result (self.new ≡ self.old) }
     {

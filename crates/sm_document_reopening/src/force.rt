@@ -8,7 +8,7 @@ ghost use Rattle.sm_network.specs.Reopening.{Server, Settlement};
 ghost use Rattle.sm_reopening.specs.Ongoing.{net_reopening};
 ghost use Rattle.sm_driver.specs.Orders.{epoch_base};
 ghost use Rattle.sm_driver.specs.Permits.{AreEarlierPermits, permit_of};
-ghost use Rattle.sm_document_reopening.specs.InForce.{IsInForce, IsOpenedOver};
+ghost use Rattle.sm_document_reopening.specs.InForce.{IsInForce, IsOpenedFrom, IsOpenedOver};
 
 use crate::reopening::DocumentReopening;
 use sm_driver::Driver;
@@ -89,8 +89,9 @@ impl DocumentReopening {
     /// of the document's order.
     pub fn put_in_force(self, alloc: Global) -> Result<Driver, AllocError>
         requires { is_some (net_reopening self.ongoing).settlement ≡ true }
-        ensures { IfOk result (λ driver. (s : Settlement) → (net_reopening self.ongoing).settlement ≡ Some s
+        ensures in_force { IfOk result (λ driver. (s : Settlement) → (net_reopening self.ongoing).settlement ≡ Some s
             → IsInForce self s driver) }
+        ensures opened { IfOk result (λ driver. IsOpenedFrom self driver) }
     {
         let permits = self.kept_permits(alloc)?;
         let carried = self.carried_marks(alloc)?;

@@ -1,9 +1,11 @@
 //! The numbers of servers and shards while a reopening is under way: those that are recorded keep theirs, and the new
 //! ones of a document follow in its order.
-ghost use Rattle.std.specs.Prelude.{◌≡◌, ◌++◌, ◌∷◌, [], ℕ, ◌<◌, IfOk, OnOk, Some, length, slice_get};
+ghost use Rattle.std.specs.Prelude.{◌≡◌, ◌++◌, ◌∷◌, [], ℕ, ◌<◌, IfOk, OnOk, Some, length, map, slice_get};
+ghost use Rattle.std.specs.List.{filter};
 ghost use Rattle.sm_placement.specs.Config.{server_names, server_row, shard_names, shard_row, setup_of};
 ghost use Rattle.sm_placement.specs.Setup.{names_of_servers, names_of_shards};
-ghost use Rattle.sm_document_reopening.specs.Numbers.{AreNumbered, KeepsNames};
+ghost use Rattle.sm_document_reopening.specs.Numbers.{AreNumbered, KeepsNames, is_new_server, is_new_shard};
+ghost use Rattle.sm_document_reopening.specs.Numbers.{numbered_under, server_as_documented, shard_as_documented};
 
 use crate::fault::ReopenFault;
 use sm_placement::{Config, ConfigFault, MOST_SERVERS, MOST_SHARDS, Server, Shard};
@@ -26,7 +28,7 @@ pub(crate) struct NumberedShards {
 
 /// Returns a recorded server as a document has it: without room if the document leaves it out.
 fn documented_server(document: &Config, server: &Server) -> Result<Server, AllocError>
-    ensures { IfOk result (λ row. (server_row row).name ≡ (server_row server.now).name) }
+    ensures { IfOk result (λ row. server_row row ≡ server_as_documented document.now (server_row server.now)) }
 {
     let room = match document.server_named(&server.name) {
         Some(number) => document.room(number),
@@ -41,7 +43,7 @@ fn documented_server(document: &Config, server: &Server) -> Result<Server, Alloc
 
 /// Returns a recorded shard as a document has it: without replicas if the document leaves it out.
 fn documented_shard(document: &Config, shard: &Shard) -> Result<Shard, AllocError>
-    ensures { IfOk result (λ row. (shard_row row).name ≡ (shard_row shard.now).name) }
+    ensures { IfOk result (λ row. shard_row row ≡ shard_as_documented document.now (shard_row shard.now)) }
 {
     let mut row = Shard {
         name: shard.name.clone()?,
@@ -62,8 +64,10 @@ fn documented_shard(document: &Config, shard: &Shard) -> Result<Shard, AllocErro
 
 /// Gives a server the next number.
 fn append_server(rows: &mut Vec<Server>, server: &Server) -> Result<(), AllocError>
-    ensures { OnOk result (server_names rows.new.items
+    ensures names { OnOk result (server_names rows.new.items
         ≡ server_names rows.old.items ++ (server_row server.now).name ∷ []) }
+    ensures rows { OnOk result (map server_row rows.new.items
+        ≡ map server_row rows.old.items ++ server_row server.now ∷ []) }
 {
     rows.push(server.clone()?)?;
     Ok(())
@@ -80,6 +84,8 @@ fn server_number(
     ensures kept { OnOk result (KeepsNames (server_names rows.old.items) (server_names rows.new.items)) }
     ensures number { IfOk result (λ number. slice_get (server_names rows.new.items) number
         ≡ Some (server_row server.now).name) }
+    ensures rows { OnOk result (map server_row rows.new.items
+        ≡ map server_row rows.old.items ++ filter (is_new_server recorded.now) (server_row server.now ∷ [])) }
 {
     if let Some(number) = recorded.server_named(&server.name) {
         return Ok(number);
@@ -102,7 +108,10 @@ fn note_server(numbers: &mut Vec<ServerId>, number: ServerId) -> Result<(), Allo
 
 /// Gives a shard the next number.
 fn append_shard(rows: &mut Vec<Shard>, shard: &Shard) -> Result<(), AllocError>
-    ensures { OnOk result (shard_names rows.new.items ≡ shard_names rows.old.items ++ (shard_row shard.now).name ∷ []) }
+    ensures names { OnOk result (shard_names rows.new.items
+        ≡ shard_names rows.old.items ++ (shard_row shard.now).name ∷ []) }
+    ensures rows { OnOk result (map shard_row rows.new.items
+        ≡ map shard_row rows.old.items ++ shard_row shard.now ∷ []) }
 {
     rows.push(shard.clone()?)?;
     Ok(())
@@ -119,6 +128,8 @@ fn shard_number(
     ensures kept { OnOk result (KeepsNames (shard_names rows.old.items) (shard_names rows.new.items)) }
     ensures number { IfOk result (λ number. slice_get (shard_names rows.new.items) number
         ≡ Some (shard_row shard.now).name) }
+    ensures rows { OnOk result (map shard_row rows.new.items
+        ≡ map shard_row rows.old.items ++ filter (is_new_shard recorded.now) (shard_row shard.now ∷ [])) }
 {
     if let Some(number) = recorded.shard_named(&shard.name) {
         return Ok(number);
@@ -146,7 +157,9 @@ fn recorded_servers(
     recorded: &Config,
     document: &Config,
 ) -> Result<Vec<Server>, AllocError>
-    ensures { IfOk result (λ rows. server_names rows.items ≡ names_of_servers recorded.now) }
+    ensures names { IfOk result (λ rows. server_names rows.items ≡ names_of_servers recorded.now) }
+    ensures rows { IfOk result (λ rows. map server_row rows.items
+        ≡ map (server_as_documented document.now) recorded.now.servers) }
 {
     let mut rows = Vec::new(alloc);
     for number in 0..recorded.server_count() {
@@ -163,7 +176,9 @@ fn recorded_shards(
     recorded: &Config,
     document: &Config,
 ) -> Result<Vec<Shard>, AllocError>
-    ensures { IfOk result (λ rows. shard_names rows.items ≡ names_of_shards recorded.now) }
+    ensures names { IfOk result (λ rows. shard_names rows.items ≡ names_of_shards recorded.now) }
+    ensures rows { IfOk result (λ rows. map shard_row rows.items
+        ≡ map (shard_as_documented document.now) recorded.now.shards) }
 {
     let mut rows = Vec::new(alloc);
     for number in 0..recorded.shard_count() {
@@ -184,6 +199,8 @@ pub(crate) fn number_servers(
         (server_names numbered.rows.items)) }
     ensures numbered { IfOk result (λ numbered. AreNumbered
         (server_names numbered.rows.items) numbered.numbers.items (names_of_servers document.now)) }
+    ensures rows { IfOk result (λ numbered. map server_row numbered.rows.items
+        ≡ (numbered_under recorded.now document.now).servers) }
 {
     let mut rows = recorded_servers(alloc, recorded, document)?;
     let mut numbers = Vec::new(alloc);
@@ -205,6 +222,8 @@ pub(crate) fn number_shards(
         (shard_names numbered.rows.items)) }
     ensures numbered { IfOk result (λ numbered. AreNumbered (shard_names numbered.rows.items) numbered.numbers.items
         (names_of_shards document.now)) }
+    ensures rows { IfOk result (λ numbered. map shard_row numbered.rows.items
+        ≡ (numbered_under recorded.now document.now).shards) }
 {
     let mut rows = recorded_shards(alloc, recorded, document)?;
     let mut numbers = Vec::new(alloc);

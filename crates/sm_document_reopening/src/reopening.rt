@@ -1,12 +1,15 @@
 //! Reopenings under documents.
-ghost use Rattle.std.specs.Prelude.{◌≡◌, ◌<◌, [], IfOk, IfErr, None, length, map};
+ghost use Rattle.std.specs.Prelude.{◌≡◌, ◌<◌, [], List, IfOk, IfErr, None, length, map};
 ghost use Rattle.sm_placement.specs.Config.{setup_of};
+ghost use Rattle.sm_placement.specs.Opening.{opened_place};
+ghost use Rattle.sm_placement.specs.Setup.{Setup};
 ghost use Rattle.sm_network.specs.ReopeningLaws.{no_reopening};
-ghost use Rattle.sm_reopening.specs.Ongoing.{net_reopening, recorded_place, shards_of};
+ghost use Rattle.sm_reopening.specs.Ongoing.{net_reopening, recorded_place, recorded_setup, shards_of};
 ghost use Rattle.sm_driver.specs.Driver.{record_of};
 ghost use Rattle.sm_driver.specs.Orders.{epoch_base};
 ghost use Rattle.sm_driver.specs.Permits.{AreEarlierPermits};
-ghost use Rattle.sm_document_reopening.specs.Begun.{BeginsUnder, IsBegun};
+ghost use Rattle.sm_document_reopening.specs.Begun.{BeginsUnder, HasRecorded, IsBegun, IsNumberedGround};
+ghost use Rattle.sm_document_reopening.specs.Begun.{NumbersUnder};
 
 use crate::beginning::{Begun, Ground, begin_over_driver, begin_over_nothing, ground_of};
 use crate::fault::ReopenFault;
@@ -109,6 +112,10 @@ impl DocumentReopening {
         ensures epoch { result.epoch ≡ epoch }
         ensures document { result.document ≡ document }
         ensures permits { result.permits ≡ permits.items }
+        ensures numbered { (numbered : Setup)
+            → IsNumberedGround numbered document.config document.cells.items begun.ground
+            → NumbersUnder numbered result }
+        ensures next { result.next ≡ None }
     {
         let Begun { ongoing, ground } = begun;
         let Ground {
@@ -146,7 +153,10 @@ impl DocumentReopening {
             (no_reopening (length driver.now.machine.placement.setup.servers))
             driver.now.machine.placement.setup document.config r.numbering
             (map (λ n. n.now) lost.now) epoch r.ongoing) }
-        ensures place { IfOk result (λ r. recorded_place r.ongoing ≡ (record_of driver.now).place) }
+        ensures numbered { IfOk result (λ r. NumbersUnder driver.now.machine.placement.setup r) }
+        ensures recorded { IfOk result (λ r. HasRecorded driver.now.machine.placement.setup (record_of driver.now).place
+            (length r.numbering.shards) r.ongoing) }
+        ensures next { IfOk result (λ r. r.next ≡ None) }
         ensures permits { IfOk result (λ r. r.permits ≡ driver.now.permits) }
         ensures journal { IfOk result (λ r. r.journal ≡ driver.now.journal) }
         ensures epoch { IfOk result (λ r. r.epoch ≡ epoch) }
@@ -173,6 +183,11 @@ impl DocumentReopening {
     ) -> Result<DocumentReopening, (Document, ReopenFault)>
         ensures over { IfOk result (λ r. BeginsUnder (no_reopening 0) (setup_of [] []) document.config r.numbering
             (map (λ n. n.now) lost.now) epoch r.ongoing) }
+        ensures numbered { IfOk result (λ r. NumbersUnder (setup_of [] []) r) }
+        ensures recorded { IfOk result (λ r. HasRecorded (setup_of [] [])
+            (opened_place (record { cells = []; listed = []; down = []; limit = 0 }))
+            (length r.numbering.shards) r.ongoing) }
+        ensures next { IfOk result (λ r. r.next ≡ None) }
         ensures permits { IfOk result (λ r. r.permits ≡ []) }
         ensures journal { IfOk result (λ r. r.journal ≡ journal) }
         ensures epoch { IfOk result (λ r. r.epoch ≡ epoch) }
@@ -201,7 +216,10 @@ impl DocumentReopening {
         ensures over { IfOk result (λ r. BeginsUnder
             (net_reopening self.now.ongoing) self.now.numbering document.config r.numbering
             (map (λ n. n.now) lost.now) epoch r.ongoing) }
-        ensures place { IfOk result (λ r. recorded_place r.ongoing ≡ recorded_place self.now.ongoing) }
+        ensures numbered { IfOk result (λ r. NumbersUnder self.now.numbering r) }
+        ensures recorded { IfOk result (λ r. HasRecorded (recorded_setup self.now.ongoing)
+            (recorded_place self.now.ongoing) (length r.numbering.shards) r.ongoing) }
+        ensures next { IfOk result (λ r. r.next ≡ None) }
         ensures permits { IfOk result (λ r. r.permits ≡ self.now.permits) }
         ensures journal { IfOk result (λ r. r.journal ≡ self.now.journal) }
         ensures epoch { IfOk result (λ r. r.epoch ≡ epoch) }
@@ -229,7 +247,10 @@ impl DocumentReopening {
         ensures over { IfOk result (λ b. BeginsUnder
             (net_reopening self.now.ongoing) self.now.numbering document.now.config b.0.ground.numbering
             (map (λ n. n.now) lost.now) epoch b.0.ongoing) }
-        ensures place { IfOk result (λ b. recorded_place b.0.ongoing ≡ recorded_place self.now.ongoing) }
+        ensures numbered { IfOk result (λ b. IsNumberedGround self.now.numbering document.now.config
+            document.now.cells.items b.0.ground) }
+        ensures recorded { IfOk result (λ b. HasRecorded (recorded_setup self.now.ongoing)
+            (recorded_place self.now.ongoing) (length b.0.ground.numbering.shards) b.0.ongoing) }
         ensures permits { IfOk result (λ b. b.1.items ≡ self.now.permits) }
         ensures earlier { IfOk result (λ b. AreEarlierPermits (epoch_base self.now.epoch) b.1.items) }
     {
@@ -276,7 +297,9 @@ impl DocumentReopening {
     }
 
     /// Returns the document's own configuration.
-    pub fn documented(&self) -> &Config {
+    pub fn documented(&self) -> &Config
+        ensures { result.now ≡ self.now.document.config }
+    {
         &self.document.config
     }
 

@@ -1,3 +1,4 @@
+pub mod Audited
 pub mod Outgoing
 pub mod Told
 pub mod Written

@@ -1,3 +1,5 @@
+pub mod Audit
+pub mod Audits
 pub mod Begun
 pub mod Bits
 pub mod Calls

@@ -10,8 +10,8 @@ use Rattle.sm_open_journal.specs.Cells.{slots_member}
 use Rattle.sm_open_journal.specs.Told.{ToldModel}
 use Rattle.sm_open_journal.specs.declared.opened.Opened.{Opened}
 
--- what a server is told: its name and the nonce under which it asked, the journal with its fence, the number at or below which orders are old to
--- it, and its slots
+-- what a server is told: its name, the nonce under which it asked, the journal with its fence, its base (orders up to this number are old to
+-- it), and its slots
 abbrev pub restore_members : DriverModel → ℕ → RestoreModel → List Token
 restore_members d v restore =
     text_member (codes "server") (server_text d.machine.placement.setup v)
@@ -41,7 +41,8 @@ abbrev pub restore_told : Opened → ℕ → ℕ → Option RestoreModel → Opt
 restore_told o v nonce (Some restore) = if restore.nonce == nonce then Some (restore_object o.driver v restore) else None
 restore_told o v nonce None = option_map (λ t. t.restore) (told_under o.told.items (server_text o.driver.machine.placement.setup v) nonce)
 
--- What a server was told last, if that was under this nonce: the restore that the driver keeps for it, and without one that of an earlier epoch.
+-- What a server was told last, if that was under this nonce: the restore that the driver keeps for it, or if it keeps none the one of an earlier
+-- epoch.
 abbrev pub told_again : Opened → ℕ → ℕ → Option (List Token)
 told_again o v nonce = restore_told o v nonce (restore_at o.driver.restores v)
 

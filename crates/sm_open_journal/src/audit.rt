@@ -1,4 +1,22 @@
 //! A server's slots against what is recorded.
+ghost use Rattle.std.specs.Prelude.{◌≡◌, ◌==◌, ◌&&◌, ◌<◌, ◌∷◌, ◌++◌, [], ℕ, IfOk, None, OnOk};
+ghost use Rattle.std.specs.Prelude.{Some, codes, false, if◌then◌else◌, length, map, option_map, slice_index_or};
+ghost use Rattle.std.specs.List.{filter, flat_map, list_any, range_with_len};
+ghost use Rattle.std.specs.Option.{option_map_or};
+ghost use Rattle.sm_driver.specs.Driver.{record_of};
+ghost use Rattle.sm_driver.specs.Orders.{net_order};
+ghost use Rattle.sm_commands.specs.Members.{number_member, object, object_member};
+ghost use Rattle.sm_commands.specs.Slots.{cell_word};
+ghost use Rattle.sm_open_journal.specs.Cells.{cell_members};
+ghost use Rattle.sm_open_journal.specs.Audit.{agrees, audit_found, audit_reply, audited_member, audited_slots};
+ghost use Rattle.sm_open_journal.specs.Audit.{cell_after, compared_member, difference_members, differences_member};
+ghost use Rattle.sm_open_journal.specs.Audit.{differing, differs, differs_member, found_members, has_ahead};
+ghost use Rattle.sm_open_journal.specs.Audit.{has_number, is_of_kind, is_order_to, is_party_named, is_shard_ahead};
+ghost use Rattle.sm_open_journal.specs.Audit.{is_slot_ahead, is_slot_of, is_stray, order_at_shard, streams_to};
+ghost use Rattle.sm_open_journal.specs.Audit.{recorded_cell, shard_difference, slot_at_shard, stray_difference};
+ghost use Rattle.sm_open_journal.specs.Audit.{tells_cell, tells_handover, tells_something, told_party};
+ghost use Rattle.sm_open_journal.specs.Audit.{word_members};
+ghost use Rattle.sm_open_journal.specs.Audits.{HasSides, IsAuditOf};
 
 use crate::cells::write_cell;
 use crate::opened::Opened;
@@ -8,57 +26,81 @@ use sm_commands::{
 };
 use sm_driver::{Driver, StreamOrder};
 use sm_placement::Config;
+use sm_plan_code::ServerCall;
+use sm_reservation::StreamId;
 use sm_server::{Cell, ServerId, ShardId, serve};
 use std::alloc::{AllocError, Global};
 
-/// The two sides of a shard: the place of the slot that the server tells, and the present order to it.
-#[derive(Clone, Copy)]
-struct Facing {
-    slot: Option<usize>,
-    order: Option<StreamOrder>,
-}
-
-/// The slots of a server, and what they are compared with.
+/// A server, the place at which its slots were read, and the two sides of each shard: the slot that is told, and the
+/// stream that has a present order to the server.
 #[derive(Drop)]
 struct Audit<'o, 's> {
     opened: &'o Opened,
     server: ServerId,
-    slots: &'s [SlotText<'s>],
+    place: u64,
     /// By the shards' numbers.
-    facing: Vec<Facing>,
-    /// The places of the slots whose shards are not recorded.
-    strays: Vec<usize>,
+    told: Vec<Option<SlotText<'s>>>,
+    /// By the shards' numbers.
+    streams: Vec<Option<StreamId>>,
+    /// The slots whose shards are not recorded.
+    strays: Vec<SlotText<'s>>,
 }
 
-/// Tells whether a slot says what this cell is, in the configuration's numbers.
-fn is_cell(config: &Config, slot: Option<&SlotText<'_>>, cell: &Cell) -> bool {
-    let Some(slot) = slot else {
-        return cell.is_absent();
-    };
+/// Whether the other party of a handover is told as this server.
+fn is_party_named(config: &Config, party: PartyText<'_>, server: ServerId) -> bool
+    ensures { result ≡ is_party_named config.now party.entry server }
+{
+    match party {
+        PartyText::Name(name) => match config.server_named(name) {
+            Some(named) => named == server,
+            None => false,
+        },
+        PartyText::Null | PartyText::Missing => false,
+    }
+}
+
+/// Whether a slot tells of the handover with this party and number.
+fn tells_handover(config: &Config, slot: SlotText<'_>, party: ServerId, number: u64) -> bool
+    ensures { result ≡ tells_handover config.now slot.entry party number }
+{
+    match slot.handover {
+        Some(told) => is_party_named(config, slot.party, party) && told == number,
+        None => false,
+    }
+}
+
+/// Whether a cell is the one that a slot tells of.
+fn is_of_kind(config: &Config, slot: SlotText<'_>, cell: Cell) -> bool
+    ensures { result ≡ is_of_kind config.now slot.entry slot.entry.cell cell }
+{
     match (slot.cell, cell) {
         (CellKind::Absent, Cell::Absent) => true,
         (CellKind::Secondary, Cell::Secondary) => true,
         (CellKind::Primary, Cell::Primary) => true,
         (CellKind::Prepared, Cell::Prepared { from, number }) => {
-            is_handover(config, slot, *from, *number)
+            tells_handover(config, slot, from, number)
         }
         (CellKind::Forwarding, Cell::Forwarding { to, number }) => {
-            is_handover(config, slot, *to, *number)
+            tells_handover(config, slot, to, number)
         }
         _ => false,
     }
 }
 
-/// Returns whether a slot tells of this handover.
-fn is_handover(config: &Config, slot: &SlotText<'_>, party: ServerId, number: u64) -> bool {
-    let PartyText::Name(name) = slot.party else {
-        return false;
-    };
-    config.server_named(name) == Some(party) && slot.handover == Some(number)
+/// Whether a slot tells this cell: no slot tells that there is nothing.
+fn tells_cell(config: &Config, slot: &Option<SlotText<'_>>, cell: &Cell) -> bool
+    ensures { result ≡ tells_cell config.now slot.now cell.now }
+{
+    match slot {
+        Some(slot) => is_of_kind(config, *slot, *cell),
+        None => cell.is_absent(),
+    }
 }
 
-/// Returns the word for what a slot tells.
-fn kind_word(kind: CellKind) -> &'static str {
+/// The word for what a slot tells.
+fn kind_word(kind: CellKind) -> &'static str
+    ensures { result.now ≡ cell_word kind }
+{
     match kind {
         CellKind::Absent => "absent",
         CellKind::Prepared => "prepared",
@@ -68,271 +110,599 @@ fn kind_word(kind: CellKind) -> &'static str {
     }
 }
 
-/// Writes, as a member, what a slot tells.
-fn write_found(writer: &mut Writer, slot: Option<&SlotText<'_>>) -> Result<(), AllocError> {
-    writer.key("found")?;
-    writer.begin_object()?;
-    match slot {
-        None => write_text(writer, "cell", "absent")?,
-        Some(slot) => {
-            write_text(writer, "cell", kind_word(slot.cell))?;
-            match slot.party {
-                PartyText::Missing => {}
-                PartyText::Null => write_name(writer, "party", None)?,
-                PartyText::Name(name) => write_text(writer, "party", name)?,
-            }
-            if let Some(handover) = slot.handover {
-                write_number(writer, "handover", handover)?;
-            }
-        }
+/// Writes, as a member, the other party of a handover as it is told.
+fn write_told_party(writer: &mut Writer, party: PartyText<'_>) -> Result<(), AllocError>
+    ensures { OnOk result (writer.new.tokens ≡ writer.old.tokens ++ told_party party.entry) }
+{
+    match party {
+        PartyText::Missing => Ok(()),
+        PartyText::Null => write_name(writer, "party", None),
+        PartyText::Name(name) => write_text(writer, "party", name),
     }
-    writer.end_object()
 }
 
-/// Writes how a slot differs from what is recorded.
+/// Writes, as a member, the number of a handover as it is told.
+fn write_told_number(writer: &mut Writer, handover: Option<u64>) -> Result<(), AllocError>
+    ensures { OnOk result (writer.new.tokens
+        ≡ writer.old.tokens ++ option_map_or (number_member (codes "handover")) handover []) }
+{
+    match handover {
+        Some(number) => write_number(writer, "handover", number),
+        None => Ok(()),
+    }
+}
+
+/// Writes the members of a slot as it is told.
+fn write_told_slot(writer: &mut Writer, slot: SlotText<'_>) -> Result<(), AllocError>
+    ensures { OnOk result (writer.new.tokens ≡ writer.old.tokens ++ found_members (Some slot.entry)) }
+{
+    write_text(writer, "cell", kind_word(slot.cell))?;
+    write_told_party(writer, slot.party)?;
+    write_told_number(writer, slot.handover)?;
+    Ok(())
+}
+
+/// Writes the same, also of a shard of which no slot is told.
+fn write_found_members(writer: &mut Writer, slot: Option<SlotText<'_>>) -> Result<(), AllocError>
+    ensures { OnOk result (writer.new.tokens ≡ writer.old.tokens ++ found_members slot.entry) }
+{
+    match slot {
+        Some(slot) => write_told_slot(writer, slot),
+        None => write_text(writer, "cell", "absent"),
+    }
+}
+
+/// Writes them, as a member.
+fn write_found(writer: &mut Writer, slot: Option<SlotText<'_>>) -> Result<(), AllocError>
+    ensures { OnOk result (writer.new.tokens
+        ≡ writer.old.tokens ++ object_member (codes "found") (found_members slot.entry)) }
+{
+    writer.key("found")?;
+    writer.begin_object()?;
+    write_found_members(writer, slot)?;
+    writer.end_object()?;
+    Ok(())
+}
+
+/// Writes, as a member, what is recorded.
+fn write_recorded_cell(writer: &mut Writer, config: &Config, cell: Cell) -> Result<(), AllocError>
+    ensures { OnOk result (writer.new.tokens
+        ≡ writer.old.tokens ++ object_member (codes "recorded") (cell_members config.now (codes "cell") cell)) }
+{
+    writer.key("recorded")?;
+    writer.begin_object()?;
+    write_cell(writer, config, "cell", cell)?;
+    writer.end_object()?;
+    Ok(())
+}
+
+/// Writes the members of a difference.
+fn write_difference_members(
+    writer: &mut Writer,
+    config: &Config,
+    shard: &str,
+    recorded: Cell,
+    slot: Option<SlotText<'_>>,
+) -> Result<(), AllocError>
+    ensures { OnOk result (writer.new.tokens
+        ≡ writer.old.tokens ++ difference_members config.now shard.now recorded slot.entry) }
+{
+    write_text(writer, "shard", shard)?;
+    write_recorded_cell(writer, config, recorded)?;
+    write_found(writer, slot)?;
+    Ok(())
+}
+
+/// Writes a difference.
 fn write_difference(
     writer: &mut Writer,
     config: &Config,
     shard: &str,
     recorded: Cell,
-    slot: Option<&SlotText<'_>>,
-) -> Result<(), AllocError> {
+    slot: Option<SlotText<'_>>,
+) -> Result<(), AllocError>
+    ensures { OnOk result (writer.new.tokens
+        ≡ writer.old.tokens ++ object (difference_members config.now shard.now recorded slot.entry)) }
+{
     writer.begin_object()?;
-    write_text(writer, "shard", shard)?;
-    writer.key("recorded")?;
-    writer.begin_object()?;
-    write_cell(writer, config, "cell", recorded)?;
+    write_difference_members(writer, config, shard, recorded, slot)?;
     writer.end_object()?;
-    write_found(writer, slot)?;
-    writer.end_object()
+    Ok(())
 }
 
-/// Returns room for the two sides of each of a number of shards.
-fn facing_none(alloc: Global, shards: u32) -> Result<Vec<Facing>, AllocError> {
-    let mut facing = Vec::new(alloc);
-    for _ in 0..shards {
-        facing.push(Facing {
-            slot: None,
-            order: None,
-        })?;
+/// Puts an item at a shard's place.
+fn put_at<T: Copy>(items: &mut Vec<Option<T>>, shard: ShardId, item: T)
+    ensures count { length items.new.items ≡ length items.old.items }
+    ensures put { (s : ℕ) → s < length items.old.items → slice_index_or items.new.items s None
+        ≡ (if shard == s then Some item else slice_index_or items.old.items s None) }
+{
+    let place = shard.number() as usize;
+    if place < items.len() {
+        items[place] = Some(item);
     }
-    Ok(facing)
 }
 
-/// Puts each slot against its shard, and returns the places of those whose shards are not recorded.
-fn face_slots(
-    facing: &mut [Facing],
+/// Puts a slot at the place of its shard, if that is recorded.
+fn put_slot<'s>(items: &mut Vec<Option<SlotText<'s>>>, config: &Config, slot: SlotText<'s>)
+    ensures count { length items.new.items ≡ length items.old.items }
+    ensures put { (s : ℕ) → s < length items.old.items → slice_index_or items.new.items s None
+        ≡ (if is_slot_of config.now s slot.entry then Some slot.entry else slice_index_or items.old.items s None) }
+{
+    if let Some(shard) = config.shard_named(slot.shard) {
+        put_at(items, shard, slot);
+    }
+}
+
+/// The slot that is told of each shard, by the shards' numbers.
+fn slots_by_shard<'s>(
     alloc: Global,
     config: &Config,
-    slots: &[SlotText<'_>],
-) -> Result<Vec<usize>, AllocError> {
-    let mut strays = Vec::new(alloc);
-    for at in 0..slots.len() {
-        match config.shard_named(slots[at].shard) {
-            Some(shard) => face_slot(facing, shard, at),
-            None => strays.push(at)?,
-        }
+    slots: &[SlotText<'s>],
+) -> Result<Vec<Option<SlotText<'s>>>, AllocError>
+    ensures { IfOk result (λ told. told.items ≡ audited_slots config.now slots.now) }
+{
+    let mut told = vec![in alloc; None; config.shard_count() as usize]?;
+    for slot in slots {
+        put_slot(&mut told, config, *slot);
     }
-    Ok(strays)
+    Ok(told)
 }
 
-/// Puts the slot at a place against its shard.
-fn face_slot(facing: &mut [Facing], shard: ShardId, at: usize) {
-    let number = shard.number() as usize;
-    if number < facing.len() {
-        facing[number].slot = Some(at);
-    }
-}
-
-/// Returns whether an order is one to this server.
-fn is_to(order: &StreamOrder, server: ServerId) -> bool {
-    order.call.server == server
-}
-
-/// Puts an order against its shard.
-fn face_order(facing: &mut [Facing], order: &StreamOrder) {
-    let number = order.call.shard.number() as usize;
-    if number < facing.len() {
-        let slot = facing[number].slot;
-        facing[number] = Facing {
-            slot,
-            order: Some(*order),
-        };
+/// Puts a stream at the place of its call's shard, if the call is one to this server.
+fn put_if_to(items: &mut Vec<Option<StreamId>>, server: ServerId, call: ServerCall, id: StreamId)
+    ensures count { length items.new.items ≡ length items.old.items }
+    ensures put { (s : ℕ) → s < length items.old.items → slice_index_or items.new.items s None
+        ≡ (if (call.server == server) && (call.shard == s) then Some id else slice_index_or items.old.items s None) }
+{
+    if call.server == server {
+        put_at(items, call.shard, id);
     }
 }
 
-/// Puts each present order to a server against its shard.
-fn face_orders(
-    facing: &mut [Facing],
+/// Puts a stream at the place of its shard, if its present order is one to this server.
+fn put_stream(items: &mut Vec<Option<StreamId>>, driver: &Driver, server: ServerId, id: StreamId)
+    ensures count { length items.new.items ≡ length items.old.items }
+    ensures put { (s : ℕ) → s < length items.old.items → slice_index_or items.new.items s None
+        ≡ (if is_order_to driver.now server s id then Some id else slice_index_or items.old.items s None) }
+{
+    match driver.order(id) {
+        Some(order) => put_if_to(items, server, order.call, id),
+        None => {}
+    }
+}
+
+/// The stream that has a present order to a server for each shard, by the shards' numbers.
+fn streams_by_shard(
     alloc: Global,
     driver: &Driver,
     server: ServerId,
-) -> Result<(), AllocError> {
-    let mut streams = Vec::new(alloc);
-    driver.awaiting(&mut streams)?;
-    for id in streams.as_slice() {
-        if let Some(order) = driver.order(*id) {
-            if is_to(&order, server) {
-                face_order(facing, &order);
-            }
-        }
+) -> Result<Vec<Option<StreamId>>, AllocError>
+    ensures { IfOk result (λ streams. streams.items ≡ streams_to driver.now server) }
+{
+    let mut ids = Vec::new(alloc);
+    driver.awaiting(&mut ids)?;
+    let mut streams = vec![in alloc; None; driver.machine().config().shard_count() as usize]?;
+    for id in ids.as_slice() {
+        put_stream(&mut streams, driver, server, *id);
+    }
+    Ok(streams)
+}
+
+/// Adds a slot to a list, if its shard is not recorded.
+fn push_if_stray<'s>(
+    strays: &mut Vec<SlotText<'s>>,
+    config: &Config,
+    slot: SlotText<'s>,
+) -> Result<(), AllocError>
+    ensures { OnOk result (strays.new.items
+        ≡ strays.old.items ++ (if is_stray config.now slot.entry then slot.entry ∷ [] else [])) }
+{
+    if config.shard_named(slot.shard).is_none() {
+        strays.push(slot)?;
     }
     Ok(())
 }
 
-/// Returns the cell that an order leads to, if there is one.
-fn led(cell: &Cell, order: Option<&StreamOrder>) -> Option<Cell> {
+/// The slots whose shards are not recorded.
+fn strays_among<'s>(
+    alloc: Global,
+    config: &Config,
+    slots: &[SlotText<'s>],
+) -> Result<Vec<SlotText<'s>>, AllocError>
+    ensures { IfOk result (λ strays. strays.items ≡ filter (is_stray config.now) slots.now) }
+{
+    let mut strays = Vec::new(alloc);
+    for slot in slots {
+        push_if_stray(&mut strays, config, *slot)?;
+    }
+    Ok(strays)
+}
+
+/// Whether the present order has this number.
+fn has_number(order: Option<StreamOrder>, number: u64) -> bool
+    ensures { result ≡ has_number (option_map net_order order) number }
+{
+    match order {
+        Some(order) => order.number == number,
+        None => false,
+    }
+}
+
+/// Whether the last order of a slot is none that this journal has sent.
+fn is_slot_ahead(driver: &Driver, order: Option<StreamOrder>, slot: SlotText<'_>) -> bool
+    ensures { result ≡ is_slot_ahead driver.now (option_map net_order order) slot.entry }
+{
+    let used = driver.machine().log().len() as u64;
+    let highest = driver.base().saturating_add(used);
+    let last = slot.last.unwrap_or(0);
+    highest < last && !has_number(order, last)
+}
+
+/// The cell that the present order leads to, if there is one.
+fn cell_after(order: Option<StreamOrder>, cell: &Cell) -> Option<Cell>
+    ensures { result ≡ cell_after (option_map net_order order) cell.now }
+{
     match order {
         Some(order) => serve(*cell, u64::MAX, 0, true, order.call.call).ok(),
         None => None,
     }
 }
 
+/// Whether a slot tells this cell, if there is one.
+fn tells_if_some(config: &Config, slot: &Option<SlotText<'_>>, cell: &Option<Cell>) -> bool
+    ensures { result ≡ option_map_or (tells_cell config.now slot.now) cell.now false }
+{
+    match cell {
+        Some(cell) => tells_cell(config, slot, cell),
+        None => false,
+    }
+}
+
+/// What is recorded of a shard at a server, with the base in a handover's number.
+fn recorded_cell(driver: &Driver, shard: ShardId, server: ServerId) -> Cell
+    requires { server < (record_of driver.now).sizes.servers }
+    ensures { result ≡ recorded_cell driver.now shard server }
+{
+    if shard.number() >= driver.machine().placement().config().shard_count() {
+        return Cell::Absent;
+    }
+    driver.cell(shard, server)
+}
+
+/// Whether a slot tells something.
+fn tells_something(slot: SlotText<'_>) -> bool
+    ensures { result ≡ tells_something slot.entry }
+{
+    match slot.cell {
+        CellKind::Absent => false,
+        CellKind::Prepared | CellKind::Secondary | CellKind::Primary | CellKind::Forwarding => true,
+    }
+}
+
+/// Whether some slot tells something.
+fn some_tell(slots: &[SlotText<'_>]) -> bool
+    ensures { result ≡ list_any tells_something slots.now }
+{
+    let mut found = false;
+    for slot in slots {
+        found = found || tells_something(*slot);
+    }
+    found
+}
+
+/// Whether the last order of some slot is none that this journal has sent, and none is present.
+fn some_ahead(driver: &Driver, slots: &[SlotText<'_>]) -> bool
+    ensures { result ≡ list_any (is_slot_ahead driver.now None) slots.now }
+{
+    let mut found = false;
+    for slot in slots {
+        found = found || is_slot_ahead(driver, None, *slot);
+    }
+    found
+}
+
 impl<'o, 's> Audit<'o, 's> {
-    /// Returns slots with what they are compared with.
+    /// The slots of a server, with what they are compared with.
     fn new(
         alloc: Global,
         opened: &'o Opened,
         server: ServerId,
-        slots: &'s [SlotText<'s>],
-    ) -> Result<Audit<'o, 's>, AllocError> {
+        place: u64,
+        slots: &[SlotText<'s>],
+    ) -> Result<Audit<'o, 's>, AllocError>
+        ensures of { IfOk result (λ audit. IsAuditOf opened.now server place audit) }
+        ensures sides { IfOk result (HasSides opened.now server slots.now) }
+    {
         let driver = &opened.driver;
         let config = driver.machine().config();
-        let mut facing = facing_none(alloc, config.shard_count())?;
-        let strays = face_slots(facing.as_mut_slice(), alloc, config, slots)?;
-        face_orders(facing.as_mut_slice(), alloc, driver, server)?;
+        let told = slots_by_shard(alloc, config, slots)?;
+        let streams = streams_by_shard(alloc, driver, server)?;
+        let strays = strays_among(alloc, config, slots)?;
         Ok(Audit {
             opened,
             server,
-            slots,
-            facing,
+            place,
+            told,
+            streams,
             strays,
         })
     }
 
-    /// Returns the slot of a shard.
-    fn slot(&self, facing: &Facing) -> Option<&'s SlotText<'s>> {
-        self.slots.get(facing.slot?)
+    /// The slot that is told of a shard, if one is.
+    fn slot(&self, shard: ShardId) -> Option<SlotText<'s>>
+        ensures { result ≡ slot_at_shard self.now.told.items shard }
+    {
+        self.told.get(shard.number() as usize).copied().flatten()
     }
 
-    /// Returns whether the last order of a slot is none that this journal has sent.
-    fn is_ahead(&self, slot: &SlotText<'_>, order: Option<&StreamOrder>) -> bool {
-        let machine = self.opened.driver.machine();
-        let used = machine.log().len() as u64;
-        let highest = self.opened.driver.base().saturating_add(used);
-        let last = slot.last.unwrap_or(0);
-        let is_present = order.is_some_and(|order| order.number == last);
-        last > highest && !is_present
+    /// The present order for a shard, if there is one.
+    fn order(&self, shard: ShardId) -> Option<StreamOrder>
+        ensures { option_map net_order result
+            ≡ order_at_shard self.now.opened.now.driver self.now.streams.items shard }
+    {
+        let id = self
+            .streams
+            .get(shard.number() as usize)
+            .copied()
+            .flatten()?;
+        self.opened.driver.order(id)
     }
 
-    /// Returns whether the last order of some slot is none that this journal has sent.
-    fn has_ahead(&self) -> bool {
-        for facing in self.facing.as_slice() {
-            if let Some(slot) = self.slot(facing) {
-                if self.is_ahead(slot, facing.order.as_ref()) {
-                    return true;
-                }
-            }
+    /// Whether the last order of a shard's slot is none that this journal has sent.
+    fn is_ahead(&self, shard: ShardId) -> bool
+        ensures { result ≡ is_shard_ahead self.now.opened.now.driver self.now.told.items self.now.streams.items shard }
+    {
+        match self.slot(shard) {
+            Some(slot) => is_slot_ahead(&self.opened.driver, self.order(shard), slot),
+            None => false,
         }
-        for at in self.strays.as_slice() {
-            if let Some(slot) = self.slots.get(*at) {
-                if self.is_ahead(slot, None) {
-                    return true;
-                }
-            }
-        }
-        false
     }
 
-    /// Returns what is recorded of a shard, with the base in a handover's number.
-    fn recorded(&self, shard: ShardId) -> Cell {
-        let config = self.opened.driver.machine().config();
-        if shard.number() >= config.shard_count() || self.server.number() >= config.server_count() {
-            return Cell::Absent;
+    /// Whether this is so of some shard.
+    #[tactic(auto, using(crate::proofs::Audited::any_number))]
+    fn some_shard_ahead(&self) -> bool
+        ensures { result
+            ≡ list_any (is_shard_ahead self.now.opened.now.driver self.now.told.items self.now.streams.items)
+            (range_with_len 0 (length self.now.opened.now.driver.machine.placement.setup.shards)) }
+    {
+        let mut found = false;
+        for number in 0..self.opened.driver.machine().config().shard_count() {
+            found = found || self.is_ahead(ShardId::new(number));
         }
-        self.opened.driver.cell(shard, self.server)
+        found
     }
 
-    /// Tells whether a shard was recorded last at or before a place, and the server has neither that nor what its
-    /// present order makes of it.
-    fn differs(&self, shard: ShardId, facing: &Facing, place: u64) -> bool {
-        if self.opened.history.recorded(shard, self.server) > place {
+    /// Whether the last order of some slot is none that this journal has sent.
+    fn has_ahead(&self) -> bool
+        ensures { result ≡ has_ahead self.now.opened.now.driver self.now.told.items self.now.streams.items
+            self.now.strays.items }
+    {
+        self.some_shard_ahead() || some_ahead(&self.opened.driver, self.strays.as_slice())
+    }
+
+    /// Whether a shard was recorded last at or before the place, and the server tells neither that nor what its present
+    /// order makes of it.
+    fn differs(&self, shard: ShardId) -> bool
+        requires { self.now.server < (record_of self.now.opened.now.driver).sizes.servers }
+        ensures { result ≡ differs self.now.opened.now self.now.server self.now.place self.now.told.items
+            self.now.streams.items shard }
+    {
+        if self.opened.history.recorded(shard, self.server) > self.place {
             return false;
         }
-        let config = self.opened.driver.machine().config();
-        let recorded = self.recorded(shard);
-        let slot = self.slot(facing);
-        if is_cell(config, slot, &recorded) {
-            return false;
-        }
-        match led(&recorded, facing.order.as_ref()) {
-            None => true,
-            Some(next) => !is_cell(config, slot, &next),
-        }
+        let driver = &self.opened.driver;
+        let config = driver.machine().config();
+        let recorded = recorded_cell(driver, shard, self.server);
+        let next = cell_after(self.order(shard), &recorded);
+        let slot = self.slot(shard);
+        !tells_cell(config, &slot, &recorded) && !tells_if_some(config, &slot, &next)
     }
 
-    /// Returns the shards of which the server has something else than is recorded.
-    fn differing(&self, alloc: Global, place: u64) -> Result<Vec<ShardId>, AllocError> {
-        let mut found = Vec::new(alloc);
-        let mut number = 0;
-        for facing in self.facing.as_slice() {
-            let shard = ShardId::new(number);
-            if self.differs(shard, facing, place) {
-                found.push(shard)?;
-            }
-            number = number.saturating_add(1);
+    /// Adds a shard to a list, if the server differs in it.
+    fn push_if_differs(&self, shards: &mut Vec<ShardId>, shard: ShardId) -> Result<(), AllocError>
+        requires { self.now.server < (record_of self.now.opened.now.driver).sizes.servers }
+        ensures { OnOk result (shards.new.items ≡ shards.old.items
+            ++ (if differs self.now.opened.now self.now.server self.now.place self.now.told.items
+            self.now.streams.items shard then shard ∷ [] else [])) }
+    {
+        if self.differs(shard) {
+            shards.push(shard)?;
         }
-        Ok(found)
+        Ok(())
     }
 
-    /// Returns whether the server has something of a shard that is not recorded.
-    fn has_stray(&self) -> bool {
-        for at in self.strays.as_slice() {
-            if let Some(slot) = self.slots.get(*at) {
-                if slot.cell != CellKind::Absent {
-                    return true;
-                }
-            }
+    /// The shards in which the server differs.
+    #[tactic(auto, using(crate::proofs::Audited::filter_number))]
+    fn differing(&self, alloc: Global) -> Result<Vec<ShardId>, AllocError>
+        requires { self.now.server < (record_of self.now.opened.now.driver).sizes.servers }
+        ensures { IfOk result (λ shards. shards.items ≡ differing self.now.opened.now self.now.server self.now.place
+            self.now.told.items self.now.streams.items) }
+    {
+        let mut shards = Vec::new(alloc);
+        for number in 0..self.opened.driver.machine().config().shard_count() {
+            self.push_if_differs(&mut shards, ShardId::new(number))?;
         }
-        false
+        Ok(shards)
     }
 
-    /// Writes the differences of these shards, and of those that are not recorded.
-    fn write_differences(&self, writer: &mut Writer, shards: &[ShardId]) -> Result<(), AllocError> {
-        let config = self.opened.driver.machine().config();
+    /// Writes how a shard differs.
+    fn write_shard(&self, writer: &mut Writer, shard: ShardId) -> Result<(), AllocError>
+        requires { self.now.server < (record_of self.now.opened.now.driver).sizes.servers }
+        ensures { OnOk result (writer.new.tokens ≡ writer.old.tokens
+            ++ shard_difference self.now.opened.now.driver self.now.server self.now.told.items shard) }
+    {
+        let driver = &self.opened.driver;
+        let config = driver.machine().config();
+        let recorded = recorded_cell(driver, shard, self.server);
+        write_difference(
+            writer,
+            config,
+            shard_name(config, shard),
+            recorded,
+            self.slot(shard),
+        )
+    }
+
+    /// Writes how these shards differ.
+    fn write_shards(&self, writer: &mut Writer, shards: &[ShardId]) -> Result<(), AllocError>
+        requires { self.now.server < (record_of self.now.opened.now.driver).sizes.servers }
+        ensures { OnOk result (writer.new.tokens ≡ writer.old.tokens
+            ++ flat_map (shard_difference self.now.opened.now.driver self.now.server self.now.told.items) shards.now) }
+    {
+        for shard in shards {
+            self.write_shard(writer, *shard)?;
+        }
+        Ok(())
+    }
+
+    /// Writes the difference of a shard that is not recorded, if the server has something of it.
+    fn write_stray(&self, writer: &mut Writer, slot: SlotText<'_>) -> Result<(), AllocError>
+        ensures { OnOk result (writer.new.tokens ≡ writer.old.tokens
+            ++ stray_difference self.now.opened.now.driver.machine.placement.setup slot.entry) }
+    {
+        if tells_something(slot) {
+            let config = self.opened.driver.machine().config();
+            write_difference(writer, config, slot.shard, Cell::Absent, Some(slot))?;
+        }
+        Ok(())
+    }
+
+    /// Writes the differences of the shards that are not recorded.
+    fn write_strays(&self, writer: &mut Writer) -> Result<(), AllocError>
+        ensures { OnOk result (writer.new.tokens ≡ writer.old.tokens
+            ++ flat_map (stray_difference self.now.opened.now.driver.machine.placement.setup) self.now.strays.items) }
+    {
+        for slot in self.strays.as_slice() {
+            self.write_stray(writer, *slot)?;
+        }
+        Ok(())
+    }
+
+    /// Writes both.
+    fn write_each_difference(
+        &self,
+        writer: &mut Writer,
+        shards: &[ShardId],
+    ) -> Result<(), AllocError>
+        requires { self.now.server < (record_of self.now.opened.now.driver).sizes.servers }
+        ensures { OnOk result (writer.new.tokens ≡ writer.old.tokens
+            ++ (flat_map (shard_difference self.now.opened.now.driver self.now.server self.now.told.items) shards.now
+            ++ flat_map (stray_difference self.now.opened.now.driver.machine.placement.setup) self.now.strays.items)) }
+    {
+        self.write_shards(writer, shards)?;
+        self.write_strays(writer)?;
+        Ok(())
+    }
+
+    /// Writes them, as a member.
+    fn write_differences(&self, writer: &mut Writer, shards: &[ShardId]) -> Result<(), AllocError>
+        requires { self.now.server < (record_of self.now.opened.now.driver).sizes.servers }
+        ensures { OnOk result (writer.new.tokens ≡ writer.old.tokens
+            ++ differences_member self.now.opened.now.driver self.now.server self.now.told.items shards.now
+            self.now.strays.items) }
+    {
         writer.key("slots")?;
         writer.begin_array()?;
-        for shard in shards {
-            if let Some(facing) = self.facing.get(shard.number() as usize) {
-                let name = shard_name(config, *shard);
-                let recorded = self.recorded(*shard);
-                write_difference(writer, config, name, recorded, self.slot(facing))?;
-            }
+        self.write_each_difference(writer, shards)?;
+        writer.end_array()?;
+        Ok(())
+    }
+
+    /// Writes the members of a server that differs.
+    fn write_differs_members(
+        &self,
+        writer: &mut Writer,
+        name: &str,
+        shards: &[ShardId],
+    ) -> Result<(), AllocError>
+        requires { self.now.server < (record_of self.now.opened.now.driver).sizes.servers }
+        ensures { OnOk result (writer.new.tokens ≡ writer.old.tokens ++ (word_members name.now (codes "differs")
+            ++ differences_member self.now.opened.now.driver self.now.server self.now.told.items shards.now
+            self.now.strays.items)) }
+    {
+        write_word(writer, name, "differs")?;
+        self.write_differences(writer, shards)?;
+        Ok(())
+    }
+
+    /// Writes, as a member of a reply, in which shards a server differs, and what else it has.
+    fn write_differs(
+        &self,
+        writer: &mut Writer,
+        name: &str,
+        shards: &[ShardId],
+    ) -> Result<(), AllocError>
+        requires { self.now.server < (record_of self.now.opened.now.driver).sizes.servers }
+        ensures { OnOk result (writer.new.tokens ≡ writer.old.tokens
+            ++ differs_member self.now.opened.now.driver name.now self.now.server self.now.told.items shards.now
+            self.now.strays.items) }
+    {
+        writer.key("audit")?;
+        writer.begin_object()?;
+        self.write_differs_members(writer, name, shards)?;
+        writer.end_object()?;
+        Ok(())
+    }
+
+    /// Whether the server differs in no shard and has nothing else.
+    fn agrees(&self, shards: &[ShardId]) -> bool
+        ensures { result ≡ agrees shards.now self.now.strays.items }
+    {
+        shards.is_empty() && !some_tell(self.strays.as_slice())
+    }
+
+    /// Writes the same, or that it agrees.
+    fn write_compared(
+        &self,
+        writer: &mut Writer,
+        name: &str,
+        shards: &[ShardId],
+    ) -> Result<(), AllocError>
+        requires { self.now.server < (record_of self.now.opened.now.driver).sizes.servers }
+        ensures { OnOk result (writer.new.tokens ≡ writer.old.tokens
+            ++ compared_member self.now.opened.now.driver name.now self.now.server self.now.told.items shards.now
+            self.now.strays.items) }
+    {
+        if self.agrees(shards) {
+            write_audited(writer, name, "agrees")
+        } else {
+            self.write_differs(writer, name, shards)
         }
-        for at in self.strays.as_slice() {
-            match self.slots.get(*at) {
-                Some(slot) if slot.cell != CellKind::Absent => {
-                    write_difference(writer, config, slot.shard, Cell::Absent, Some(slot))?;
-                }
-                _ => {}
-            }
+    }
+
+    /// Writes, as a member of a reply, what is found of the server.
+    fn write_found(&self, alloc: Global, writer: &mut Writer, name: &str) -> Result<(), AllocError>
+        requires { self.now.server < (record_of self.now.opened.now.driver).sizes.servers }
+        ensures { OnOk result (writer.new.tokens ≡ writer.old.tokens
+            ++ audit_found self.now.opened.now name.now self.now.server self.now.place self.now.told.items
+            self.now.streams.items self.now.strays.items) }
+    {
+        if self.has_ahead() {
+            return write_audited(writer, name, "ahead");
         }
-        writer.end_array()
+        let shards = self.differing(alloc)?;
+        self.write_compared(writer, name, shards.as_slice())
     }
 }
 
-/// Begins, as a member of a reply, what an audit of a server has found.
-fn begin_audit(writer: &mut Writer, server: &str, word: &str) -> Result<(), AllocError> {
-    writer.key("audit")?;
-    writer.begin_object()?;
+/// Writes the members of a server of which something is found, in a word.
+fn write_word(writer: &mut Writer, server: &str, word: &str) -> Result<(), AllocError>
+    ensures { OnOk result (writer.new.tokens ≡ writer.old.tokens ++ word_members server.now word.now) }
+{
     write_text(writer, "server", server)?;
-    write_text(writer, "is", word)
+    write_text(writer, "is", word)?;
+    Ok(())
 }
 
 /// Writes, as a member of a reply, what an audit of a server has found, in a word.
-pub fn write_audited(writer: &mut Writer, server: &str, word: &str) -> Result<(), AllocError> {
-    begin_audit(writer, server, word)?;
-    writer.end_object()
+pub fn write_audited(writer: &mut Writer, server: &str, word: &str) -> Result<(), AllocError>
+    ensures { OnOk result (writer.new.tokens ≡ writer.old.tokens ++ audited_member server.now word.now) }
+{
+    writer.key("audit")?;
+    writer.begin_object()?;
+    write_word(writer, server, word)?;
+    writer.end_object()?;
+    Ok(())
 }
 
 /// Writes, as a member of a reply, whether a server's slots, which were read at a place, are as recorded.
@@ -343,23 +713,18 @@ pub fn write_audit(
     name: &str,
     place: u64,
     slots: &[SlotText<'_>],
-) -> Result<(), AllocError> {
-    let Some(server) = opened.driver.machine().config().server_named(name) else {
-        return write_bad(
+) -> Result<(), AllocError>
+    ensures { OnOk result (writer.new.tokens ≡ writer.old.tokens ++ audit_reply opened.now name.now place slots.now) }
+{
+    match opened.driver.machine().config().server_named(name) {
+        Some(server) => {
+            let audit = Audit::new(alloc, opened, server, place, slots)?;
+            audit.write_found(alloc, writer, name)
+        }
+        None => write_bad(
             writer,
             alloc,
             BadLine::UnknownName(LinePart::Line, CommandMember::Server),
-        );
-    };
-    let audit = Audit::new(alloc, opened, server, slots)?;
-    if audit.has_ahead() {
-        return write_audited(writer, name, "ahead");
+        ),
     }
-    let shards = audit.differing(alloc, place)?;
-    if shards.is_empty() && !audit.has_stray() {
-        return write_audited(writer, name, "agrees");
-    }
-    begin_audit(writer, name, "differs")?;
-    audit.write_differences(writer, shards.as_slice())?;
-    writer.end_object()
 }

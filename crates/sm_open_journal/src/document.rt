@@ -8,9 +8,8 @@ ghost use Rattle.sm_open_journal.specs.Document.{document_member, document_membe
 ghost use Rattle.sm_open_journal.specs.Document.{replica_row, replica_rows, role_members, role_word, server_members};
 ghost use Rattle.sm_open_journal.specs.Document.{document_server, document_shard, servers_member, shard_members};
 ghost use Rattle.sm_open_journal.specs.Document.{flag_member, shard_numbers, shards_member};
-ghost use Rattle.sm_open_journal.specs.Unserved.{is_owner};
 
-use crate::holders::{owner_of, write_listed};
+use crate::holders::write_listed;
 use crate::opened::Opened;
 use crate::unserved::has_data;
 use sm_commands::{Writer, server_name, write_number, write_text};

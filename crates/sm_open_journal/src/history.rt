@@ -1,6 +1,6 @@
 //! The history: what happened at which place. A place counts the commands that changed something.
 ghost use Rattle.std.specs.Prelude.{◌≡◌, length, slice_index_or};
-ghost use Rattle.sm_open_journal.specs.History.{ended_at, ordered_at, published_at};
+ghost use Rattle.sm_open_journal.specs.History.{ended_at, ordered_at, published_at, recorded_at};
 
 use indexmap::IndexMap;
 use sm_reservation::StreamId;
@@ -147,8 +147,10 @@ impl History {
         place_at(self.published.as_slice(), shard.number() as usize)
     }
 
-    /// Returns where it was recorded last what a server has of a shard.
-    pub fn recorded(&self, shard: ShardId, server: ServerId) -> u64 {
+    /// The place where it was recorded last what a server has of a shard.
+    pub fn recorded(&self, shard: ShardId, server: ServerId) -> u64
+        ensures { result ≡ recorded_at self.now shard server }
+    {
         match self.recorded.get(&CellAt { shard, server }) {
             Some(place) => *place,
             None => self.mapped,

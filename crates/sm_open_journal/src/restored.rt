@@ -76,7 +76,7 @@ impl Model for ToldRestore {
     ghost invariant = { λ r. IsUtf8 r.text.items };
 }
 
-/// Returns a restore with its reply's text.
+/// A restore with its reply's text.
 fn told_restore(
     opened: &Opened,
     alloc: Global,
@@ -93,7 +93,7 @@ fn told_restore(
     })
 }
 
-/// Returns what servers were told last in the present epoch of a journal.
+/// The restores that servers were told last in the present epoch of a journal.
 pub fn told_restores(opened: &Opened, alloc: Global) -> Result<Vec<ToldRestore>, AllocError> {
     let mut told = Vec::new(alloc);
     for number in 0..opened.driver.machine().config().server_count() {
@@ -105,7 +105,7 @@ pub fn told_restores(opened: &Opened, alloc: Global) -> Result<Vec<ToldRestore>,
     Ok(told)
 }
 
-/// Returns the latest restores of servers: those of the present epoch, and for other servers those before.
+/// The latest restores of servers: those of the present epoch, and for other servers those before.
 pub fn told_last(
     now: Vec<ToldRestore>,
     before: Vec<ToldRestore>,
@@ -124,7 +124,7 @@ pub fn told_last(
     Ok(told)
 }
 
-/// Returns the restore that a server of this name was told under a nonce in an earlier epoch.
+/// The restore that a server of this name was told under a nonce in an earlier epoch.
 fn told_under<'a>(told: &'a [ToldRestore], name: &str, nonce: u64) -> Option<&'a ToldRestore>
     ensures { option_copied result ≡ told_under told.now name.now nonce }
 {
@@ -133,7 +133,7 @@ fn told_under<'a>(told: &'a [ToldRestore], name: &str, nonce: u64) -> Option<&'a
 }
 
 impl Opened {
-    /// Returns what a server was told under this nonce in an earlier epoch.
+    /// The restore that a server was told under this nonce in an earlier epoch.
     fn told_before(&self, server: ServerId, nonce: u64) -> Option<&ToldRestore>
         requires { server < (record_of self.now.driver).sizes.servers }
         ensures { option_copied result
@@ -142,7 +142,7 @@ impl Opened {
         told_under(self.told.as_slice(), self.name_of(server), nonce)
     }
 
-    /// Returns whether a server was told under this nonce last.
+    /// Whether a server was told under this nonce last.
     pub fn was_told(&self, server: ServerId, nonce: u64) -> bool
         requires { server < (record_of self.now.driver).sizes.servers }
         ensures { result ≡ is_told self.now server nonce }

@@ -23,7 +23,7 @@ fn write_optional(writer: &mut Writer, name: &str, found: Option<u64>) -> Result
     }
 }
 
-/// Returns the room of a server that streams hold: none, if a reopening has broken them off.
+/// The room of a server that streams hold: none, if a reopening has broken them off.
 fn held_room(opened: &Opened, is_reopening: bool, server: ServerId) -> u64
     requires { server < length opened.now.driver.machine.placement.setup.servers }
 {
@@ -130,7 +130,7 @@ fn write_stream(
     writer.end_object()
 }
 
-/// Returns the word for whether a plan goes on.
+/// The word for whether a plan goes on.
 fn plan_word(opened: &Opened, is_reopening: bool, number: u32) -> &'static str {
     if is_reopening {
         "broken_off"
@@ -219,7 +219,7 @@ pub fn write_plan_of(
     writer.end_object()
 }
 
-/// Returns how many places of the log are neither used nor set aside: of plans that a reopening has broken off
+/// The number of places of the log that are neither used nor set aside: of plans that a reopening has broken off
 /// nothing is set aside.
 fn free_places(opened: &Opened, is_reopening: bool) -> u64 {
     let machine = opened.driver.machine();

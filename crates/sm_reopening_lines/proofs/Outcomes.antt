@@ -70,9 +70,9 @@ module _ (server : Option (Bor (List ℕ))) (base : ℕ) (told : ToldText) (old 
 
 -- ---- confirmations
 
-module _ (base : ℕ) (lost : List Tree) (old new : ReopeningModel) where
+module _ (base : ℕ) (cells lost : List Tree) (old new : ReopeningModel) where
   -- a line that has counted is a confirmation
-  pub confirm_is : (came : ReopeningOutcome) → DoesConfirm base lost old came new → has_counted came ≡ true → came ≡ outcome.Confirmed
+  pub confirm_is : (came : ReopeningOutcome) → DoesConfirm base cells lost old came new → has_counted came ≡ true → came ≡ outcome.Confirmed
   confirm_is outcome.Fenced does is = absurd does
   confirm_is outcome.Confirmed does is = refl
   confirm_is outcome.Settled does is = absurd does
@@ -82,11 +82,11 @@ module _ (base : ℕ) (lost : List Tree) (old new : ReopeningModel) where
   confirm_is (outcome.Refused _) does is = absurd (let z = is in cc)
 
   -- it is that of the line's reopening
-  pub counts_confirm : (came : ReopeningOutcome) → DoesConfirm base lost old came new → has_counted came ≡ true → ConfirmsAt base lost old new
-  counts_confirm came does is = subst (λ (it : ReopeningOutcome). DoesConfirm base lost old it new) (confirm_is came does is) does
+  pub counts_confirm : (came : ReopeningOutcome) → DoesConfirm base cells lost old came new → has_counted came ≡ true → ConfirmsAt base cells lost old new
+  counts_confirm came does is = subst (λ (it : ReopeningOutcome). DoesConfirm base cells lost old it new) (confirm_is came does is) does
 
   -- all else changes nothing
-  pub keeps_confirm : (came : ReopeningOutcome) → DoesConfirm base lost old came new → has_counted came ≡ false → new ≡ old
+  pub keeps_confirm : (came : ReopeningOutcome) → DoesConfirm base cells lost old came new → has_counted came ≡ false → new ≡ old
   keeps_confirm outcome.Fenced does is = absurd does
   keeps_confirm outcome.Confirmed does is = absurd (let z = is in cc)
   keeps_confirm outcome.Settled does is = absurd does
@@ -140,3 +140,8 @@ module _ (server : Option (Bor (List ℕ))) (base : ℕ) (old new : ReopeningMod
       AllTook (net_reopening new.ongoing) × (is_some (net_reopening new.ongoing).settlement ≡ true)
   all_took does = (counts_of (DoesSettledOf base) (λ _. AllTook (net_reopening new.ongoing) × (is_some (net_reopening new.ongoing).settlement ≡ true))
       (party_named old.numbering server) old new outcome.Complete (λ _ h. (h.1, h.2)) does refl).2
+
+  -- with any other that counts, not all have
+  pub not_all : DoesSettled server base old outcome.Settled new → AllTook (net_reopening new.ongoing) → ⊥
+  not_all does = (counts_of (DoesSettledOf base) (λ _. AllTook (net_reopening new.ongoing) → ⊥)
+      (party_named old.numbering server) old new outcome.Settled (λ _ h. h.1) does refl).2

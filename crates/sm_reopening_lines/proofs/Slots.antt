@@ -2,7 +2,7 @@
 use Rattle.std.proofs.Common.{◌≡◌, ◌∙◌, ◌⊎◌, ◌↔◌, ◌+◌, ◌<◌, ◌++◌, ◌∷◌, [], ℕ, Bool, true, false, List, Option, Some, None, ap, get_or, inl, inr, length, refl, subst, sym, take}
 use Rattle.std.specs.Prelude.{option_and_then, unwrap_or, if◌then◌else◌, All, is_some}
 use Rattle.std.specs.Option.{option_map_or, option_or}
-use Rattle.std.proofs.lemmas.Bool.{eq-eqb}
+use Rattle.std.proofs.lemmas.Bool.{eq-eqb, ne_eqb}
 use Rattle.std.proofs.lemmas.List.{take_more}
 use Rattle.std.proofs.lemmas.List.Elements.{All-head, All-tail}
 use Rattle.serde_json.specs.Data.{Data}
@@ -10,7 +10,7 @@ use Rattle.json_tree.specs.View.{view}
 use Rattle.json_tree.specs.declared.tree.Tree.{Tree}
 use Rattle.sm_placement.specs.Setup.{Setup, shard_named}
 use Rattle.sm_reopening.specs.Proposal.{is_the}
-use Rattle.sm_network.specs.Reopening.{Entries, Inventory, Server, Slots, Unknown, entered, is_first, Told as ToldAt}
+use Rattle.sm_network.specs.Reopening.{Entries, Inventory, MapOwner, Server, Slots, Unknown, entered, is_first, Told as ToldAt}
 use Rattle.sm_reopening.specs.Ongoing.{net_reopening, position_after, put_position, told_positions}
 use Rattle.sm_reopening.specs.declared.ongoing.OngoingReopening.{OngoingReopening}
 use Rattle.sm_reopening.specs.declared.fencing.FencedEffect.{FencedEffect}
@@ -33,7 +33,7 @@ use Rattle.sm_commands.specs.declared.slots.SlotNeeds.{SlotNeeds}
 use Rattle.sm_commands.specs.declared.slots.SlotNeeds.TheVariants as needs
 use Rattle.sm_commands.specs.declared.slots.SlotText.{SlotText}
 use Rattle.sm_reopening_lines.specs.Slots.{AreSlotsOf, IsCellOf, IsPartyOf, IsSlotOf, IsToldByRow, cell_by, cell_told, is_row_of, is_text_of, last_with, party_told, slot_by, slot_told}
-use Rattle.sm_reopening_lines.specs.Taken.{IsToldAs, ListsSlots, TakesToldBy}
+use Rattle.sm_reopening_lines.specs.Taken.{IsToldAs, KeepsPositions, ListsSlots, TakesToldBy}
 use Rattle.sm_reopening_lines.specs.Told.{HasEachSlot}
 
 -- ---- the last of a list's items
@@ -189,6 +189,33 @@ position_is x y v base inventory first after s =
     ∙ ap (λ b. (if b then put_position (told_positions x) v inventory else told_positions x) s v) first
     ∙ ap (λ b. if b then told_position (Some inventory) s else told_positions x s v) (eq-eqb v v refl)
 
+-- those of all other parties stay, and a server that is Unknown tells none
+pub told_keeps : (x y : OngoingReopening) (v base : ℕ) (inventory : Told) → is_first (net_reopening x) (Server v) base ≡ true →
+    told_positions y ≡ position_after x v base inventory → KeepsPositions (Server v) (net_inventory inventory) (told_positions x) (told_positions y)
+told_keeps x y v base inventory first after = record {
+  others = λ s u apart.
+      ap (λ (f : ℕ → ℕ → ℕ). f s u) after
+      ∙ ap (λ b. (if b then put_position (told_positions x) v inventory else told_positions x) s u) first
+      ∙ ap (λ b. if b then told_position (Some inventory) s else told_positions x s u) (ne_eqb u v (λ e. apart (ap Server (sym e))));
+  unknown = λ s u nonce same is.
+      let e : u ≡ v = one_server v u same in
+      ap (λ w. told_positions y s w) e ∙ position_is x y v base inventory first after s ∙ none s nonce inventory is;
+}
+  where
+    one_server : (a b : ℕ) → Server a ≡ Server b → b ≡ a
+    one_server a b is = cc
+
+    none : (s nonce : ℕ) (i : Told) → net_inventory i ≡ Unknown nonce → told_position (Some i) s ≡ 0
+    none s nonce (told.Unknown n) is = refl
+    none s nonce (told.Slots slots) is = absurd (let z = is in cc)
+
+-- so it is with the map's owner
+pub map_keeps : (inventory : Inventory) (old new : ℕ → ℕ → ℕ) → new ≡ old → KeepsPositions MapOwner inventory old new
+map_keeps inventory old new is = record {
+  others = λ s v apart. ap (λ (f : ℕ → ℕ → ℕ). f s v) is;
+  unknown = λ s v nonce same told. absurd (let z = same in cc);
+}
+
 -- an answer that waits or completes is not old
 pub not_old : (effect : FencedEffect) → (effect ≡ effects.Waiting) ⊎ (effect ≡ effects.Complete) → effect ≡ effects.Old → ⊥
 not_old effect (inl is) old = absurd (let e : effects.Waiting ≡ effects.Old = sym is ∙ old in cc)
@@ -199,13 +226,13 @@ pub takes_told : (told : ToldText) (v base : ℕ) (inventory : Told) (old new : 
     IsToldAs old.numbering told (net_inventory inventory) (told_position (Some inventory)) →
     ((effect ≡ effects.Old) ↔ (is_first (net_reopening old.ongoing) (Server v) base ≡ false)) → (effect ≡ effects.Old → ⊥) →
     net_reopening new.ongoing ≡ entered (ToldAt (Server v) base (net_inventory inventory)) (net_reopening old.ongoing) →
-    told_positions new.ongoing ≡ position_after old.ongoing v base inventory → IsUnder old new → TakesToldBy (Server v) base told old new
-takes_told told v base inventory old new effect is first counts taken positions under =
+    told_positions new.ongoing ≡ position_after old.ongoing v base inventory → IsUnder old new → new.next ≡ old.next → TakesToldBy (Server v) base told old new
+takes_told told v base inventory old new effect is first counts taken positions under next =
     let once = first_time (is_first (net_reopening old.ongoing) (Server v) base) (λ f. counts (first.1 f)) in (
       net_inventory inventory,
       told_still old.numbering new.numbering told (net_inventory inventory) (told_position (Some inventory)) (λ s. told_positions new.ongoing s v) under.numbering
           (position_is old.ongoing new.ongoing v base inventory once positions) is,
-      record { first = once; taken = taken; under = under },
+      record { first = once; taken = taken; positions = told_keeps old.ongoing new.ongoing v base inventory once positions; under = under; next = next },
     )
   where
     first_time : (b : Bool) → (b ≡ false → ⊥) → b ≡ true

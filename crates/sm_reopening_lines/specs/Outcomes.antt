@@ -41,13 +41,13 @@ DoesFencedOf base told party old _ new = ⊥
 
 -- A confirmation of the reopening with this base: what may be is confirmed; or it has another base, or is confirmed already; or the cells are
 -- malformed; or they may not be confirmed, or other shards may be lost than are named.
-abbrev pub DoesConfirm : ℕ → List Tree → ReopeningModel → ReopeningOutcome → ReopeningModel → Type 0
-DoesConfirm base lost old outcome.Confirmed new = ConfirmsAt base lost old new
-DoesConfirm base lost old outcome.Old new =
+abbrev pub DoesConfirm : ℕ → List Tree → List Tree → ReopeningModel → ReopeningOutcome → ReopeningModel → Type 0
+DoesConfirm base cells lost old outcome.Confirmed new = ConfirmsAt base cells lost old new
+DoesConfirm base cells lost old outcome.Old new =
     (base ≡ (net_reopening old.ongoing).base → is_some (net_reopening old.ongoing).settlement ≡ true) × (new ≡ old)
-DoesConfirm base lost old (outcome.Bad _) new = new ≡ old
-DoesConfirm base lost old (outcome.Refused _) new = new ≡ old
-DoesConfirm base lost old _ new = ⊥
+DoesConfirm base cells lost old (outcome.Bad _) new = new ≡ old
+DoesConfirm base cells lost old (outcome.Refused _) new = new ≡ old
+DoesConfirm base cells lost old _ new = ⊥
 
 -- An answer of this party to its settle with this base: it has taken it, and others have not taken theirs, or all have; or no such answer is due.
 abbrev pub DoesSettledOf : ℕ → Party → ReopeningModel → ReopeningOutcome → ReopeningModel → Type 0

@@ -1,42 +1,61 @@
 -- The effects of lines on a reopening.
-use Rattle.std.specs.Prelude.{◌≡◌, ℕ, List, [], Option, Some, None, map, option_and_then, option_map, true, unwrap_or}
+use Rattle.std.specs.Prelude.{◌≡◌, ◌≢◌, ℕ, List, [], Option, Some, None, map, option_and_then, option_map, true, unwrap_or}
 use Rattle.std.specs.Borrow.{Bor}
 use Rattle.json_tree.specs.declared.tree.Tree.{Tree}
+use Rattle.sm_server.specs.declared.call.Role.{Role}
 use Rattle.sm_placement.specs.Setup.{Setup, server_named, shard_named}
 use Rattle.sm_network.specs.Reopening.{Confirm, Entries, Inventory, MapOwner, Party, Server, Settlement, Slots, Told, Took, Unknown, entered, is_first}
 use Rattle.sm_reopening.specs.Faults.{MayConfirm}
 use Rattle.sm_reopening.specs.Ongoing.{net_reopening, told_positions}
 use Rattle.sm_reopening.specs.Settles.{is_due_settle}
-use Rattle.json_tree.specs.View.{view}
+use Rattle.json_tree.specs.View.{items_view, view}
 use Rattle.serde_json.specs.Find.{as_str}
+use Rattle.sm_document_reopening.specs.Confirmed.{KeepsChosen, SettlesChosen}
 use Rattle.sm_document_reopening.specs.Proposal.{NamesLost}
+use Rattle.sm_document_reopening.specs.declared.choice.Choice.{Choice}
 use Rattle.sm_document_reopening.specs.Reopening.{IsUnder, ReopeningModel}
+use Rattle.sm_commands.specs.Choices.{AreChoicesSaid}
+use Rattle.sm_commands.specs.declared.choices.CellChoice.{CellChoice}
+use Rattle.sm_commands.specs.declared.choices.ShardChoice.{ShardChoice}
 use Rattle.sm_commands.specs.declared.command.ToldText.{ToldText}
 use Rattle.sm_commands.specs.declared.command.ToldText.TheVariants as told
 use Rattle.sm_reopening_lines.specs.Slots.{AreSlotsOf}
+
+-- The positions of all other parties stay, and a server that is Unknown tells none.
+pub record KeepsPositions (party : Party) (inventory : Inventory) (old new : ℕ → ℕ → ℕ) : Type 0 where
+  pub others : (s v : ℕ) → party ≢ Server v → new s v ≡ old s v
+  pub unknown : (s v nonce : ℕ) → party ≡ Server v → inventory ≡ Unknown nonce → new s v ≡ 0
 
 -- A party has told what it has, for the first time at the fence with this base.
 pub record TakesToldOf (party : Party) (base : ℕ) (inventory : Inventory) (old new : ReopeningModel) : Type 0 where
   pub first : is_first (net_reopening old.ongoing) party base ≡ true
   pub taken : net_reopening new.ongoing ≡ entered (Told party base inventory) (net_reopening old.ongoing)
+  pub positions : KeepsPositions party inventory (told_positions old.ongoing) (told_positions new.ongoing)
   pub under : IsUnder old new
+  pub next : new.next ≡ old.next
 
 -- some party has told something
 abbrev pub TakesTold : ReopeningModel → ReopeningModel → Type 0
 TakesTold old new = (party : Party) × (base : ℕ) × (inventory : Inventory) × TakesToldOf party base inventory old new
 
--- A settlement is confirmed that may be.
+-- A settlement is confirmed that may be: it is that of the roles that were chosen, and the next driver opens with the same.
 pub record TakesConfirm (old new : ReopeningModel) : Type 0 where
+  pub chosen : List Choice
   pub settlement : Settlement
   pub may : MayConfirm old.ongoing settlement
+  pub settles : SettlesChosen old chosen settlement
   pub taken : net_reopening new.ongoing ≡ entered (Confirm settlement) (net_reopening old.ongoing)
+  pub kept : KeepsChosen old new chosen
+  pub positions : told_positions new.ongoing ≡ told_positions old.ongoing
   pub under : IsUnder old new
 
 -- A party has taken its settle with this base, and has said so for the first time.
 pub record TakesSettledOf (party : Party) (base : ℕ) (old new : ReopeningModel) : Type 0 where
   pub due : is_due_settle (net_reopening old.ongoing) party base ≡ true
   pub taken : net_reopening new.ongoing ≡ entered (Took party base) (net_reopening old.ongoing)
+  pub positions : told_positions new.ongoing ≡ told_positions old.ongoing
   pub under : IsUnder old new
+  pub next : new.next ≡ old.next
 
 -- some party has taken its settle
 abbrev pub TakesSettled : ReopeningModel → ReopeningModel → Type 0
@@ -79,10 +98,28 @@ TakesFenced server base told old new = (party : Party) × (party_named old.numbe
 abbrev pub shard_told : Setup → Tree → ℕ
 shard_told numbering value = unwrap_or (option_and_then (shard_named numbering) (as_str (view value))) 4294967295
 
--- a settlement is confirmed of the reopening with this base, and these values name the shards that may be lost
-abbrev pub ConfirmsAt : ℕ → List Tree → ReopeningModel → ReopeningModel → Type 0
-ConfirmsAt base lost old new =
-    (base ≡ (net_reopening old.ongoing).base) × NamesLost old (map (shard_told old.numbering) lost) × TakesConfirm old new
+-- the shard of a choice, and its replicas
+abbrev pub choice_made : Choice → ℕ × List (ℕ × Role)
+choice_made choice = (choice.shard, choice.replicas.items)
+
+-- the server of a replica, and its role
+abbrev pub replica_said : CellChoice → ℕ × Role
+replica_said cell = (cell.server, cell.role)
+
+-- the shard and the replicas of a choice that was read
+abbrev pub choice_said : ShardChoice → ℕ × List (ℕ × Role)
+choice_said choice = (choice.shard, map replica_said choice.cells.items)
+
+-- the choices are those that values say, by the names of a document
+abbrev pub AreChosen : Setup → List Tree → List Choice → Type 0
+AreChosen config cells chosen = (said : List ShardChoice) × AreChoicesSaid config (items_view cells) said × (map choice_made chosen ≡ map choice_said said)
+
+-- A settlement is confirmed of the reopening with this base. The first values name the roles that were chosen, and the others the shards that may be
+-- lost.
+abbrev pub ConfirmsAt : ℕ → List Tree → List Tree → ReopeningModel → ReopeningModel → Type 0
+ConfirmsAt base cells lost old new =
+    (base ≡ (net_reopening old.ongoing).base) × NamesLost old (map (shard_told old.numbering) lost) × (taken : TakesConfirm old new)
+    × AreChosen old.document.config cells taken.chosen
 
 -- the party that a line names has taken its settle with this base
 abbrev pub TakesSettledBy : Option (Bor (List ℕ)) → ℕ → ReopeningModel → ReopeningModel → Type 0

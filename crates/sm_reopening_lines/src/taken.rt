@@ -1,21 +1,27 @@
 //! The lines that a reopening takes once it has begun.
-ghost use Rattle.std.specs.Prelude.{◌≡◌, IfOk, Some, map, option_map, true};
+ghost use Rattle.std.specs.Prelude.{◌≡◌, IfOk, List, Some, map, option_map, true};
+ghost use Rattle.json_tree.specs.View.{items_view};
+ghost use Rattle.json_tree.specs.declared.tree.Tree.{Tree};
+ghost use Rattle.sm_commands.specs.Choices.{AreChoicesSaid};
 ghost use Rattle.sm_commands.specs.declared.command.ToldText.{ToldText};
 ghost use Rattle.sm_network.specs.Reopening.{MapOwner, Server};
 ghost use Rattle.sm_reopening.specs.States.{fits_told, net_inventory, told_position};
 ghost use Rattle.sm_reopening.specs.Ongoing.{net_reopening, shards_of};
 ghost use Rattle.sm_reopening.specs.Settles.{net_party};
 ghost use Rattle.sm_reopening_lines.specs.Outcomes.{DoesConfirm, DoesFenced, DoesFencedOf, DoesSettled, DoesSettledOf};
-ghost use Rattle.sm_reopening_lines.specs.Taken.{IsToldAs, party_named, shard_told};
+ghost use Rattle.sm_reopening_lines.specs.Taken.{IsToldAs, choice_made, choice_said, party_named};
+ghost use Rattle.sm_reopening_lines.specs.Taken.{replica_said, shard_told};
 
 use crate::outcome::ReopeningOutcome;
 use crate::told::{Told, told_by_slots, told_unknown};
 use json_tree::Tree;
-use sm_commands::{BadLine, ShardChoice, SlotNeeds, ToldText, read_choices, read_slots};
+use sm_commands::{
+    BadLine, CellChoice, ShardChoice, SlotNeeds, ToldText, read_choices, read_slots,
+};
 use sm_document_reopening::{Choice, ConfirmRefusal, DocumentReopening};
 use sm_placement::Config;
 use sm_reopening::{FencedEffect, Party, SettledEffect};
-use sm_server::{ServerId, ShardId};
+use sm_server::{Role, ServerId, ShardId};
 use std::alloc::{AllocError, Global};
 
 /// The party that a line names, if it has a number.
@@ -133,14 +139,24 @@ pub fn take_fenced<'a>(
     }
 }
 
+/// Returns the replicas that were chosen of a shard.
+fn replicas_of(alloc: Global, cells: &[CellChoice]) -> Result<Vec<(ServerId, Role)>, AllocError>
+    ensures { IfOk result (λ replicas. replicas.items ≡ map replica_said cells.now) }
+{
+    let mut replicas = Vec::new(alloc);
+    for cell in cells {
+        replicas.push((cell.server, cell.role))?;
+    }
+    Ok(replicas)
+}
+
 /// Returns what was chosen.
-fn choices_of(alloc: Global, shards: &[ShardChoice]) -> Result<Vec<Choice>, AllocError> {
+fn choices_of(alloc: Global, shards: &[ShardChoice]) -> Result<Vec<Choice>, AllocError>
+    ensures { IfOk result (λ choices. map choice_made choices.items ≡ map choice_said shards.now) }
+{
     let mut choices = Vec::new(alloc);
     for shard in shards {
-        let mut replicas = Vec::new(alloc);
-        for cell in &shard.cells {
-            replicas.push((cell.server, cell.role))?;
-        }
+        let replicas = replicas_of(alloc, &shard.cells)?;
         choices.push(Choice {
             shard: shard.shard,
             replicas,
@@ -182,8 +198,9 @@ fn confirm(
     shards: &[ShardChoice],
     lost: &[Tree<'_>],
 ) -> Result<ReopeningOutcome<'static>, AllocError>
-    ensures { IfOk result (λ came.
-        DoesConfirm (net_reopening reopening.old.ongoing).base lost.now reopening.old came reopening.new) }
+    ensures { IfOk result (λ came. (cells : List Tree)
+        → AreChoicesSaid reopening.old.document.config (items_view cells) shards.now
+        → DoesConfirm (net_reopening reopening.old.ongoing).base cells lost.now reopening.old came reopening.new) }
 {
     let chosen = choices_of(alloc, shards)?;
     let named = shards_told(alloc, reopening.numbering(), lost)?;
@@ -202,7 +219,7 @@ pub fn take_confirm<'a>(
     cells: &[Tree<'a>],
     lost: &[Tree<'a>],
 ) -> Result<ReopeningOutcome<'a>, AllocError>
-    ensures { IfOk result (λ came. DoesConfirm base lost.now reopening.old came reopening.new) }
+    ensures { IfOk result (λ came. DoesConfirm base cells.now lost.now reopening.old came reopening.new) }
 {
     if base != reopening.base() || reopening.is_confirmed() {
         return Ok(ReopeningOutcome::Old);

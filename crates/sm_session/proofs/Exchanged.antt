@@ -136,7 +136,7 @@ comes_changes (line.Reopening (reopening.Reopen document lost journal epoch)) op
 comes_changes (line.Reopening (reopening.Fenced server base told)) opened under (came.Reopening it) new after_it comes is =
     GoesOn comes.0 (fenced_taken server base told under after_it it comes.1 is)
 comes_changes (line.Reopening (reopening.Confirm base cells lost)) opened under (came.Reopening it) new after_it comes is =
-    GoesOn comes.0 (confirm_taken base lost.now under after_it it comes.1 is)
+    GoesOn comes.0 (confirm_taken base cells.now lost.now under after_it it comes.1 is)
 comes_changes (line.Reopening (reopening.Settled server base)) opened under (came.Reopening it) new after_it comes is =
     settled_changes server base opened under new after_it it comes is
 comes_changes (line.Question asked) opened under (came.Answered it) new after_it comes is = absurd (let z = is in cc)
@@ -149,13 +149,14 @@ comes_as_asked (line.Open document journal epoch) opened under (came.Open opens.
 comes_as_asked (line.Open document journal epoch) opened under (came.Open (opens.NotOpened why)) new after_it comes is = absurd (let z = is in cc)
 comes_as_asked (line.Driver command) opened under (came.Driver it) new after_it comes is = drives_as_asked command under after_it it comes.0 opened new comes.1 is
 comes_as_asked (line.Driver command) opened under (came.Closed why) new after_it comes is = absurd (let z = is in cc)
-comes_as_asked (line.Reopening (reopening.Reopen document lost journal epoch)) opened under (came.Reopen reopen.Begun) new after_it comes is = comes.1
+comes_as_asked (line.Reopening (reopening.Reopen document lost journal epoch)) opened under (came.Reopen reopen.Begun) new after_it comes is =
+    (comes.1.0, comes.1.1, comes.1.2, comes.0)
 comes_as_asked (line.Reopening (reopening.Reopen document lost journal epoch)) opened under (came.Reopen (reopen.NotBegun why)) new after_it comes is =
     absurd (let z = is in cc)
 comes_as_asked (line.Reopening (reopening.Fenced server base told)) opened under (came.Reopening it) new after_it comes is =
-    fenced_asked server base told under after_it it comes.1 is
+    (fenced_asked server base told under after_it it comes.1 is, comes.0)
 comes_as_asked (line.Reopening (reopening.Confirm base cells lost)) opened under (came.Reopening it) new after_it comes is =
-    confirm_asked base lost.now under after_it it comes.1 is
+    (confirm_asked base cells.now lost.now under after_it it comes.1 is, comes.0)
 comes_as_asked (line.Reopening (reopening.Settled server base)) opened under (came.Reopening it) new after_it comes is =
     settled_asked server base opened under new after_it it comes is
 comes_as_asked (line.Question asked) opened under (came.Answered it) new after_it comes is = absurd (let z = is in cc)
@@ -176,7 +177,7 @@ comes_keeps (line.Reopening (reopening.Reopen document lost journal epoch)) open
 comes_keeps (line.Reopening (reopening.Fenced server base told)) opened under (came.Reopening it) new after_it comes is =
     (comes.0, fenced_keeps server base told under after_it it comes.1 is)
 comes_keeps (line.Reopening (reopening.Confirm base cells lost)) opened under (came.Reopening it) new after_it comes is =
-    (comes.0, confirm_keeps base lost.now under after_it it comes.1 is)
+    (comes.0, confirm_keeps base cells.now lost.now under after_it it comes.1 is)
 comes_keeps (line.Reopening (reopening.Settled server base)) opened under (came.Reopening it) new after_it comes is =
     settled_keeps server base opened under new after_it it comes is
 comes_keeps (line.Question asked) opened under (came.Answered it) new after_it comes is = (comes.0, comes.1)
@@ -230,7 +231,7 @@ module _ (s : Session) (before after : List Token) where
   comes_tells (line.Reopening (reopening.Fenced server base told)) opened under (came.Reopening it) comes is tells =
       Follows (fenced_tells server base told under s.under_way it s.opened before after comes.1 is tells)
   comes_tells (line.Reopening (reopening.Confirm base cells lost)) opened under (came.Reopening it) comes is tells =
-      Follows (confirm_tells base lost.now under s.under_way it s.opened before after comes.1 is tells)
+      Follows (confirm_tells base cells.now lost.now under s.under_way it s.opened before after comes.1 is tells)
   comes_tells (line.Reopening (reopening.Settled server base)) opened under (came.Reopening it) comes is tells =
       settled_tells server base opened under s.opened s.under_way it comes before after is tells
   comes_tells (line.Question asked) opened under (came.Answered it) comes is told = absurd (let z = is in cc)

@@ -18,7 +18,7 @@ settled_by_line server base old new h = (h.0, base, h.2)
 -- the last one
 pub comes_in_force : (server : Option (Bor (List ℕ))) (base : ℕ) (under after : Option UnderWay) (new : Option Opened) →
     ComesInForceBy (TakesSettledBy server base) under after new → ComesInForce under after new
-comes_in_force server base under after new h = (h.0, by_line (reopening_under_way under) h.0 h.1, h.2, h.3, h.4)
+comes_in_force server base under after new h = (h.0, by_line (reopening_under_way under) h.0 h.1, h.2, h.3, h.4, h.5)
   where
     by_line : (o : Option ReopeningModel) (last : ReopeningModel) → BecomesLast (TakesSettledBy server base) o last → BecomesLast TakesSettled o last
     by_line (Some r) last h = settled_by_line server base r last h

@@ -1,8 +1,12 @@
+pub mod Audits
+pub mod Begins
 pub mod Exchanged
 pub mod Following
 pub mod Found
+pub mod Named
 pub mod Openings
 pub mod Outcomes
 pub mod Reopenings
 pub mod Taken
+pub mod Unknowns
 pub mod Verdicts

@@ -5,6 +5,7 @@ use Rattle.std.proofs.lemmas.Bool.{and_parts}
 use Rattle.std.proofs.lemmas.Slice.Eq.{bytes_eq-Decides}
 use Rattle.json.specs.Token.{Token, key}
 use Rattle.serde_json.specs.Data.{Data}
+use Rattle.json_tree.specs.View.{view}
 use Rattle.sm_placement.specs.Setup.{Setup, server_named, sizes_of}
 use Rattle.sm_machine.specs.Machine.{MachineModel}
 use Rattle.sm_machine.specs.State.{whole_of}
@@ -39,10 +40,12 @@ use Rattle.sm_session.specs.declared.driver_outcome.DriverOutcome.{DriverOutcome
 use Rattle.sm_session.specs.declared.driver_outcome.DriverOutcome.TheVariants as outcome
 use Rattle.sm_session.specs.Answers.{AnswersAgain, TellsGiven}
 use Rattle.sm_session.specs.Asked.{DoesToDriver, SaysPlan}
+use Rattle.sm_session.specs.Begins.{other_plan}
 use Rattle.sm_session.specs.Changes.{Approves, Begins, Changes, Ends, OpensEpoch, Restores, Takes}
 use Rattle.sm_session.specs.Declines.{Bad, Declines, DriverDeclines, Ignored, Refused}
 use Rattle.sm_session.specs.Outcomes.{AnsweredOutcome, BeginOutcome, HasMovedWith, HasOutcome, KnowsServers, StartOutcome, TellsDecline, TellsOutcome, has_changed, ignored_word}
 use Rattle.sm_session.specs.Replies.{TellsChange}
+use Rattle.sm_session.proofs.Begins.{told_not_said, told_same}
 
 -- ---- the outcomes of answers
 
@@ -114,6 +117,7 @@ declines_by : (why : Decline) (before after : List Token) → TellsDecline why b
 declines_by (decline.Ignored why) before after told = Ignored (ignored_word why, told)
 declines_by (decline.NoPlan fault) before after told = Bad (bad.Within PlanMember fault, told)
 declines_by (decline.Unchecked fault) before after told = Refused (shared_refusal (check_refusal fault), told)
+declines_by (decline.OtherPlan name) before after told = Refused (other_plan (string_bytes name), told)
 declines_by (decline.OtherServer at) before after told = Refused told
 declines_by _ before after told = told
 
@@ -197,7 +201,7 @@ kept command r old new (outcome.Up server) h is = absurd (let z = is in cc)
 kept command r old new (outcome.Restored server nonce) h is = absurd (let z = is in cc)
 kept command r old new outcome.NextEpoch h is = absurd (let z = is in cc)
 kept (driver.Begin plan name) r old new (outcome.BegunBefore begun goes_on) h is = h.2
-kept (driver.Begin plan name) r old new (outcome.Declined why) h is = h.1
+kept (driver.Begin plan name) r old new (outcome.Declined why) h is = h.0
 kept (driver.Answered plan stream number) r old new (outcome.Declined why) h is = h.2
 kept (driver.Approve name by) r old new (outcome.ApprovedBefore at) h is = h.2
 kept (driver.Approve name by) r old new (outcome.Declined (decline.OtherServer at)) h is = h.2
@@ -222,9 +226,11 @@ module _ (before after : List Token) where
       TellsOutcome new o before after → AnswersAgain command old r before after
   again (driver.Begin plan name) r old new (outcome.Begun begun) h told = rw h.1 tt
   again (driver.Begin plan name) r old new (outcome.BegunBefore begun goes_on) h told =
-      rw h.0 (told ∙ ap (λ g. before ++ begun_again_members new.driver begun g) h.1
-      ∙ ap (λ (o : Opened). before ++ begun_again_members o.driver begun (not r)) h.2)
-  again (driver.Begin plan name) r old new (outcome.Declined why) h told = rw h.0 tt
+      rw h.0 (told_same old.driver (not r) (view plan.now) name.now begun before after h.3
+      (told ∙ ap (λ g. before ++ begun_again_members new.driver begun g) h.1
+      ∙ ap (λ (o : Opened). before ++ begun_again_members o.driver begun (not r)) h.2))
+  again (driver.Begin plan name) r old new (outcome.Declined why) h told =
+      told_not_said old.driver (not r) (view plan.now) name.now why before after (value_of old.plans name.now) h.1 told
   again (driver.Answered plan stream number) r old new (outcome.Moved id gone) h told = λ none. absurd (let a = h.0 in let b = none in cc)
   again (driver.Answered plan stream number) r old new (outcome.Declined why) h told =
       λ none. subst (λ (w : Decline). TellsDecline w before after) h.1 told
@@ -315,6 +321,6 @@ pub begins_as_said : {E : Type 0} (r : Result DriverOutcome E) (plan : PlanModel
     is_reopening ≡ false → value_of old.plans name ≡ None → SaysPlan old.driver.machine.placement.setup value plan → IsCheckedPlan (record_of old.driver).sizes plan →
     IfOk r (λ o. StartOutcome plan old o new) → IfOk r (λ o. BeginOutcome value name is_reopening old o new)
 begins_as_said (Ok (outcome.Begun begun)) plan value name is_reopening old new free none says checked h = (free, none, (plan, says, checked, h.0, h.1))
-begins_as_said (Ok (outcome.Declined why)) plan value name is_reopening old new free none says checked h = (none, h)
+begins_as_said (Ok (outcome.Declined why)) plan value name is_reopening old new free none says checked h = (h, rw none tt)
 begins_as_said (Ok _) plan value name is_reopening old new free none says checked h = absurd h
 begins_as_said (Err _) plan value name is_reopening old new free none says checked h = tt

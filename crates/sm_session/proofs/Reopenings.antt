@@ -5,14 +5,16 @@ use Rattle.json_tree.specs.declared.tree.Tree.{Tree}
 use Rattle.sm_driver.specs.Driver.{DriverModel}
 use Rattle.sm_commands.specs.declared.command.ToldText.{ToldText}
 use Rattle.sm_open_journal.specs.declared.opened.Opened.{Opened}
+use Rattle.sm_network.specs.ReopeningLaws.{AllTook}
+use Rattle.sm_reopening.specs.Ongoing.{net_reopening}
 use Rattle.sm_document_reopening.specs.Reopening.{ReopeningModel}
 use Rattle.sm_reopening_lines.specs.Outcomes.{DoesConfirm, DoesFenced, DoesSettled, has_counted}
 use Rattle.sm_reopening_lines.specs.Taken.{ConfirmsAt, TakesFenced, TakesSettledBy}
 use Rattle.sm_reopening_lines.specs.declared.outcome.ReopeningOutcome.{ReopeningOutcome}
 use Rattle.sm_reopening_lines.specs.declared.outcome.ReopeningOutcome.TheVariants as outcome
-use Rattle.sm_reopening_lines.proofs.Outcomes.{all_took, counts_confirm, counts_fenced, counts_settled, confirm_is, fenced_is, keeps_confirm, keeps_fenced, keeps_settled, settled_is}
-use Rattle.sm_session.specs.Asked.{StaysUnderWay, texts_among}
-use Rattle.sm_session.specs.Changes.{BecomesLast, BeginsReopening, ComesInForceBy, Follows as GoesOn, HasChanged, HasGoneOn, Opens as InForce, OpensOf, ReopensWithout, driver_of, reopening_under_way}
+use Rattle.sm_reopening_lines.proofs.Outcomes.{all_took, counts_confirm, counts_fenced, counts_settled, confirm_is, fenced_is, keeps_confirm, keeps_fenced, keeps_settled, not_all, settled_is}
+use Rattle.sm_session.specs.Asked.{StaysUnderWay, WaitsUnderWay, texts_among}
+use Rattle.sm_session.specs.Changes.{BecomesLast, BeginsReopening, ComesInForceBy, Follows as GoesOn, HasChanged, HasGoneOn, Opens as InForce, OpensFrom, OpensOf, ReopensWithout, driver_of, reopening_under_way}
 use Rattle.sm_session.specs.Reopenings.{DoesReopen, DoesSettle, DoesUnderWay, TellsReopen, TellsUnderWay, has_begun}
 use Rattle.sm_session.specs.Replies.{Confirmed, Fenced, Follows, Opens, Settled, TellsFences, TellsGoneOn, TellsOn, TellsOpened, TellsReopening}
 use Rattle.sm_session.specs.declared.reopen_line.ReopenLine.{ReopenLine}
@@ -84,25 +86,25 @@ module _ (server : Option (Bor (List ℕ))) (base : ℕ) (told : ToldText) (old 
 
 -- ---- confirmations
 
-module _ (base : ℕ) (lost : List Tree) (old new : Option UnderWay) (came : ReopeningOutcome) where
+module _ (base : ℕ) (cells lost : List Tree) (old new : Option UnderWay) (came : ReopeningOutcome) where
   -- it is the line's
-  pub confirm_asked : DoesUnderWay (DoesConfirm base lost) old came new → has_counted came ≡ true → StaysUnderWay (ConfirmsAt base lost) old new
-  confirm_asked = stays (DoesConfirm base lost) came (ConfirmsAt base lost) old new (λ o n. counts_confirm base lost o n came)
+  pub confirm_asked : DoesUnderWay (DoesConfirm base cells lost) old came new → has_counted came ≡ true → StaysUnderWay (ConfirmsAt base cells lost) old new
+  confirm_asked = stays (DoesConfirm base cells lost) came (ConfirmsAt base cells lost) old new (λ o n. counts_confirm base cells lost o n came)
 
   -- the reopening has gone on
-  pub confirm_taken : DoesUnderWay (DoesConfirm base lost) old came new → has_counted came ≡ true → HasGoneOn old new
-  confirm_taken does is = goes_on (ConfirmsAt base lost) old new (λ o n taken. inr (inl taken.2)) (confirm_asked does is)
+  pub confirm_taken : DoesUnderWay (DoesConfirm base cells lost) old came new → has_counted came ≡ true → HasGoneOn old new
+  confirm_taken does is = goes_on (ConfirmsAt base cells lost) old new (λ o n taken. inr (inl taken.2)) (confirm_asked does is)
 
   -- or nothing has changed
-  pub confirm_keeps : DoesUnderWay (DoesConfirm base lost) old came new → has_counted came ≡ false → new ≡ old
-  confirm_keeps = keeps (DoesConfirm base lost) came old new (λ o n. keeps_confirm base lost o n came)
+  pub confirm_keeps : DoesUnderWay (DoesConfirm base cells lost) old came new → has_counted came ≡ false → new ≡ old
+  confirm_keeps = keeps (DoesConfirm base cells lost) came old new (λ o n. keeps_confirm base cells lost o n came)
 
   -- and what has is told
-  pub confirm_tells : (opened : Option Opened) (before after : List Token) → DoesUnderWay (DoesConfirm base lost) old came new →
+  pub confirm_tells : (opened : Option Opened) (before after : List Token) → DoesUnderWay (DoesConfirm base cells lost) old came new →
       has_counted came ≡ true → TellsUnderWay opened new came before after → TellsGoneOn old new before after
-  confirm_tells opened before after = tells (DoesConfirm base lost) came opened old new before after (λ o n does is tells.
-      Confirmed (counts_confirm base lost o.reopening n.reopening came does is).2
-      (subst (λ (it : ReopeningOutcome). TellsUnderWay opened (Some n) it before after) (confirm_is base lost o.reopening n.reopening came does is) tells))
+  confirm_tells opened before after = tells (DoesConfirm base cells lost) came opened old new before after (λ o n does is tells.
+      Confirmed (counts_confirm base cells lost o.reopening n.reopening came does is).2
+      (subst (λ (it : ReopeningOutcome). TellsUnderWay opened (Some n) it before after) (confirm_is base cells lost o.reopening n.reopening came does is) tells))
 
 -- ---- answers to settles
 
@@ -138,11 +140,24 @@ module _ (server : Option (Bor (List ℕ))) (base : ℕ) (opened : Option Opened
     waits others is = stays (DoesSettled server base) came (TakesSettledBy server base) under after_it (λ o n. counts_settled server base o n came)
         (before_last came others does).0 is
 
+    -- and others have not taken theirs
+    awaits : (came ≡ outcome.Complete → ⊥) → has_counted came ≡ true → WaitsUnderWay (TakesSettledBy server base) under after_it
+    awaits others is = stays (DoesSettled server base) came (λ o n. TakesSettledBy server base o n × (AllTook (net_reopening n.ongoing) → ⊥)) under after_it
+        (λ o n did counts. (
+          counts_settled server base o n came did counts,
+          elim (settled_is server base o n came did counts) [
+            | inl e ↦ not_all server base o n (subst (λ (it : ReopeningOutcome). DoesSettled server base o it n) e did)
+            | inr e ↦ absurd (others e)
+          ],
+        ))
+        (before_last came others does).0 is
+
     -- it is the line's
-    pub settled_asked : has_counted came ≡ true → StaysUnderWay (TakesSettledBy server base) under after_it ⊎ ComesInForceBy (TakesSettledBy server base) under after_it new
+    pub settled_asked : has_counted came ≡ true →
+        (WaitsUnderWay (TakesSettledBy server base) under after_it × (new ≡ opened)) ⊎ ComesInForceBy (TakesSettledBy server base) under after_it new
     settled_asked is = elim (is_last came) [
       | inl e ↦ inr (completes e)
-      | inr others ↦ inl (waits others is)
+      | inr others ↦ inl (awaits others is, (before_last came others does).1)
     ]
 
     -- it has changed the session
@@ -183,8 +198,9 @@ module _ (server : Option (Bor (List ℕ))) (base : ℕ) (opened : Option Opened
 -- the last answer was taken, and what was settled came in force
 pub comes_by_last : (server : Option (Bor (List ℕ))) (base : ℕ) (current : UnderWay) (last : ReopeningModel) (came : ReopeningOutcome) (opened : Option Opened)
     (under : Option UnderWay) (new : Option Opened) (after_it : Option UnderWay) → came ≡ outcome.Complete → Some current ≡ under →
-    DoesSettled server base current.reopening came last → after_it ≡ None → OpensOf last new → DoesSettle server base opened under came new after_it
-comes_by_last server base current last came opened under new after_it is was did none opens =
+    DoesSettled server base current.reopening came last → after_it ≡ None → OpensOf last new → OpensFrom last new →
+    DoesSettle server base opened under came new after_it
+comes_by_last server base current last came opened under new after_it is was did none opens from =
     let does : DoesSettled server base current.reopening outcome.Complete last =
     subst (λ (it : ReopeningOutcome). DoesSettled server base current.reopening it last) is did in
     subst (λ (it : ReopeningOutcome). DoesSettle server base opened under it new after_it) (sym is) (
@@ -194,6 +210,7 @@ comes_by_last server base current last came opened under new after_it is was did
       (all_took server base current.reopening last does).0,
       none,
       opens,
+      from,
     )
 
 -- any other answer was, and the reopening goes on

@@ -4,6 +4,7 @@ use Rattle.std.specs.Prelude.{◌≡◌, ◌<◌, ◌⊎◌, ℕ, Bool, true, fa
 use Rattle.json.specs.Token.{Token}
 use Rattle.serde_json.specs.Data.{Data}
 use Rattle.serde_json.specs.Find.{as_object}
+use Rattle.json_tree.specs.View.{view}
 use Rattle.journal_lines.specs.Objects.{IsObject}
 use Rattle.sm_placement.specs.Setup.{server_named}
 use Rattle.sm_reservation.specs.declared.stream_id.StreamId.{StreamId}
@@ -25,11 +26,11 @@ use Rattle.sm_commands.specs.declared.line_part.LinePart.TheVariants.{Line}
 use Rattle.sm_open_journal.specs.declared.given_permits.GivenAt.{GivenAt}
 use Rattle.sm_open_journal.specs.declared.given_permits.GivenPermit.{GivenPermit}
 use Rattle.sm_open_journal.specs.declared.opened.Opened.{Opened}
-use Rattle.sm_open_journal.specs.Begun.{begun_again_members}
 use Rattle.sm_open_journal.specs.Given.{given_at}
 use Rattle.sm_open_journal.specs.Permits.{given_member}
 use Rattle.sm_open_journal.specs.Restores.{TellsAgain}
 use Rattle.sm_session.specs.Asked.{IsKnownOver, setup_in_force}
+use Rattle.sm_session.specs.Begins.{TellsUnder}
 use Rattle.sm_session.specs.Outcomes.{ignored_word, is_expected, why_ignored}
 use Rattle.sm_session.specs.Questions.{TellsAnswer}
 use Rattle.sm_session.specs.declared.session.Session.{Session}
@@ -37,10 +38,10 @@ use Rattle.sm_session.specs.declared.reading.TheConstants.{MOST_BYTES}
 
 -- ---- names and nonces that come again
 
--- a plan has begun under this name: that it has is told again, with the messages that its streams stand before now
-abbrev pub TellsBegunAgain : Opened → Bool → List ℕ → List Token → List Token → Type 0
-TellsBegunAgain o is_reopening name before after =
-    IfSome (value_of o.plans name) (λ plan. after ≡ before ++ begun_again_members o.driver plan (not is_reopening))
+-- a plan has begun under this name: that it has is told again, or that a value says another one
+abbrev pub TellsBegunAgain : Opened → Bool → Data → List ℕ → List Token → List Token → Type 0
+TellsBegunAgain o is_reopening value name before after =
+    IfSome (value_of o.plans name) (λ plan. TellsUnder o.driver (not is_reopening) value name plan before after)
 
 -- The reply tells what came of a permit that was given under a name. If another server has it, the line is refused.
 pub record TellsGiven (d : DriverModel) (server : List ℕ) (given : GivenPermit) (before after : List Token) : Type 0 where
@@ -71,7 +72,7 @@ TellsIgnored d is_reopening id number before after = is_expected is_reopening d 
 
 -- a command on a journal that is open is told what it was told before, or that it tells nothing new
 abbrev pub AnswersAgain : DriverCommand → Opened → Bool → List Token → List Token → Type 0
-AnswersAgain (driver.Begin _ name) o is_reopening before after = TellsBegunAgain o is_reopening name.now before after
+AnswersAgain (driver.Begin plan name) o is_reopening before after = TellsBegunAgain o is_reopening (view plan.now) name.now before after
 AnswersAgain (driver.Approve server by) o is_reopening before after = TellsApprovedAgain o server.now by.now before after
 AnswersAgain (driver.Restore name nonce) o is_reopening before after = TellsRestoredAgain o name.now nonce before after
 AnswersAgain (driver.Answered plan stream number) o is_reopening before after =

@@ -26,6 +26,8 @@ use Rattle.sm_commands.specs.declared.command.DriverCommand.{DriverCommand}
 use Rattle.sm_commands.specs.declared.command.DriverCommand.TheVariants as driver
 use Rattle.sm_commands.specs.declared.command.ReopeningCommand.TheVariants as reopening
 use Rattle.sm_open_journal.specs.declared.opened.Opened.{Opened}
+use Rattle.sm_network.specs.ReopeningLaws.{AllTook}
+use Rattle.sm_reopening.specs.Ongoing.{net_reopening}
 use Rattle.sm_document_reopening.specs.Reopening.{ReopeningModel}
 use Rattle.sm_reopening_lines.specs.Taken.{ConfirmsAt, TakesFenced, TakesSettledBy}
 use Rattle.sm_session.specs.Changes.{ComesInForceBy, EndsRestart, OpensNext, ReopensWithout}
@@ -97,6 +99,10 @@ abbrev pub StaysUnderWay : (ReopeningModel → ReopeningModel → Type 0) → Op
 StaysUnderWay P (Some old) (Some new) = P old.reopening new.reopening
 StaysUnderWay P old new = ⊥
 
+-- it stays so, and not all parties have taken their settles
+abbrev pub WaitsUnderWay : (ReopeningModel → ReopeningModel → Type 0) → Option UnderWay → Option UnderWay → Type 0
+WaitsUnderWay P = StaysUnderWay (λ old new. P old new × (AllTook (net_reopening new.ongoing) → ⊥))
+
 -- the texts among values
 abbrev pub texts_among : List Tree → List (List ℕ)
 texts_among values = flat_map (λ value. option_map_or (λ text. text ∷ []) (as_str (view value)) []) values
@@ -117,10 +123,12 @@ abbrev pub Does : LineCommand → Option Opened → Option UnderWay → Option O
 Does (line.Open document journal epoch) opened under new after = OpensOver (view document.now) journal epoch opened new
 Does (line.Reopening (reopening.Reopen document lost journal epoch)) opened under new after =
     ReopensWithout (texts_among lost.now) opened under after × IsUnderDocument (view document.now) after × OpensAsNamed journal epoch opened under after
-Does (line.Reopening (reopening.Fenced server base told)) opened under new after = StaysUnderWay (TakesFenced server base told) under after
-Does (line.Reopening (reopening.Confirm base _ lost)) opened under new after = StaysUnderWay (ConfirmsAt base lost.now) under after
+    × (new ≡ opened)
+Does (line.Reopening (reopening.Fenced server base told)) opened under new after = StaysUnderWay (TakesFenced server base told) under after × (new ≡ opened)
+Does (line.Reopening (reopening.Confirm base cells lost)) opened under new after =
+    StaysUnderWay (ConfirmsAt base cells.now lost.now) under after × (new ≡ opened)
 Does (line.Reopening (reopening.Settled server base)) opened under new after =
-    StaysUnderWay (TakesSettledBy server base) under after ⊎ ComesInForceBy (TakesSettledBy server base) under after new
+    (WaitsUnderWay (TakesSettledBy server base) under after × (new ≡ opened)) ⊎ ComesInForceBy (TakesSettledBy server base) under after new
 Does (line.Driver command) opened under new after = StaysOpen (DoesToDriver command) opened new
 Does (line.Question question) opened under new after = ⊥
 

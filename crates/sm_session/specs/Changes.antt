@@ -3,6 +3,7 @@ use Rattle.std.specs.Prelude.{◌≡◌, ◌<◌, ◌⊎◌, ◌+◌, ◌-◌, �
 use Rattle.sm_reservation.specs.declared.stream_id.StreamId.{StreamId}
 use Rattle.sm_placement.specs.Setup.{Setup, Sizes}
 use Rattle.sm_placement.specs.Config.{setup_of}
+use Rattle.sm_placement.specs.Opening.{opened_place}
 use Rattle.sm_placement.specs.Place.{Place}
 use Rattle.sm_placement.specs.Lead.{IsSettled}
 use Rattle.sm_plan_code.specs.Plan.{PlanModel}
@@ -14,9 +15,9 @@ use Rattle.sm_driver.specs.Epochs.{HasOpenedEpoch, epoch_fault}
 use Rattle.sm_open_journal.specs.declared.opened.Opened.{Opened}
 use Rattle.sm_network.specs.Reopening.{Reopening, Settlement}
 use Rattle.sm_network.specs.ReopeningLaws.{AllTook, no_reopening}
-use Rattle.sm_reopening.specs.Ongoing.{net_reopening, recorded_place}
-use Rattle.sm_document_reopening.specs.Begun.{BeginsUnder}
-use Rattle.sm_document_reopening.specs.InForce.{IsInForce}
+use Rattle.sm_reopening.specs.Ongoing.{net_reopening, recorded_place, recorded_setup}
+use Rattle.sm_document_reopening.specs.Begun.{BeginsUnder, HasRecorded, NumbersUnder}
+use Rattle.sm_document_reopening.specs.InForce.{IsInForce, IsOpenedFrom}
 use Rattle.sm_document_reopening.specs.Reopening.{ReopeningModel}
 use Rattle.sm_reopening_lines.specs.Taken.{TakesConfirm, TakesSettled, TakesTold}
 use Rattle.sm_session.specs.declared.under_way.UnderWay.{UnderWay}
@@ -88,20 +89,29 @@ pub record KeepsRecord (journal epoch : ℕ) (place : Place) (permits : List (Op
   pub same_place : recorded_place r.ongoing ≡ place
   pub same_permits : r.permits ≡ permits
 
+-- It numbers what had numbers, over this recorded setup and placement, and nothing is told or confirmed yet.
+pub record BeginsFresh (numbered setup : Setup) (place : Place) (r : ReopeningModel) : Type 0 where
+  pub numbers : NumbersUnder numbered r
+  pub recorded : HasRecorded setup place (length r.numbering.shards) r.ongoing
+  pub unconfirmed : r.next ≡ None
+
 -- a reopening has begun over what a driver has recorded
 pub record BeginsOver (lost : List (List ℕ)) (d : DriverModel) (new : ReopeningModel) : Type 0 where
   pub under : IsBegunOver (no_reopening (length d.machine.placement.setup.servers)) d.machine.placement.setup lost new
   pub record_is : KeepsRecord d.journal d.epoch (record_of d).place d.permits new
+  pub fresh : BeginsFresh d.machine.placement.setup d.machine.placement.setup (record_of d).place new
 
 -- a reopening has begun in place of another
 pub record Replaces (lost : List (List ℕ)) (before new : ReopeningModel) : Type 0 where
   pub under : IsBegunOver (net_reopening before.ongoing) before.numbering lost new
   pub record_is : KeepsRecord before.journal before.epoch (recorded_place before.ongoing) before.permits new
+  pub fresh : BeginsFresh before.numbering (recorded_setup before.ongoing) (recorded_place before.ongoing) new
 
 -- a reopening has begun over nothing that is recorded
 pub record BeginsAnew (lost : List (List ℕ)) (new : ReopeningModel) : Type 0 where
   pub under : IsBegunOver (no_reopening 0) (setup_of [] []) lost new
   pub permits : new.permits ≡ []
+  pub fresh : BeginsFresh (setup_of [] []) (setup_of [] []) (opened_place (record { cells = []; listed = []; down = []; limit = 0 })) new
 
 -- a reopening has begun without these servers: in place of the one under way, over what the driver has recorded, or over nothing
 abbrev pub BeginsReopening : List (List ℕ) → Option DriverModel → Option ReopeningModel → Option ReopeningModel → Type 0
@@ -132,6 +142,11 @@ abbrev pub OpensOf : ReopeningModel → Option Opened → Type 0
 OpensOf r (Some o) = (s : Settlement) → (net_reopening r.ongoing).settlement ≡ Some s → IsInForce r s o.driver
 OpensOf r None = ⊥
 
+-- it came of what the reopening had kept
+abbrev pub OpensFrom : ReopeningModel → Option Opened → Type 0
+OpensFrom r (Some o) = IsOpenedFrom r o.driver
+OpensFrom r None = ⊥
+
 -- this became of the reopening under way
 abbrev pub BecomesLast : (ReopeningModel → ReopeningModel → Type 0) → Option ReopeningModel → ReopeningModel → Type 0
 BecomesLast P (Some r) last = P r last
@@ -141,6 +156,7 @@ BecomesLast P None last = ⊥
 abbrev pub ComesInForceBy : (ReopeningModel → ReopeningModel → Type 0) → Option UnderWay → Option UnderWay → Option Opened → Type 0
 ComesInForceBy P under after new =
     (last : ReopeningModel) × BecomesLast P (reopening_under_way under) last × AllTook (net_reopening last.ongoing) × (after ≡ None) × OpensOf last new
+    × OpensFrom last new
 
 -- the same, whichever party it is
 abbrev pub ComesInForce : Option UnderWay → Option UnderWay → Option Opened → Type 0

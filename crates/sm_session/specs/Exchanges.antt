@@ -95,8 +95,8 @@ ComesTo (line.Reopening (reopening.Reopen document lost journal epoch)) opened u
     (new ≡ opened) × DoesReopen (record { document = document; lost = lost; journal = journal; epoch = epoch }) opened under it after
 ComesTo (line.Reopening (reopening.Fenced server base told)) opened under (came.Reopening it) new after =
     (new ≡ opened) × DoesUnderWay (DoesFenced server base told) under it after
-ComesTo (line.Reopening (reopening.Confirm base _ lost)) opened under (came.Reopening it) new after =
-    (new ≡ opened) × DoesUnderWay (DoesConfirm base lost.now) under it after
+ComesTo (line.Reopening (reopening.Confirm base cells lost)) opened under (came.Reopening it) new after =
+    (new ≡ opened) × DoesUnderWay (DoesConfirm base cells.now lost.now) under it after
 ComesTo (line.Reopening (reopening.Settled server base)) opened under (came.Reopening it) new after = DoesSettle server base opened under it new after
 ComesTo (line.Question asked) opened under (came.Answered it) new after = (new ≡ opened) × (after ≡ under) × (it ≡ asked)
 ComesTo _ opened under _ new after = ⊥

@@ -1,9 +1,11 @@
 pub mod Answers
 pub mod Asked
+pub mod Begins
 pub mod Changes
 pub mod Checks
 pub mod Declines
 pub mod Exchanges
+pub mod Lost
 pub mod Openings
 pub mod Outcomes
 pub mod Questions

@@ -1,6 +1,7 @@
 -- The outcomes of commands on an open journal, and the replies that tell them.
 -- `TellsDecline`, `TellsOutcome`, `KnowsServers`, `StartOutcome` and `HasMovedWith` are internal: you need not read them for the public contracts.
 use Rattle.std.specs.Prelude.{◌≡◌, ◌<◌, ℕ, ◌&&◌, ◌||◌, Bool, true, false, List, ◌++◌, Option, Some, None, IfSome, bytes_eq, codes, if◌then◌else◌, not, string_bytes}
+use Rattle.std.specs.Option.{IsSomeAnd}
 use Rattle.json.specs.Token.{Token}
 use Rattle.serde_json.specs.Data.{Data}
 use Rattle.json_tree.specs.View.{view}
@@ -29,6 +30,7 @@ use Rattle.sm_open_journal.specs.Permits.{approved_member, given_member, opened_
 use Rattle.sm_open_journal.specs.Replies.{gone_on, moved_members, sinces_of}
 use Rattle.sm_open_journal.specs.Restores.{TellsAgain, TellsKept, is_told}
 use Rattle.sm_session.specs.Asked.{SaysPlan}
+use Rattle.sm_session.specs.Begins.{IsNotSaid, kept_plan, other_plan}
 use Rattle.sm_session.specs.Changes.{OpensNext}
 use Rattle.sm_session.specs.Declines.{Declines}
 use Rattle.sm_session.specs.declared.decline.Decline.{Decline}
@@ -50,6 +52,7 @@ abbrev pub TellsDecline : Decline → List Token → List Token → Type 0
 TellsDecline (decline.Ignored why) before after = after ≡ before ++ text_member (codes "ignored") (ignored_word why)
 TellsDecline (decline.NoPlan fault) before after = after ≡ before ++ told_bad (bad.Within PlanMember fault)
 TellsDecline (decline.Unchecked fault) before after = after ≡ before ++ refused_member (shared_refusal (check_refusal fault))
+TellsDecline (decline.OtherPlan name) before after = after ≡ before ++ refused_member (other_plan (string_bytes name))
 TellsDecline (decline.OtherServer at) before after = TellsRefused before after
 TellsDecline _ before after = Declines before after
 
@@ -102,13 +105,16 @@ BeginsPlanAs value begun old new =
     (plan : PlanModel) × SaysPlan old.driver.machine.placement.setup value plan × IsCheckedPlan (record_of old.driver).sizes plan
     × HasBegunPlan plan begun.number old.driver new.driver × (begun ≡ begun_plan new.driver begun.number)
 
--- the plan that a value says has begun; one had begun under this name before; or none had, and none does
+-- the plan that a value says has begun; it had begun under this name before, if it is kept; or neither
 abbrev pub BeginOutcome : Data → List ℕ → Bool → Opened → DriverOutcome → Opened → Type 0
 BeginOutcome value name is_reopening old (outcome.Begun begun) new =
     (is_reopening ≡ false) × (value_of old.plans name ≡ None) × BeginsPlanAs value begun old new
 BeginOutcome value name is_reopening old (outcome.BegunBefore plan goes_on) new =
     (value_of old.plans name ≡ Some plan) × (goes_on ≡ not is_reopening) × (new ≡ old)
-BeginOutcome value name is_reopening old (outcome.Declined why) new = (value_of old.plans name ≡ None) × (new ≡ old)
+    × IfSome (kept_plan old.driver plan) (SaysPlan old.driver.machine.placement.setup value)
+BeginOutcome value name is_reopening old (outcome.Declined why) new =
+    (new ≡ old) × IfSome (value_of old.plans name) (λ begun.
+    IsSomeAnd (kept_plan old.driver begun) (λ kept. IsNotSaid old.driver.machine.placement.setup value name kept why))
 BeginOutcome value name is_reopening old _ new = ⊥
 
 -- ---- answers to orders and publications

@@ -1,19 +1,25 @@
 -- Replies to questions.
-use Rattle.std.specs.Prelude.{◌≡◌, ℕ, List, [], ◌++◌, Option, Some, None, codes, if◌then◌else◌, is_some}
+use Rattle.std.specs.Prelude.{◌≡◌, ℕ, Bool, true, false, List, [], ◌++◌, Option, Some, None, codes, if◌then◌else◌, is_some, nat_lt}
 use Rattle.json.specs.Token.{Token}
 use Rattle.json_tree.specs.View.{view}
+use Rattle.json_tree.specs.declared.tree.Tree.{Tree}
 use Rattle.sm_reservation.specs.declared.stream_id.StreamId.{StreamId}
 use Rattle.sm_driver.specs.Driver.{record_of}
 use Rattle.sm_driver.specs.Orders.{awaiting_of}
 use Rattle.sm_reopening.specs.Ongoing.{net_reopening}
 use Rattle.sm_document_reopening.specs.Reopening.{ReopeningModel}
+use Rattle.sm_commands.specs.BadLines.{told_bad}
 use Rattle.sm_commands.specs.Members.{list_member, name_member, number_member, object_member, text_member}
 use Rattle.sm_commands.specs.Refusals.{TellsRefused}
+use Rattle.sm_commands.specs.Slots.{TellSlots}
+use Rattle.sm_commands.specs.declared.bad_line.BadLine.{BadLine}
 use Rattle.sm_commands.specs.declared.command.FailedAnswer.{FailedAnswer}
 use Rattle.sm_commands.specs.declared.command.PlanQuestion.TheVariants as plans
 use Rattle.sm_commands.specs.declared.command.Question.{Question}
 use Rattle.sm_commands.specs.declared.command.Question.TheVariants as question
+use Rattle.sm_commands.specs.declared.slots.SlotText.{SlotText}
 use Rattle.sm_open_journal.specs.declared.opened.Opened.{Opened}
+use Rattle.sm_open_journal.specs.Audit.{audit_reply, audited_member}
 use Rattle.sm_open_journal.specs.Bits.{bits_member, hexadecimal}
 use Rattle.sm_open_journal.specs.Document.{document_member}
 use Rattle.sm_open_journal.specs.Failed.{failed_member}
@@ -103,10 +109,21 @@ TellsFailed id number answer opened (Some _) before after = after ≡ before ++ 
 TellsFailed id number answer (Some o) None before after = after ≡ before ++ failed_member o.driver id number answer
 TellsFailed id number answer None None before after = TellsRefused before after
 
+-- What an audit tells of rows of slots: the slots that they tell, against what is recorded; or that a row tells none.
+pub data TellsAudit (o : Opened) (server : List ℕ) (place : ℕ) (rows : List Tree) (before after : List Token) : Type 0 where
+  Malformed : (fault : BadLine) → after ≡ before ++ told_bad fault → TellsAudit o server place rows before after
+  Compared : (slots : List SlotText) → TellSlots rows slots → after ≡ before ++ audit_reply o server place slots
+      → TellsAudit o server place rows before after
+
+-- the reply to `audit`, by whether its place is still to come
+abbrev pub TellsUnlessLater : Bool → Option Opened → List ℕ → ℕ → List Tree → List Token → List Token → Type 0
+TellsUnlessLater true opened server place rows before after = after ≡ before ++ audited_member server (codes "later")
+TellsUnlessLater false opened server place rows before after = TellsOf opened (λ o. TellsAudit o server place rows) before after
+
 -- ---- questions
 
--- The reply to a question. What `state`, `audit`, `moves` and `drain` are told is tested alone: the functions of sm_open_journal that write states and
--- audits promise no text, and a plan that is made is written by way of its text.
+-- The reply to a question. What `state`, `moves` and `drain` are told is tested alone: the functions of sm_open_journal that write states promise no
+-- text, and a plan that is made is written by way of its text.
 abbrev pub TellsAnswer : Question → Session → List Token → List Token → Type 0
 TellsAnswer question.Hello s before after = after ≡ before ++ object_member (codes "hello") (hello_members s)
 TellsAnswer question.Orders s before after = after ≡ before ++ all_orders s.opened s.under_way
@@ -121,4 +138,5 @@ TellsAnswer (question.InForce (plans.Failed plan stream number answer)) s before
     TellsFailed (record { plan = plan; stream = stream }) number answer s.opened s.under_way before after
 TellsAnswer (question.InForce (plans.Moves _)) s before after = Unit {0}
 TellsAnswer (question.InForce (plans.Drain _)) s before after = Unit {0}
-TellsAnswer (question.InForce (plans.Audit _ _ _)) s before after = Unit {0}
+TellsAnswer (question.InForce (plans.Audit server place rows)) s before after =
+    TellsUnlessLater (nat_lt s.place place) (journal_in_force s) server.now place rows.now before after

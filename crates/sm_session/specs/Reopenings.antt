@@ -1,12 +1,12 @@
 -- What comes of lines of a reopening to a session, and the replies that tell it.
 -- `TellsNotBegun`, `TellsReopen`, `TellsNotUnderWay` and `TellsUnderWay` are internal: you need not read them for the public contracts.
-use Rattle.std.specs.Prelude.{◌≡◌, ℕ, Bool, true, false, List, ◌++◌, IfSome, Option, Some, None, codes}
+use Rattle.std.specs.Prelude.{◌≡◌, ℕ, Bool, true, false, List, ◌++◌, IfSome, Option, Some, None, codes, string_bytes}
 use Rattle.std.specs.Borrow.{Bor}
 use Rattle.json.specs.Token.{Token}
 use Rattle.json_tree.specs.View.{view}
 use Rattle.sm_commands.specs.Members.{text_member}
 use Rattle.sm_commands.specs.BadLines.{told_bad}
-use Rattle.sm_commands.specs.Refusals.{TellsRefused}
+use Rattle.sm_commands.specs.Refusals.{TellsRefused, refused_member}
 use Rattle.sm_commands.specs.declared.bad_line.BadLine.TheVariants as bad
 use Rattle.sm_commands.specs.declared.command_member.CommandMember.TheVariants as member
 use Rattle.sm_open_journal.specs.declared.opened.Opened.{Opened}
@@ -20,6 +20,7 @@ use Rattle.sm_reopening_lines.specs.declared.outcome.ReopeningOutcome.{Reopening
 use Rattle.sm_reopening_lines.specs.declared.outcome.ReopeningOutcome.TheVariants as outcome
 use Rattle.sm_session.specs.Asked.{IsUnderDocument, OpensAsNamed, texts_among}
 use Rattle.sm_session.specs.Changes.{ComesInForceBy, ReopensWithout}
+use Rattle.sm_session.specs.Lost.{first_unknown_server, numbered, unknown_server}
 use Rattle.sm_session.specs.declared.reopen_outcome.NotBegun.{NotBegun}
 use Rattle.sm_session.specs.declared.reopen_outcome.NotBegun.TheVariants as not_begun
 use Rattle.sm_session.specs.declared.reopen_line.ReopenLine.{ReopenLine}
@@ -34,11 +35,16 @@ abbrev pub has_begun : ReopenOutcome → Bool
 has_begun reopen.Begun = true
 has_begun (reopen.NotBegun _) = false
 
--- A line asks for a reopening: it has begun, under the line's document and without the servers that are lost; or nothing has changed.
+-- the first server that a line says to be lost and nobody knows
+abbrev pub unknown_lost : ReopenLine → Option Opened → Option UnderWay → Option (List ℕ)
+unknown_lost line opened under = first_unknown_server (numbered opened under) (texts_among line.lost.now)
+
+-- A line asks for a reopening: it has begun, under the line's document and without the servers that are lost, which are known; or nothing has
+-- changed.
 abbrev pub DoesReopen : ReopenLine → Option Opened → Option UnderWay → ReopenOutcome → Option UnderWay → Type 0
 DoesReopen line opened under reopen.Begun after =
     ReopensWithout (texts_among line.lost.now) opened under after × IsUnderDocument (view line.document.now) after
-    × OpensAsNamed line.journal line.epoch opened under after
+    × OpensAsNamed line.journal line.epoch opened under after × (unknown_lost line opened under ≡ None)
 DoesReopen line opened under (reopen.NotBegun _) after = after ≡ under
 
 -- this has come of a line to the reopening under way; without one, each line is old
@@ -57,6 +63,7 @@ DoesSettle server base opened under came new after = DoesUnderWay (DoesSettled s
 -- the reply that tells why no reopening has begun
 abbrev pub TellsNotBegun : NotBegun → List Token → List Token → Type 0
 TellsNotBegun (not_begun.Malformed fault) before after = after ≡ before ++ told_bad (bad.Within member.Document fault)
+TellsNotBegun (not_begun.UnknownLost name) before after = after ≡ before ++ refused_member (unknown_server (string_bytes name))
 TellsNotBegun _ before after = TellsRefused before after
 
 -- the reply to a line that asks for a reopening: the fences of the one that has begun, or why none has

@@ -1,11 +1,13 @@
 //! The begin of a plan.
-ghost use Rattle.std.specs.Prelude.{◌≡◌, IfOk, None};
+ghost use Rattle.std.specs.Prelude.{◌≡◌, ◌↔◌, IfNone, IfOk, IfSome, IsTrue, None, Some, length, option_map};
 ghost use Rattle.json_tree.specs.View.{view};
 ghost use Rattle.sm_placement.specs.Setup.{sizes_of};
 ghost use Rattle.sm_names.specs.Names.{value_of};
+ghost use Rattle.sm_plan_code.specs.Plan.{IsKnownPlan};
 ghost use Rattle.sm_verifier.specs.Plan.{IsCheckedPlan};
 ghost use Rattle.sm_open_journal.specs.Begun.{begun_plan};
 ghost use Rattle.sm_session.specs.Asked.{SaysPlan};
+ghost use Rattle.sm_session.specs.Begins.{IsNotSaid, kept_plan};
 ghost use Rattle.sm_session.specs.Outcomes.{BeginOutcome, StartOutcome};
 
 use crate::decline::Decline;
@@ -15,7 +17,89 @@ use crate::standing::Standing;
 use json_tree::Tree;
 use sm_machine::{ReadyPlan, make_ready};
 use sm_open_journal::{BegunPlan, Opened, note_begun};
+use sm_placement::Config;
+use sm_plan_code::Plan;
+use sm_plan_text::{TextFault, read_plan_value, write_plan};
 use std::alloc::{AllocError, Global};
+
+/// The plan that has begun, as it was begun, if it is of the present epoch: those of earlier ones are not kept.
+fn kept_plan(opened: &Opened, begun: BegunPlan) -> Option<&Plan>
+    ensures { option_map (λ plan. plan.now) result ≡ kept_plan opened.now.driver begun }
+{
+    let machine = opened.driver.machine();
+    if begun.epoch == opened.driver.epoch() && u64::from(begun.number) < machine.plan_count() {
+        Some(machine.plan(begun.number))
+    } else {
+        None
+    }
+}
+
+/// Whether two plans over the names of a configuration are the same: if they are written alike.
+fn is_same_plan(
+    alloc: Global,
+    config: &Config,
+    kept: &Plan,
+    said: &Plan,
+) -> Result<bool, AllocError>
+    requires { IsKnownPlan (length config.now.shards) (length config.now.servers) said.now }
+    ensures { IfOk result (λ same. IsTrue same ↔ said.now ≡ kept.now) }
+{
+    if !kept.fits(config) {
+        return Ok(false);
+    }
+    let kept = write_plan(alloc, config, kept)?;
+    let said = write_plan(alloc, config, said)?;
+    Ok(said.as_slice() == kept.as_slice())
+}
+
+/// Why a value does not say the plan that has begun under a name, if it does not.
+fn not_said(
+    opened: &Opened,
+    alloc: Global,
+    value: &Tree<'_>,
+    name: &str,
+    kept: &Plan,
+) -> Result<Option<Decline>, AllocError>
+    ensures said { IfOk result (λ found. IfNone found
+        (SaysPlan opened.now.driver.machine.placement.setup (view value.now) kept.now)) }
+    ensures not_said { IfOk result (λ found. IfSome found (λ why.
+        IsNotSaid opened.now.driver.machine.placement.setup (view value.now) name.now kept.now why)) }
+{
+    let config = opened.driver.machine().config();
+    let said = match read_plan_value(alloc, config, value) {
+        Ok(plan) => plan,
+        Err(TextFault::NoMemory) => return Err(AllocError),
+        Err(fault) => return Ok(Some(Decline::NoPlan(fault))),
+    };
+    if is_same_plan(alloc, config, kept, &said)? {
+        Ok(None)
+    } else {
+        Ok(Some(Decline::OtherPlan(String::from_str(alloc, name)?)))
+    }
+}
+
+/// What comes of a begin under a name under which a plan has begun before.
+fn begun_before(
+    opened: &Opened,
+    at: Standing,
+    alloc: Global,
+    value: &Tree<'_>,
+    name: &str,
+    plan: BegunPlan,
+) -> Result<DriverOutcome, AllocError>
+    requires { value_of opened.now.plans name.now ≡ Some plan }
+    ensures { IfOk result (λ outcome.
+        BeginOutcome (view value.now) name.now at.is_reopening opened.now outcome opened.now) }
+{
+    let goes_on = !at.is_reopening;
+    let Some(kept) = kept_plan(opened, plan) else {
+        return Ok(DriverOutcome::BegunBefore { plan, goes_on });
+    };
+    match not_said(opened, alloc, value, name, kept)? {
+        Some(why) => Ok(DriverOutcome::Declined(why)),
+        None => Ok(DriverOutcome::BegunBefore { plan, goes_on }),
+    }
+}
 
 /// The plan that a value says, ready to begin.
 fn ready(
@@ -92,10 +176,9 @@ pub fn begin(
     ensures { IfOk result (λ outcome.
         BeginOutcome (view value.now) name.now at.is_reopening opened.old outcome opened.new) }
 {
-    // Whoever begins again under the same name is told the same plan.
+    // Whoever begins the same plan again under its name is told so.
     if let Some(plan) = opened.plans.get(name) {
-        let goes_on = !at.is_reopening;
-        return Ok(DriverOutcome::BegunBefore { plan, goes_on });
+        return begun_before(opened, at, alloc, value, name, plan);
     }
     if at.is_reopening {
         return Ok(DriverOutcome::Declined(Decline::Reopening));

@@ -1,6 +1,7 @@
 //! The reasons why nothing comes of commands on an open journal.
-ghost use Rattle.std.specs.Prelude.{◌≡◌, OnOk};
-ghost use Rattle.sm_commands.specs.Refusals.{TellsRefused};
+ghost use Rattle.std.specs.Prelude.{◌≡◌, ◌++◌, OnOk};
+ghost use Rattle.sm_commands.specs.Refusals.{TellsRefused, refused_member};
+ghost use Rattle.sm_session.specs.Begins.{other_plan};
 ghost use Rattle.sm_session.specs.Declines.{Declines};
 ghost use Rattle.sm_session.specs.Outcomes.{TellsDecline, ignored_word};
 
@@ -48,6 +49,8 @@ pub enum Decline {
     Unchecked(Fault),
     /// The plan passed the check, and does not begin now.
     NotBegun(BeginFault),
+    /// Another plan has begun under this name.
+    OtherPlan(String),
     /// No server has the name.
     UnknownServer,
     /// The restart is not approved.
@@ -112,6 +115,13 @@ fn refuse_epoch(
     }
 }
 
+/// Writes that another plan has begun under a name.
+fn refuse_other_plan(writer: &mut Writer, alloc: Global, name: &str) -> Result<(), AllocError>
+    ensures { OnOk result (writer.new.tokens ≡ writer.old.tokens ++ refused_member (other_plan name.now)) }
+{
+    refuse(writer, alloc, "OtherPlan", &[Field::Name("name", name)])
+}
+
 /// Writes that another server's restart was approved under the name of a command.
 fn refuse_other(
     opened: &Opened,
@@ -147,6 +157,7 @@ impl Decline {
             }
             Decline::Unchecked(fault) => refuse_check(writer, alloc, fault),
             Decline::NotBegun(fault) => refuse_begin(writer, alloc, config, *fault),
+            Decline::OtherPlan(name) => refuse_other_plan(writer, alloc, name.as_str()),
             Decline::UnknownServer => {
                 let bad = BadLine::UnknownName(LinePart::Line, CommandMember::Server);
                 tell_bad(writer, alloc, bad)

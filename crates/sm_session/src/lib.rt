@@ -8,6 +8,7 @@ mod changing;
 mod closed;
 mod decline;
 mod driver_outcome;
+mod lost;
 mod next_epoch;
 mod opening;
 mod outcome;

@@ -5,8 +5,9 @@ ghost use Rattle.json_tree.specs.View.{view};
 ghost use Rattle.sm_plan_text.specs.Reading.{read_data, rows_of};
 ghost use Rattle.sm_session.specs.Asked.{texts_among};
 ghost use Rattle.sm_session.specs.Changes.{BeginsReopening, driver_of, reopening_under_way};
-ghost use Rattle.sm_session.specs.Reopenings.{DoesReopen};
+ghost use Rattle.sm_session.specs.Reopenings.{DoesReopen, unknown_lost};
 
+use crate::lost::unknown_lost;
 use crate::reopen_outcome::{NotBegun, ReopenOutcome};
 use crate::under_way::UnderWay;
 use json_tree::Tree;
@@ -157,11 +158,15 @@ fn begun_by(
     ensures under { IfOk result (λ r. read_data (Some (view line.entry.document.now)) ≡ Ok (rows_of r.document)) }
     ensures named { under_way.now ≡ None → opened.now ≡ None
         → IfOk result (λ r. (line.entry.journal ≡ Some r.journal) × (line.entry.epoch ≡ Some r.epoch)) }
+    ensures known { IfOk result (λ _. unknown_lost line.entry opened.now under_way.now ≡ None) }
 {
     let last = last_epoch(opened, under_way);
     let next = next_epoch(last, line.journal, line.epoch)?;
     let document = document_of(alloc, line.document)?;
     let lost = names_in(alloc, line.lost)?;
+    if let Some(name) = unknown_lost(opened, under_way, lost.as_slice()) {
+        return Err(NotBegun::UnknownLost(String::from_str(alloc, name)?));
+    }
     match begun_under(opened, under_way, alloc, document, lost.as_slice(), next) {
         Ok(reopening) => Ok(reopening),
         Err((document, ReopenFault::NoMemory)) => {

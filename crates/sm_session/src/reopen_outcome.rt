@@ -1,9 +1,11 @@
 //! The outcomes of lines that ask for a reopening: what their replies tell.
-ghost use Rattle.std.specs.Prelude.{◌≡◌, OnOk};
+ghost use Rattle.std.specs.Prelude.{◌≡◌, ◌++◌, OnOk};
+ghost use Rattle.sm_commands.specs.Refusals.{refused_member};
+ghost use Rattle.sm_session.specs.Lost.{unknown_server};
 ghost use Rattle.sm_session.specs.Reopenings.{TellsNotBegun, TellsReopen, has_begun};
 
 use crate::under_way::UnderWay;
-use sm_commands::{BadLine, CommandMember, Writer, refuse, write_bad};
+use sm_commands::{BadLine, CommandMember, Field, Writer, refuse, write_bad};
 use sm_document_reopening::ReopenFault;
 use sm_plan_text::{Document, TextFault};
 use sm_reopening_lines::refuse_reopen;
@@ -21,6 +23,8 @@ pub enum NotBegun {
     LastEpoch,
     /// The document is malformed.
     Malformed(TextFault),
+    /// A server of this name is said to be lost, and nobody knows it.
+    UnknownLost(String),
     /// None may begin under the document.
     Refused(Document, ReopenFault),
 }
@@ -42,6 +46,13 @@ impl From<AllocError> for NotBegun {
     }
 }
 
+/// Writes that nobody knows a server.
+fn refuse_unknown(writer: &mut Writer, alloc: Global, name: &str) -> Result<(), AllocError>
+    ensures { OnOk result (writer.new.tokens ≡ writer.old.tokens ++ refused_member (unknown_server name.now)) }
+{
+    refuse(writer, alloc, "UnknownName", &[Field::Name("server", name)])
+}
+
 impl NotBegun {
     /// Writes the reply.
     fn write(&self, alloc: Global, writer: &mut Writer) -> Result<(), AllocError>
@@ -57,6 +68,7 @@ impl NotBegun {
                 alloc,
                 BadLine::Within(CommandMember::Document, *fault),
             ),
+            NotBegun::UnknownLost(name) => refuse_unknown(writer, alloc, name.as_str()),
             NotBegun::Refused(document, fault) => {
                 refuse_reopen(writer, alloc, &document.config, *fault)
             }

@@ -2,7 +2,7 @@
 ghost use Rattle.std.specs.Prelude.{◌≡◌, IfOk, OnOk, is_some, true};
 ghost use Rattle.sm_reopening.specs.Ongoing.{net_reopening};
 ghost use Rattle.sm_reopening_lines.specs.Outcomes.{DoesConfirm, DoesFenced};
-ghost use Rattle.sm_session.specs.Changes.{OpensOf};
+ghost use Rattle.sm_session.specs.Changes.{OpensFrom, OpensOf};
 ghost use Rattle.sm_session.specs.Reopenings.{DoesSettle, DoesUnderWay};
 
 use crate::standing::Standing;
@@ -38,7 +38,8 @@ pub(crate) fn confirm_cells<'a>(
     cells: &[Tree<'a>],
     lost: &[Tree<'a>],
 ) -> Result<ReopeningOutcome<'a>, AllocError>
-    ensures { IfOk result (λ came. DoesUnderWay (DoesConfirm base lost.now) under_way.old came under_way.new) }
+    ensures { IfOk result (λ came.
+        DoesUnderWay (DoesConfirm base cells.now lost.now) under_way.old came under_way.new) }
 {
     match under_way {
         Some(current) => take_confirm(&mut current.reopening, alloc, base, cells, lost),
@@ -54,7 +55,8 @@ fn put_in_force(
     alloc: Global,
 ) -> Result<(), AllocError>
     requires { is_some (net_reopening under_way.reopening.ongoing).settlement ≡ true }
-    ensures { OnOk result (OpensOf under_way.reopening opened.new) }
+    ensures in_force { OnOk result (OpensOf under_way.reopening opened.new) }
+    ensures opened { OnOk result (OpensFrom under_way.reopening opened.new) }
 {
     let UnderWay { reopening } = under_way;
     let log_room = reopening.log_room();

@@ -1,11 +1,12 @@
 //! Replies to questions.
-ghost use Rattle.std.specs.Prelude.{◌≡◌, ◌++◌, OnOk, codes, option_map};
+ghost use Rattle.std.specs.Prelude.{◌≡◌, ◌++◌, OnOk, codes, nat_lt, option_map};
 ghost use Rattle.json_tree.specs.View.{view};
 ghost use Rattle.sm_commands.specs.Members.{object_member};
 ghost use Rattle.sm_commands.specs.Refusals.{TellsRefused};
 ghost use Rattle.sm_commands.specs.declared.command.Question.TheVariants as asked;
 ghost use Rattle.sm_session.specs.Checks.{TellsCheck};
-ghost use Rattle.sm_session.specs.Questions.{TellsAnswer, TellsFailed, TellsOf, journal_in_force};
+ghost use Rattle.sm_session.specs.Questions.{TellsAnswer, TellsAudit, TellsFailed, TellsOf, TellsUnlessLater};
+ghost use Rattle.sm_session.specs.Questions.{journal_in_force};
 ghost use Rattle.sm_session.specs.Questions.{all_orders, orders_reply, present_notices, present_orders};
 ghost use Rattle.sm_session.specs.Questions.{epoch_member, hello_members, journal_member, present_journal};
 ghost use Rattle.sm_session.specs.Questions.{place_members};
@@ -150,7 +151,25 @@ impl Session {
         }
     }
 
-    /// Writes whether the slots of a server, read at a place, are as recorded.
+    /// Writes whether the slots of a server, read at a place that is not to come, are as recorded.
+    fn tell_compared(
+        &self,
+        alloc: Global,
+        server: &str,
+        place: u64,
+        slots: &[Tree<'_>],
+        writer: &mut Writer,
+    ) -> Result<(), AllocError>
+        ensures { OnOk result (TellsOf (journal_in_force self.now) (λ o. TellsAudit o server.now place slots.now)
+            writer.old.tokens writer.new.tokens) }
+    {
+        match self.in_force() {
+            Some(opened) => write_audit_of(opened, alloc, writer, server, place, slots),
+            None => self.refuse_closed(alloc, writer),
+        }
+    }
+
+    /// Writes the same, or that the place is still to come.
     fn tell_audit(
         &self,
         alloc: Global,
@@ -158,16 +177,14 @@ impl Session {
         place: u64,
         slots: &[Tree<'_>],
         writer: &mut Writer,
-    ) -> Result<(), AllocError> {
-        if place > self.place {
-            return write_audited(writer, server, "later");
-        }
-        let Some(opened) = self.in_force() else {
-            return self.refuse_closed(alloc, writer);
-        };
-        match read_slots(alloc, slots, SlotNeeds::Audit)? {
-            Ok(slots) => write_audit(opened, alloc, writer, server, place, slots.as_slice()),
-            Err(bad) => write_bad(writer, alloc, bad),
+    ) -> Result<(), AllocError>
+        ensures { OnOk result (TellsUnlessLater (nat_lt self.now.place place) (journal_in_force self.now) server.now
+            place slots.now writer.old.tokens writer.new.tokens) }
+    {
+        if self.place < place {
+            write_audited(writer, server, "later")
+        } else {
+            self.tell_compared(alloc, server, place, slots, writer)
         }
     }
 
@@ -319,6 +336,23 @@ impl Session {
             Some(current) => current.write_orders(alloc, writer),
             None => self.write_orders_in_force(alloc, writer),
         }
+    }
+}
+
+/// Writes whether the slots that rows tell of a server, read at a place, are as recorded, or that a row tells none.
+fn write_audit_of(
+    opened: &Opened,
+    alloc: Global,
+    writer: &mut Writer,
+    server: &str,
+    place: u64,
+    rows: &[Tree<'_>],
+) -> Result<(), AllocError>
+    ensures { OnOk result (TellsAudit opened.now server.now place rows.now writer.old.tokens writer.new.tokens) }
+{
+    match read_slots(alloc, rows, SlotNeeds::Audit)? {
+        Ok(slots) => write_audit(opened, alloc, writer, server, place, slots.as_slice()),
+        Err(bad) => write_bad(writer, alloc, bad),
     }
 }
 

@@ -27,7 +27,7 @@ pub one_result : {A E : Type 0} (x : Result A E) (a b : A) → x ≡ Ok a → x 
 one_result {A} {E} x a b e f = let z : ◌≡◌ {A = Result A E} (Ok b) (Ok a) = sym f ∙ e in cc
 
 -- texts that differ are not both one text
-apart : {A : Type 0} (a b : List ℕ) → ◌≡◌ {A = Option (List ℕ)} (Some a) (Some b) → bytes_eq a b ≡ false → A
+pub apart : {A : Type 0} (a b : List ℕ) → ◌≡◌ {A = Option (List ℕ)} (Some a) (Some b) → bytes_eq a b ≡ false → A
 apart a b same differ = absurd (let z : true ≡ false = sym ((bytes_eq-Decides a b).1 (one_value (Some b) b a refl (sym same))) ∙ differ in cc)
 
 -- ---- commands

@@ -1,5 +1,6 @@
 -- Entries that two sessions take which are alike.
-use Rattle.std.proofs.Common.{◌≡◌, ◌∙◌, ℕ, Bool, false, List, [], ◌∷◌, Option, Some, None, Ok, ap, length, replicate, subst, subst₂, sym}
+use Rattle.std.proofs.Common.{◌≡◌, ◌∙◌, ℕ, Bool, true, false, true≢false, bytes_eq, List, [], ◌∷◌, Option, Some, None, Ok, ap, length, refl, replicate, subst, subst₂, sym}
+use Rattle.std.specs.Prelude.{◌||◌, codes}
 use Rattle.std.specs.Borrow.{Bor}
 use Rattle.json.specs.Token.{Token}
 use Rattle.serde_json.specs.Data.{Data}
@@ -16,11 +17,16 @@ use Rattle.sm_driver.specs.Driver.{DriverModel}
 use Rattle.sm_driver.specs.Orders.{epoch_base}
 use Rattle.sm_driver.specs.Permits.{opening_permits}
 use Rattle.sm_driver.specs.Restores.{RestoreModel}
-use Rattle.sm_commands.specs.Lines.{Says}
+use Rattle.sm_commands.specs.Ids.{line_id}
+use Rattle.sm_commands.specs.Lines.{Says, command_word}
+use Rattle.sm_commands.specs.Values.{text_at}
+use Rattle.sm_commands.specs.declared.command_member.CommandMember.TheVariants as at
 use Rattle.sm_commands.specs.declared.command.LineCommand.{LineCommand}
 use Rattle.sm_commands.specs.declared.command.LineCommand.TheVariants as line
 use Rattle.sm_commands.specs.declared.command.DriverCommand.{DriverCommand}
 use Rattle.sm_commands.specs.declared.command.DriverCommand.TheVariants as driver
+use Rattle.sm_commands.specs.declared.command.ReopeningCommand.{ReopeningCommand}
+use Rattle.sm_commands.specs.declared.command.ReopeningCommand.TheVariants as reopening
 use Rattle.sm_open_journal.specs.declared.opened.Opened.{Opened}
 use Rattle.sm_session.specs.Asked.{DoesToDriver, DoesToSession, IsOpenedBy, OpensOver, StaysOpen}
 use Rattle.sm_session.specs.Changes.{IsNew, driver_of, reopening_under_way}
@@ -29,6 +35,8 @@ use Rattle.sm_session.specs.declared.session.Session.{Session}
 use Rattle.sm_session_laws.specs.Alike.{AreDriversAlike, AreSessionsAlike, AreUnderAlike, EachSessionAlike}
 use Rattle.sm_session_laws.specs.Replays.{EntriesGoAlike, IsOnJournal, ReplaysAgree, ReplaysStayAlike}
 use Rattle.sm_session_laws.proofs.Commands.{change_alike, one_result, one_value}
+use Rattle.sm_session_laws.proofs.Equivalence.{under_back}
+use Rattle.sm_session_laws.proofs.Lines.{reopening_alike}
 
 -- ---- openings
 
@@ -91,38 +99,72 @@ is_no_opening value document journal epoch (driver.Restarted permit base) one tw
 is_no_opening value document journal epoch (driver.Restore server nonce) one two = absurd (let z = sym one.0 ∙ two.0 in cc)
 is_no_opening value document journal epoch driver.NewEpoch one two = absurd (let z = sym one.0 ∙ two.0 in cc)
 
--- what is open is alike after both
-opened_alike : EachAlike GoAlike → (value : Data) (c k : LineCommand) (a b new next : Session) → IsOnJournal c → IsOnJournal k → Says value c → Says value k → AreSessionsAlike a b →
-    DoesToSession c a new → DoesToSession k b next → AreDriversAlike (driver_of new.opened) (driver_of next.opened)
-opened_alike go value (line.Open document journal epoch) (line.Open document2 journal2 epoch2) a b new next on also one two is x y =
-    opens_alike (view document.now) (view document2.now) journal journal2 epoch epoch2 a.opened b.opened new.opened next.opened
-    (one_value _ _ _ one.1.0 two.1.0) (one_value _ _ _ one.1.1 two.1.1) (one_value _ _ _ one.1.2 two.1.2) x y
-opened_alike go value (line.Driver c) (line.Driver k) a b new next on also one two is x y =
-    takes_alike go value c k a.opened b.opened new.opened next.opened one two is.drivers x y
-opened_alike go value (line.Open document journal epoch) (line.Driver k) a b new next on also one two is x y =
-    absurd (is_no_opening value document journal epoch k one two)
-opened_alike go value (line.Driver c) (line.Open document journal epoch) a b new next on also one two is x y =
-    absurd (is_no_opening value document journal epoch c two one)
-opened_alike go value (line.Reopening c) k a b new next on also one two is x y = absurd on
-opened_alike go value (line.Question c) k a b new next on also one two is x y = absurd on
-opened_alike go value c (line.Reopening k) a b new next on also one two is x y = absurd also
-opened_alike go value c (line.Question k) a b new next on also one two is x y = absurd also
+-- a word is of a reopening
+abbrev is_reopening_word : List ℕ → Bool
+is_reopening_word word =
+    bytes_eq word (codes "reopen") || (bytes_eq word (codes "fenced") || (bytes_eq word (codes "confirm") || bytes_eq word (codes "settled")))
 
--- no reopening is under way after a line on a journal
-none_under : (value : Data) (c : LineCommand) (old new : Session) (members others : List Token) → IsOnJournal c → SessionTells c old new members others → reopening_under_way new.under_way ≡ None
-none_under value (line.Open document journal epoch) old new members others on tells = ap reopening_under_way tells.1
-none_under value (line.Driver command) old new members others on tells = ap reopening_under_way tells.1
-none_under value (line.Reopening command) old new members others on tells = absurd on
-none_under value (line.Question command) old new members others on tells = absurd on
+reopening_word : (c : ReopeningCommand) → is_reopening_word (command_word (line.Reopening c)) ≡ true
+reopening_word (reopening.Reopen document lost journal epoch) = refl
+reopening_word (reopening.Fenced server base told) = refl
+reopening_word (reopening.Confirm base cells lost) = refl
+reopening_word (reopening.Settled server base) = refl
+
+driver_word : (c : DriverCommand) → is_reopening_word (command_word (line.Driver c)) ≡ false
+driver_word (driver.Begin plan name) = refl
+driver_word (driver.Answered plan stream number) = refl
+driver_word (driver.Approve server by) = refl
+driver_word (driver.Restarted permit base) = refl
+driver_word (driver.Restore server nonce) = refl
+driver_word driver.NewEpoch = refl
+
+-- a line of a reopening says no other command
+of_one_kind : (value : Data) (c : ReopeningCommand) (k : LineCommand) → Says value (line.Reopening c) → Says value k → is_reopening_word (command_word k) ≡ false → ⊥
+of_one_kind value c k one two other =
+    let words : command_word k ≡ command_word (line.Reopening c) = one_value (text_at at.Do value) (command_word (line.Reopening c)) (command_word k) one.0 two.0 in
+    true≢false (sym (reopening_word c) ∙ ap is_reopening_word (sym words) ∙ other)
+
+-- no reopening is under way after a line on a journal, so only the drivers are to be alike
+journal_alike : (new next : Session) → AreDriversAlike (driver_of new.opened) (driver_of next.opened) → reopening_under_way new.under_way ≡ None →
+    reopening_under_way next.under_way ≡ None → AreSessionsAlike new next
+journal_alike new next drivers x y = record { drivers = drivers; under = subst₂ AreUnderAlike (sym x) (sym y) tt }
+
+-- what two sessions become is alike
+session_alike : EachAlike GoAlike → (value : Data) (c k : LineCommand) (a b new next : Session) (members others more : List Token) → IsOnJournal c → IsOnJournal k → Says value c →
+    Says value k → AreSessionsAlike a b → AreUnderAlike (reopening_under_way b.under_way) (reopening_under_way a.under_way) → DoesToSession c a new → DoesToSession k b next →
+    SessionTells c a new members others → SessionTells k b next members more → AreSessionsAlike new next
+session_alike go value (line.Open document journal epoch) (line.Open document2 journal2 epoch2) a b new next members others more on also one two is si x y tells told =
+    journal_alike new next
+    (opens_alike (view document.now) (view document2.now) journal journal2 epoch epoch2 a.opened b.opened new.opened next.opened
+    (one_value _ _ _ one.1.0 two.1.0) (one_value _ _ _ one.1.1 two.1.1) (one_value _ _ _ one.1.2 two.1.2) x y)
+    (ap reopening_under_way tells.1) (ap reopening_under_way told.1)
+session_alike go value (line.Driver c) (line.Driver k) a b new next members others more on also one two is si x y tells told =
+    journal_alike new next (takes_alike go value c k a.opened b.opened new.opened next.opened one two is.drivers x y)
+    (ap reopening_under_way tells.1) (ap reopening_under_way told.1)
+session_alike go value (line.Reopening c) (line.Reopening k) a b new next members others more on also one two is si x y tells told =
+    reopening_alike value c k a b new next one two is si x y
+session_alike go value (line.Open document journal epoch) (line.Driver k) a b new next members others more on also one two is si x y tells told =
+    absurd (is_no_opening value document journal epoch k one two)
+session_alike go value (line.Driver c) (line.Open document journal epoch) a b new next members others more on also one two is si x y tells told =
+    absurd (is_no_opening value document journal epoch c two one)
+session_alike go value (line.Reopening c) (line.Open document journal epoch) a b new next members others more on also one two is si x y tells told =
+    absurd (of_one_kind value c (line.Open document journal epoch) one two refl)
+session_alike go value (line.Reopening c) (line.Driver k) a b new next members others more on also one two is si x y tells told =
+    absurd (of_one_kind value c (line.Driver k) one two (driver_word k))
+session_alike go value (line.Open document journal epoch) (line.Reopening k) a b new next members others more on also one two is si x y tells told =
+    absurd (of_one_kind value k (line.Open document journal epoch) two one refl)
+session_alike go value (line.Driver c) (line.Reopening k) a b new next members others more on also one two is si x y tells told =
+    absurd (of_one_kind value k (line.Driver c) two one (driver_word c))
+session_alike go value (line.Question c) k a b new next members others more on also one two is si x y tells told = absurd on
+session_alike go value c (line.Question k) a b new next members others more on also one two is si x y tells told = absurd also
 
 -- Sessions that are alike are alike after the same entry.
 pub entries_go_alike : EachAlike GoAlike → EachSessionAlike EntriesGoAlike
 entries_go_alike go a b is text new next x y =
     let values : y.value ≡ x.value = one_value (data_of text) x.value y.value x.read y.read in
-    record {
-      drivers = opened_alike go x.value x.command y.command a b new next x.on_journal y.on_journal x.says (subst (λ (v : Data). Says v y.command) values y.says) is x.does y.does;
-      under = subst₂ AreUnderAlike (sym (none_under x.value x.command a new _ _ x.on_journal x.tells)) (sym (none_under y.value y.command b next _ _ y.on_journal y.tells)) tt;
-    }
+    session_alike go x.value x.command y.command a b new next (line_id x.value) x.members y.members x.on_journal y.on_journal x.says
+    (subst (λ (v : Data). Says v y.command) values y.says) is (under_back (reopening_under_way a.under_way) (reopening_under_way b.under_way) is.under) x.does y.does x.tells
+    (subst (λ (v : Data). SessionTells y.command b next (line_id v) y.members) values y.tells)
 
 -- ---- lists of entries
 

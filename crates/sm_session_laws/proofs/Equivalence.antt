@@ -2,9 +2,10 @@
 use Rattle.std.proofs.Common.{◌∙◌, Option, Some, None, refl, sym}
 use Rattle.sm_driver.specs.Alike.{AreAlike}
 use Rattle.sm_driver.specs.Driver.{DriverModel}
+use Rattle.sm_reopening.specs.declared.ongoing.OngoingReopening.{OngoingReopening}
 use Rattle.sm_document_reopening.specs.Reopening.{ReopeningModel}
 use Rattle.sm_session.specs.Changes.{driver_of, reopening_under_way}
-use Rattle.sm_session_laws.specs.Alike.{AreDriversAlike, AreReopeningsAlike, AreSessionsAlike, AreUnderAlike, IsEquivalence}
+use Rattle.sm_session_laws.specs.Alike.{AreDriversAlike, AreOngoingAlike, AreReopeningsAlike, AreSessionsAlike, AreUnderAlike, IsEquivalence}
 
 -- ---- drivers
 
@@ -54,47 +55,76 @@ drivers_along (Some d) None q x y = absurd x
 
 -- ---- reopenings
 
+ongoing_itself : (x : OngoingReopening) → AreOngoingAlike x x
+ongoing_itself x = record { reopening = refl; positions = refl; rest = record { left_out = refl; setup = refl; place = refl; shards = refl } }
+
+ongoing_back : (x y : OngoingReopening) → AreOngoingAlike x y → AreOngoingAlike y x
+ongoing_back x y a = record {
+  reopening = sym a.reopening;
+  positions = sym a.positions;
+  rest = record { left_out = sym a.rest.left_out; setup = sym a.rest.setup; place = sym a.rest.place; shards = sym a.rest.shards };
+}
+
+ongoing_along : (x y z : OngoingReopening) → AreOngoingAlike x y → AreOngoingAlike y z → AreOngoingAlike x z
+ongoing_along x y z a b = record {
+  reopening = b.reopening ∙ a.reopening;
+  positions = b.positions ∙ a.positions;
+  rest = record {
+    left_out = b.rest.left_out ∙ a.rest.left_out;
+    setup = b.rest.setup ∙ a.rest.setup;
+    place = b.rest.place ∙ a.rest.place;
+    shards = b.rest.shards ∙ a.rest.shards;
+  };
+}
+
 reopening_itself : (r : ReopeningModel) → AreReopeningsAlike r r
 reopening_itself r = record {
-  reopening = refl;
+  ongoing = ongoing_itself r.ongoing;
   journal = refl;
   epoch = refl;
   document = refl;
   numbering = refl;
   servers = refl;
   shards = refl;
+  roles = refl;
   permits = refl;
+  next = refl;
 }
 
 reopening_back : (r s : ReopeningModel) → AreReopeningsAlike r s → AreReopeningsAlike s r
 reopening_back r s x = record {
-  reopening = sym x.reopening;
+  ongoing = ongoing_back r.ongoing s.ongoing x.ongoing;
   journal = sym x.journal;
   epoch = sym x.epoch;
   document = sym x.document;
   numbering = sym x.numbering;
   servers = sym x.servers;
   shards = sym x.shards;
+  roles = sym x.roles;
   permits = sym x.permits;
+  next = sym x.next;
 }
 
 reopening_along : (r s t : ReopeningModel) → AreReopeningsAlike r s → AreReopeningsAlike s t → AreReopeningsAlike r t
 reopening_along r s t x y = record {
-  reopening = y.reopening ∙ x.reopening;
+  ongoing = ongoing_along r.ongoing s.ongoing t.ongoing x.ongoing y.ongoing;
   journal = y.journal ∙ x.journal;
   epoch = y.epoch ∙ x.epoch;
   document = y.document ∙ x.document;
   numbering = y.numbering ∙ x.numbering;
   servers = y.servers ∙ x.servers;
   shards = y.shards ∙ x.shards;
+  roles = y.roles ∙ x.roles;
   permits = y.permits ∙ x.permits;
+  next = y.next ∙ x.next;
 }
 
 under_itself : (r : Option ReopeningModel) → AreUnderAlike r r
 under_itself None = tt
 under_itself (Some r) = reopening_itself r
 
-under_back : (r s : Option ReopeningModel) → AreUnderAlike r s → AreUnderAlike s r
+-- being alike goes both ways
+pub under_back : (r s : Option ReopeningModel) → AreUnderAlike r s → AreUnderAlike s r
 under_back None None x = tt
 under_back (Some r) (Some s) x = reopening_back r s x
 under_back None (Some s) x = absurd x

@@ -1,6 +1,11 @@
 mod Commands
 mod Entries
 mod Equivalence
+mod Force
+mod Lines
+mod Numbered
+mod Ongoing
 mod Plays
 mod Reopenings
+mod Said
 mod Turns

@@ -4,6 +4,7 @@ use Rattle.std.specs.Borrow.{Bor}
 use Rattle.json.specs.Token.{Token}
 use Rattle.serde_json.specs.Data.{Data}
 use Rattle.json_tree.specs.View.{items_view}
+use Rattle.json_tree.specs.declared.tree.Tree.{Tree}
 use Rattle.sm_plan_text.specs.Reading.{data_of}
 use Rattle.sm_commands.specs.Ids.{line_id}
 use Rattle.sm_commands.specs.Lines.{Says}
@@ -12,22 +13,21 @@ use Rattle.sm_commands.specs.declared.command.LineCommand.TheVariants as line
 use Rattle.sm_commands.specs.declared.command.ToldText.{ToldText}
 use Rattle.sm_commands.specs.declared.command.ToldText.TheVariants as told
 use Rattle.sm_document_reopening.specs.Reopening.{ReopeningModel}
-use Rattle.sm_reopening_lines.specs.Taken.{TakesFenced, TakesSettledBy}
+use Rattle.sm_reopening_lines.specs.Taken.{ConfirmsAt, TakesFenced, TakesSettledBy}
 use Rattle.sm_session.specs.Asked.{DoesToSession}
 use Rattle.sm_session.specs.Changes.{IsNew}
 use Rattle.sm_session.specs.Replies.{SessionTells}
 use Rattle.sm_session.specs.declared.session.Session.{Session}
 use Rattle.sm_session_laws.specs.Alike.{AreReopeningsAlike, AreSessionsAlike}
 
--- ---- entries on a journal
+-- ---- entries
 
--- a command is on a journal: it opens one, or is for the driver of one
+-- a command is no question: it may change something
 abbrev pub IsOnJournal : LineCommand → Type 0
-IsOnJournal (line.Open _ _ _) = Unit {0}
-IsOnJournal (line.Driver _) = Unit {0}
-IsOnJournal _ = ⊥
+IsOnJournal (line.Question _) = ⊥
+IsOnJournal _ = Unit {0}
 
--- A session took a line on a journal, and did what it asks for: the line is an entry. This is what a replay of a changing line promises.
+-- A session took a line that is no question, and did what it asks for: the line is an entry. This is what a replay of a changing line promises.
 pub record TakesEntry (text : List ℕ) (old new : Session) : Type 0 where
   pub value : Data
   pub read : data_of text ≡ Some value
@@ -68,10 +68,12 @@ IsSameTold (told.Slots rows) (told.Slots others) = items_view others.now ≡ ite
 IsSameTold (told.Unknown nonce) (told.Unknown other) = other ≡ nonce
 IsSameTold _ _ = ⊥
 
--- Two reopenings take the same answer to a fence, or the same answer to a settle: they are alike afterwards.
+-- Two reopenings take the same answer to a fence, the same confirmation, or the same answer to a settle: they are alike afterwards.
 pub record ReopeningsGoAlike (r s : ReopeningModel) : Type 0 where
   pub fenced : (server other : Option (Bor (List ℕ))) (base : ℕ) (tells also : ToldText) (new next : ReopeningModel) → IsSameName server other →
       IsSameTold tells also → TakesFenced server base tells r new → TakesFenced other base also s next → AreReopeningsAlike new next
+  pub confirmed : (base : ℕ) (cells lost others more : List Tree) (new next : ReopeningModel) → items_view others ≡ items_view cells →
+      ConfirmsAt base cells lost r new → ConfirmsAt base others more s next → AreReopeningsAlike new next
   pub settled : (server other : Option (Bor (List ℕ))) (base : ℕ) (new next : ReopeningModel) → IsSameName server other → TakesSettledBy server base r new →
       TakesSettledBy other base s next → AreReopeningsAlike new next
 

@@ -7,6 +7,6 @@ mod replays;
 
 pub use law::{changes_are_commands, changes_are_turns};
 pub use replays::{
-    alike_is_equivalence, entries_go_alike, next_epoch_is_an_entry, reopenings_go_alike,
-    replays_agree, replays_stay_alike,
+    alike_is_equivalence, answer_is_an_entry, entries_go_alike, next_epoch_is_an_entry,
+    reopenings_go_alike, replays_agree, replays_stay_alike,
 };

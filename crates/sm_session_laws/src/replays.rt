@@ -1,6 +1,6 @@
 //! Sessions that take the same entries.
 ghost use Rattle.sm_session_laws.specs.Alike.{AreSessionsAlike, EachSessionAlike, IsEquivalence};
-ghost use Rattle.sm_session_laws.specs.Plays.{NextEpochIsAnEntry};
+ghost use Rattle.sm_session_laws.specs.Plays.{AnswerIsAnEntry, NextEpochIsAnEntry};
 ghost use Rattle.sm_session_laws.specs.Replays.{EachReopeningAlike, EntriesGoAlike, ReopeningsGoAlike, ReplaysAgree};
 ghost use Rattle.sm_session_laws.specs.Replays.{ReplaysStayAlike};
 
@@ -11,29 +11,30 @@ pub fn alike_is_equivalence()
     ensures { IsEquivalence AreSessionsAlike }
 {}
 
-/// States that if two sessions are alike, and take the same entry that opens a journal or is for the driver of one,
-/// they are alike again.
+/// States that if two sessions are alike, and take the same entry, they are alike again. An entry is a line that is no
+/// question.
 pub fn entries_go_alike()
     ensures { EachSessionAlike EntriesGoAlike }
 {
     drivers_go_alike();
 }
 
-/// States the same of lists of such entries.
+/// States the same of lists of entries.
 pub fn replays_stay_alike()
     ensures { EachSessionAlike ReplaysStayAlike }
 {
     entries_go_alike();
 }
 
-/// States that sessions that begin with nothing, and take the same such entries, are alike.
+/// States that sessions that begin with nothing, and take the same entries, are alike.
 pub fn replays_agree()
     ensures { ReplaysAgree }
 {
     replays_stay_alike();
 }
 
-/// States that if two reopenings are alike, and take the same answer to a fence or to a settle, they are alike again.
+/// States that if two reopenings are alike, and take the same answer to a fence, the same confirmation, or the same
+/// answer to a settle, they are alike again.
 pub fn reopenings_go_alike()
     ensures { EachReopeningAlike ReopeningsGoAlike }
 {}
@@ -42,4 +43,10 @@ pub fn reopenings_go_alike()
 /// for it can be an entry.
 pub fn next_epoch_is_an_entry()
     ensures { NextEpochIsAnEntry }
+{}
+
+/// States the same of a line of a reopening: whenever a reopening can take an answer to a fence, the line that says it
+/// can be an entry.
+pub fn answer_is_an_entry()
+    ensures { AnswerIsAnEntry }
 {}

@@ -1,7 +1,7 @@
 -- All that is numbered takes part.
 use Rattle.std.proofs.Common.{◌∙◌, arith, length, map, subst}
 use Rattle.sm_network.specs.ReopeningLaws.{no_reopening}
-use Rattle.sm_document_reopening.specs.Begun.{IsGround}
+use Rattle.sm_document_reopening.specs.Begun.{IsGround, IsNumberedGround}
 use Rattle.sm_document_reopening.proofs.Begun.{begun_all, begun_over, members_count}
 use Rattle.sm_document_reopening.proofs.Numbers.{keeps_servers, keeps_shards}
 use Rattle.sm_document_reopening.proofs.beginning.begin_over.Goals as goal
@@ -39,3 +39,16 @@ returns-clause-over c =
     let ground = subst (λ s. IsGround s c.args.document.now.config g) c.config.ensures.setup c.in_ok-ground.ensures.ground in
     begun_over c.args.placement.now.setup c.args.document.now.config (map (λ n. n.now) c.args.lost.now) c.deref.result.now c.args.epoch g c.in_ok-ongoing.ongoing
     (no_reopening (length c.args.placement.now.setup.servers)) ground (c.deref.ensures.value ∙ c.in_ok-ground.ensures.members) c.in_ok-ongoing.ensures.reopening c.in_ok-ongoing.ensures.left_out
+
+pub returns-clause-numbered : goal.returns-clause-numbered
+returns-clause-numbered c =
+    let g = c.in_ok-ground.ground in
+    subst (λ s. IsNumberedGround s c.args.document.now.config c.args.document.now.cells.items g) c.config.ensures.setup c.in_ok-ground.ensures.numbered
+
+pub returns-clause-recorded : goal.returns-clause-recorded
+returns-clause-recorded c = record {
+  setup = c.in_ok-ongoing.ensures.setup;
+  place = c.in_ok-ongoing.ensures.place;
+  shards = c.in_ok-ongoing.ensures.shards ∙ c.shard_count-shards.ensures.count;
+  positions = c.in_ok-ongoing.ensures.positions;
+}

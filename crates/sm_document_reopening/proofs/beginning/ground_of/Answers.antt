@@ -1,7 +1,8 @@
 -- The configuration has the names that were numbered.
-use Rattle.std.proofs.Common.{◌≡◌, ◌∙◌, ap, slice_get, subst, sym}
-use Rattle.sm_placement.specs.Config.{server_names, shard_names}
-use Rattle.sm_placement.specs.Setup.{names_of_servers, names_of_shards}
+use Rattle.std.proofs.Common.{◌≡◌, ◌∙◌, ℕ, List, ap, ap₂, map, slice_get, subst, sym}
+use Rattle.sm_placement.specs.Config.{server_names, server_row, shard_names, shard_row}
+use Rattle.sm_placement.specs.Setup.{ServerRow, Setup, ShardRow, names_of_servers, names_of_shards}
+use Rattle.sm_document_reopening.specs.Begun.{roles_by}
 use Rattle.sm_document_reopening.specs.Numbers.{AreNumbered}
 use Rattle.sm_document_reopening.proofs.beginning.ground_of.Goals as goal
 
@@ -14,4 +15,17 @@ returns-clause-ground c =
       shards = λ k name h. ap (λ xs. slice_get xs k) shards ∙ c.in_ok-shards.ensures.kept k name h;
       named_servers = subst (λ xs. AreNumbered xs c.in_ok-servers.servers.numbers.items (names_of_servers c.args.document.now.config)) (sym servers) c.in_ok-servers.ensures.numbered;
       named_shards = subst (λ xs. AreNumbered xs c.in_ok-shards.shards.numbers.items (names_of_shards c.args.document.now.config)) (sym shards) c.in_ok-shards.ensures.numbered;
+    }
+
+pub returns-clause-numbered : goal.returns-clause-numbered
+returns-clause-numbered c =
+    let rows : List ServerRow → List ShardRow → Setup = λ vs ks. record { servers = vs; shards = ks } in
+    let cells = c.args.document.now.cells.items in
+    record {
+      numbering = c.in-Ok.ensures.ok
+          ∙ ap₂ rows (ap (map server_row) c.deref.ensures.value ∙ c.in_ok-servers.ensures.rows) (ap (map shard_row) c.deref-2.ensures.value ∙ c.in_ok-shards.ensures.rows);
+      apart = c.in_ok-documented.ensures.apart;
+      roles = c.in_ok-documented.ensures.roles
+          ∙ ap₂ (λ (ks vs : List ℕ). roles_by c.in-Ok.numbering ks vs cells) c.deref-3.ensures.value c.deref-4.ensures.value;
+      width = c.in_ok-documented.ensures.width;
     }

@@ -2,7 +2,7 @@ use Rattle.std.proofs.Common.{◌≡◌, ◌++◌, length}
 use Rattle.sm_open_journal.specs.Copies.{good_tokens}
 use Rattle.sm_open_journal.proofs.copying.copy_tokens.Given as goal
 
--- What is written, with what is to come, is all of it.
+-- The tokens so far, and the good ones that are left to copy, are those that were there before, and all good ones.
 abbrev pub invariant-tokens : goal.invariant-tokens
 invariant-tokens l = l.writer.tokens ++ good_tokens l.reader ≡ l.initial.writer.tokens ++ good_tokens l.initial.reader
 

@@ -11,4 +11,4 @@ returns-in-Waiting c =
     let inventory = c.in-Ok.field-0.inventory in
     let said : IsToldAs old.numbering c.args.told (net_inventory inventory) (told_position (Some inventory)) = search rules in
     let is = c.in_ok-fenced-in-Ok.ensures in
-    takes_told c.args.told c.args.server c.args.base inventory old c.fenced.new.self _ said is.old (not_old _ c.in-Waiting.is) is.reopening is.positions is.under
+    takes_told c.args.told c.args.server c.args.base inventory old c.fenced.new.self _ said is.old (not_old _ c.in-Waiting.is) is.reopening is.positions is.under is.next

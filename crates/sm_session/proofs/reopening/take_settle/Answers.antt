@@ -1,7 +1,7 @@
 -- The last settle brings what was settled into force. With any other the reopening stays under way.
 use Rattle.std.proofs.Common.{◌≡◌, ◌∙◌, Some, arith, rules, subst, sym}
 use Rattle.sm_reopening_lines.specs.declared.outcome.ReopeningOutcome.TheVariants as outcome
-use Rattle.sm_session.specs.Changes.{OpensOf}
+use Rattle.sm_session.specs.Changes.{OpensFrom, OpensOf}
 use Rattle.sm_session.proofs.Reopenings.{comes_by_last, goes_on_by}
 use Rattle.sm_session.proofs.reopening.take_settle.Goals.{in-Complete+in_ok-put_in_force-in-Complete, in-Fenced+in-Some-1, in-Fenced+in-None-1}
 use Rattle.sm_session.proofs.reopening.take_settle.Goals as goal
@@ -13,7 +13,8 @@ returns c =
       | in-Complete+in_ok-put_in_force-in-Complete w ↦
           comes_by_last c.args.server c.args.base c.in-Some.current c.take_settled-came.new.reopening c.take_settled-came.result _ _ _ _
           w.in-Complete.is was c.take_settled-came.ensures (w.under_way-is ∙ c.take.ensures.after)
-          (subst (OpensOf c.take_settled-came.new.reopening) (sym w.opened-is) w.in_ok-put_in_force-in-Complete.ensures)
+          (subst (OpensOf c.take_settled-came.new.reopening) (sym w.opened-is) w.in_ok-put_in_force-in-Complete.ensures.in_force)
+          (subst (OpensFrom c.take_settled-came.new.reopening) (sym w.opened-is) w.in_ok-put_in_force-in-Complete.ensures.opened)
       | in-Fenced+in-Some-1 w ↦
           goes_on_by c.args.server c.args.base c.in-Some.current c.take_settled-came.new.reopening c.take_settled-came.result _ _ _ _
           (λ e. first_of (search (rules, e, w.in-Fenced.is), grind (arith, e, w.in-Fenced.is))) was c.take_settled-came.ensures w.under_way-is w.opened-is

@@ -1,8 +1,10 @@
 -- One choice after the other counts.
-use Rattle.std.proofs.Common.{◌∙◌, ap, arith}
+use Rattle.std.proofs.Common.{◌∙◌, ap, arith, length, take_all}
 use Rattle.sm_document_reopening.specs.Reopening.{ReopeningModel}
 use Rattle.sm_document_reopening.specs.RoleGrids.{role_at}
+use Rattle.sm_document_reopening.specs.Chosen.{chosen_role}
 use Rattle.sm_document_reopening.proofs.Chosen.{chosen_step}
+use Rattle.sm_document_reopening.proofs.Settled.{roles_kept}
 use Rattle.sm_document_reopening.proofs.reopening.DocumentReopening.chosen_roles.Goals as goal
 
 pub loop-choice-preserved : goal.loop-choice-preserved
@@ -17,3 +19,10 @@ loop-choice-preserved c = record {
       (c.loop-choice.invariant.roles s v k l)
       (c.choose.ensures.roles s v (omega (arith, k, c.loop-choice.invariant.shards)) (omega (arith, l, c.loop-choice.invariant.servers)));
 }
+
+pub returns-clause-all : goal.returns-clause-all
+returns-clause-all c =
+    let r = c.args.self.now in
+    roles_kept c.loop-choice.roles (length r.numbering.shards) (length r.numbering.servers) (chosen_role r c.args.chosen.now)
+    c.loop-choice.invariant.shards c.loop-choice.invariant.servers
+    (λ s v k l. c.loop-choice.invariant.roles s v k l ∙ ap (λ xs. chosen_role r xs s v) (take_all c.loop-choice.choice-index c.args.chosen.now c.loop-choice-test.false))

@@ -21,5 +21,11 @@ invariant_of-self c =
 
 pub returns-in-Ok-clause-confirmed : goal.returns-in-Ok-clause-confirmed
 returns-in-Ok-clause-confirmed c =
-    let s : Settlement = record { setup = c.args.settlement.setup; place = place_of c.args.settlement; room = c.self.inside.document.log } in
-    (s, subst (λ (r : ReopeningModel). MayConfirm r.ongoing s) c.self.view_is c.in-Ok.ensures.may, c.in-Ok.ensures.reopening ∙ ap (λ (r : ReopeningModel). entered (Confirm s) (net_reopening r.ongoing)) c.self.view_is, refl)
+    let s : Settlement = record { setup = c.args.settlement.setup; place = place_of c.args.settlement; room = c.self.inside.document.log } in (
+      s,
+      subst (λ (r : ReopeningModel). MayConfirm r.ongoing s) c.self.view_is c.in-Ok.ensures.may,
+      c.in-Ok.ensures.reopening ∙ ap (λ (r : ReopeningModel). entered (Confirm s) (net_reopening r.ongoing)) c.self.view_is,
+      refl,
+      refl,
+      ap (λ (r : ReopeningModel). r.document.log) c.self.view_is,
+    )

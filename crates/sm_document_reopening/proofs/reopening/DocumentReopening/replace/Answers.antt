@@ -14,3 +14,6 @@ returns-in-Ok-clause-over c =
     let lost : List (List ℕ) = map (λ n. n.now) c.args.lost.now in
     subst (λ o. BeginsUnder (net_reopening c.args.self.now.ongoing) c.args.self.now.numbering c.args.document.config c.new.result.numbering lost c.args.epoch o) (sym c.new.ensures.ongoing)
     (subst (λ n. BeginsUnder (net_reopening c.args.self.now.ongoing) c.args.self.now.numbering c.args.document.config n lost c.args.epoch c.in-Ok.begun.ongoing) (sym c.new.ensures.numbering) c.in-Ok.ensures.over)
+
+pub returns-in-Ok-clause-numbered : goal.returns-in-Ok-clause-numbered
+returns-in-Ok-clause-numbered c = c.new.ensures.numbered c.args.self.now.numbering c.in-Ok.ensures.numbered

@@ -1,7 +1,7 @@
 -- All that is numbered takes part.
-use Rattle.std.proofs.Common.{◌∙◌, List, ℕ, arith, map, subst}
-use Rattle.sm_reopening.specs.Ongoing.{net_reopening}
-use Rattle.sm_document_reopening.specs.Begun.{BeginsUnder}
+use Rattle.std.proofs.Common.{◌∙◌, List, ℕ, ap, arith, map, subst}
+use Rattle.sm_reopening.specs.Ongoing.{net_reopening, recorded_place, recorded_setup}
+use Rattle.sm_document_reopening.specs.Begun.{BeginsUnder, IsNumberedGround}
 use Rattle.sm_document_reopening.specs.Reopening.{ReopeningModel}
 use Rattle.sm_document_reopening.proofs.Begun.{begun_all, begun_over, members_count}
 use Rattle.sm_document_reopening.proofs.Numbers.{keeps_servers, keeps_shards}
@@ -37,3 +37,16 @@ returns-clause-over c =
     subst (λ (r : ReopeningModel). BeginsUnder (net_reopening r.ongoing) r.numbering c.args.document.now.config g.numbering lost c.args.epoch c.in_ok-ongoing.ongoing) c.self.view_is
     (begun_over c.self.inside.numbering c.args.document.now.config lost c.deref.result.now c.args.epoch g c.in_ok-ongoing.ongoing (net_reopening c.self.inside.ongoing)
     c.in_ok-ground.ensures.ground (c.deref.ensures.value ∙ c.in_ok-ground.ensures.members) c.in_ok-ongoing.ensures.reopening c.in_ok-ongoing.ensures.left_out)
+
+pub returns-clause-numbered : goal.returns-clause-numbered
+returns-clause-numbered c =
+    let g = c.in_ok-ground.ground in
+    subst (λ (r : ReopeningModel). IsNumberedGround r.numbering c.args.document.now.config c.args.document.now.cells.items g) c.self.view_is c.in_ok-ground.ensures.numbered
+
+pub returns-clause-recorded : goal.returns-clause-recorded
+returns-clause-recorded c = record {
+  setup = c.in_ok-ongoing.ensures.setup ∙ ap (λ (r : ReopeningModel). recorded_setup r.ongoing) c.self.view_is;
+  place = c.in_ok-ongoing.ensures.place ∙ ap (λ (r : ReopeningModel). recorded_place r.ongoing) c.self.view_is;
+  shards = c.in_ok-ongoing.ensures.shards ∙ c.shard_count-shards.ensures.count;
+  positions = c.in_ok-ongoing.ensures.positions;
+}

@@ -1,6 +1,12 @@
-use Rattle.std.proofs.Common.{◌≤◌}
+use Rattle.std.proofs.Common.{◌≡◌, ◌≤◌}
+use Rattle.sm_document_reopening.specs.RoleGrids.{role_at}
+use Rattle.sm_document_reopening.specs.Roles.{is_down_in}
+use Rattle.sm_document_reopening.specs.Settled.{live_by}
 use Rattle.sm_document_reopening.proofs.roles.Roles.live.Given as goal
 
--- no more are counted than were looked at
+-- those so far are counted, and no more than were looked at
 abbrev pub invariant-loop-number : goal.invariant-loop-number
-invariant-loop-number l = l.live ≤ l.number
+invariant-loop-number l = record {
+  few : l.live ≤ l.number;
+  live : l.live ≡ live_by l.number (role_at l.self) (is_down_in l.down) l.shard;
+}
