@@ -124,9 +124,9 @@ opens_over : (command : LineCommand) (s : Session) (new : Option Opened) → Doe
 opens_over (line.Open document journal epoch) s new h = (view document.now, journal, epoch, h)
 opens_over (line.Driver command) s new h = absurd h
 opens_over (line.Reopening (reopening.Reopen document lost journal epoch)) s new h = absurd h.0
-opens_over (line.Reopening (reopening.Fenced server base told)) s new h = absurd h
-opens_over (line.Reopening (reopening.Confirm base cells lost)) s new h = absurd h
-opens_over (line.Reopening (reopening.Settled server base)) s new h = elim h [ inl stays ↦ absurd stays | inr comes ↦ absurd comes.1 ]
+opens_over (line.Reopening (reopening.Fenced server base told)) s new h = absurd h.0
+opens_over (line.Reopening (reopening.Confirm base cells lost)) s new h = absurd h.0
+opens_over (line.Reopening (reopening.Settled server base)) s new h = elim h [ inl stays ↦ absurd stays.0 | inr comes ↦ absurd comes.1 ]
 opens_over (line.Question question) s new h = absurd h
 
 -- so the line begins a run

@@ -2,3 +2,4 @@ mod Lines
 mod Runs
 mod Floors
 mod Fresh
+mod Renumbers

@@ -105,9 +105,9 @@ module _ (answers : AnswersHaveEntries) (text : List ℕ) (value : Data) (is : d
   of_line (line.Open document journal epoch) says None new d e h = absurd (cc)
   of_line (line.Reopening (reopening.Reopen document lost journal epoch)) says (Some old) new d e h = absurd h.0
   of_line (line.Reopening (reopening.Reopen document lost journal epoch)) says None new d e h = absurd (cc)
-  of_line (line.Reopening (reopening.Fenced server base told)) says old new d e h = absurd h
-  of_line (line.Reopening (reopening.Confirm base cells lost)) says old new d e h = absurd h
-  of_line (line.Reopening (reopening.Settled server base)) says old new d e h = elim h [ inl stays ↦ absurd stays | inr comes ↦ absurd comes.1 ]
+  of_line (line.Reopening (reopening.Fenced server base told)) says old new d e h = absurd h.0
+  of_line (line.Reopening (reopening.Confirm base cells lost)) says old new d e h = absurd h.0
+  of_line (line.Reopening (reopening.Settled server base)) says old new d e h = elim h [ inl stays ↦ absurd stays.0 | inr comes ↦ absurd comes.1 ]
   of_line (line.Question question) says old new d e h = absurd h
 
 -- so is what a line does as it says

@@ -1,4 +1,5 @@
 //! The laws.
+ghost use Rattle.sm_run_laws.specs.Renumbers.{KeptIsRenumbered, OpensOnKept};
 ghost use Rattle.sm_run_laws.specs.Runs.{EachRun};
 ghost use Rattle.sm_run_laws.specs.RunLaws.{FloorsHold, IsRunSafe, LinesGoOn, RunsBegin};
 
@@ -44,3 +45,13 @@ pub fn runs_begin()
 {
     drivers_open();
 }
+
+/// States that what a confirmation keeps for the next driver is what it settles, in the numbers of the document.
+pub fn kept_is_renumbered()
+    ensures { KeptIsRenumbered }
+{}
+
+/// States that the driver that comes of a reopening has just been opened on that, with the permits of before.
+pub fn opens_on_kept()
+    ensures { OpensOnKept }
+{}

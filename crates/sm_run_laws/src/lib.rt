@@ -4,4 +4,6 @@
 
 mod law;
 
-pub use law::{lines_go_on, run_is_safe, runs_begin, true_lines_keep_floors};
+pub use law::{
+    kept_is_renumbered, lines_go_on, opens_on_kept, run_is_safe, runs_begin, true_lines_keep_floors,
+};
