@@ -105,14 +105,16 @@ async def with_lease(lease: float = LEASE) -> dict[str, bool]:
 
 
 async def restored(it: Scripted, server: str, cells: dict[str, dict[str, str]]) -> str:
-    """What a server that asks for its slots says to those that it is brought."""
-    await until(lambda: server in it.asked)
-    restore = {"server": server, "nonce": it.asked.pop(server), "journal": JOURNAL, "fence": it.base, "base": it.number + 1, "slots": it.slots(server, cells)}
-    try:
-        await it.channels[server].ask(PATIENCE, restore=restore)
-        return "restored"
-    except Failed as failed:
-        return failed.kind
+    """What a server that asks for its slots says to those that it is brought. What it asked before it was killed may come late, and is asked no more."""
+    while True:
+        await until(lambda: server in it.asked)
+        restore = {"server": server, "nonce": it.asked.pop(server), "journal": JOURNAL, "fence": it.base, "base": it.number + 1, "slots": it.slots(server, cells)}
+        try:
+            await it.channels[server].ask(PATIENCE, restore=restore)
+            return "restored"
+        except Failed as failed:
+            if failed.kind != "Ignored":
+                return failed.kind
 
 
 async def without_data() -> dict[str, bool]:
