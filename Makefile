@@ -49,8 +49,8 @@ agent: ## proves and builds a server's side as a library for C: build/libsm_agen
 	gcc -shared -Wl,--whole-archive build/libsm_agent.a -Wl,--no-whole-archive -o build/libsm_agent.so
 
 vectors: ## writes build/agent-vectors.txt, by which a port to another language is tested (tests/agent/README.md)
-	scripts/build/unproved agent_vectors
-	build/agent_vectors-unproved 20000 > build/agent-vectors.txt
+	scripts/build/unproved tests_agent_vectors
+	build/tests_agent_vectors-unproved 20000 > build/agent-vectors.txt
 
 ## To change it (docs/CONTRIBUTING.md)
 
@@ -97,7 +97,7 @@ check-program:
 	scripts/check/memory
 	scripts/check/threads
 	scripts/check/storm 20
-	build/board_trials-unproved looks check
+	build/trial_storm-unproved looks check
 
 check-tools:
 	scripts/check/readme

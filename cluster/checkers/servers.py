@@ -163,8 +163,8 @@ class Checker:
                 at.tenure += 1
             at.state = state
             at.position = brought[1] if brought else 0
-            is_heir = state == "primary" and event["kind"] == "settle"
-            if is_heir and self.shards[name].executor not in (None, (host.name, at.tenure)):
+            is_successor = state == "primary" and event["kind"] == "settle"
+            if is_successor and self.shards[name].executor not in (None, (host.name, at.tenure)):
                 self.shards[name].data.cut_back(at.position)
         self.look_at_primaries(event, event["slots"])
 

@@ -133,7 +133,7 @@ class Piece:
         self.advance(len(self.plans) - 1)
 
     def step(self, plan: int, stream: int) -> None:
-        """A stream's order was answered, and then everything went on that needs nobody."""
+        """A stream's order was answered, and then everything went on that is local."""
         self.make(plan, stream)
         self.advance(plan)
 
@@ -147,7 +147,7 @@ class Piece:
         self.events.append({"event": "step", "plan": plan, "stream": stream})
 
     def advance(self, plan: int) -> None:
-        """Makes every step that needs nobody, always of the lowest stream that has one."""
+        """Makes every local step, always of the lowest stream that has one."""
         while (stream := next((it for it in range(len(self.streams[plan])) if self.goes_by_itself(plan, it)), None)) is not None:
             self.make(plan, stream)
 

@@ -85,7 +85,7 @@ ELSEWHERE = {
     "not run: 6 OtherAsk": "a client asks for the shard that it was made for",
     "not run: 7 NotClosed": "a board on which each stream has finished is closed",
     "not run: 8 OtherEvents": "nothing but the run and the asks happens on the board of a report",
-    "ask I: too many hops": "eight servers in turn send the client on while streams run, as the schedule is; sm_tests_board has it",
+    "ask I: too many hops": "eight servers in turn send the client on while streams run, as the schedule is; tests_executor has it",
 }
 # What the words in capitals stand for that are no numbers.
 WORDS = {"S": r"[\w.-]+", "V": r"(?!none )[\w.-]+", "MEMBER": "[a-z_]+", "MORE": r"\d+( \d+)*", "PLAN": r"\{.*\}"}

@@ -273,16 +273,16 @@ class Epochs(ControllerTest):
         self.assert_reply(controller, Confirm(BASE_STEP, too_much), Refused("OverRoom", server=2))
 
     def test_a_party_without_all_writes_ranks_below_a_secondary(self):
-        for reached, heir in ((False, 1), (True, 2)):
+        for reached, successor in ((False, 1), (True, 2)):
             controller = opened()
             self.reopened(controller, lost=frozenset({0}))
             prepared = Cell(Kind.PREPARED, 0, 1)
             controller.apply(told(MAP))
             controller.apply(told(1, SECONDARY, PRIMARY))
             proposal = controller.apply(told(2, prepared, ABSENT, position=9, reached=reached)).reply
-            self.assertEqual(proposal.cells[0].index(PRIMARY), heir)
-            other = tuple(PRIMARY if it == 3 - heir else ABSENT for it in range(3))
-            refused = Refused("LowerChoice", shard=0, server=3 - heir)
+            self.assertEqual(proposal.cells[0].index(PRIMARY), successor)
+            other = tuple(PRIMARY if it == 3 - successor else ABSENT for it in range(3))
+            refused = Refused("LowerChoice", shard=0, server=3 - successor)
             self.assert_reply(controller, Confirm(BASE_STEP, (other, STEADY[1])), refused)
 
     def test_a_document_counts_only_for_who_is_unknown(self):

@@ -169,15 +169,15 @@ def named_writes_stay(world: World, host: Host, shard: int, gone: frozenset[int]
 def best_copy_wins(world: World, reopening: Reopening) -> None:
     """If a server that has answered has all acknowledged writes of a shard, its new primary has them."""
     for shard, row in enumerate(reopening.cells):
-        heir, writes = primary_of(row), world.writes.acknowledged[shard]
+        successor, writes = primary_of(row), world.writes.acknowledged[shard]
         answered = [world.hosts[it] for it in sorted(reopening.targets - {MAP})]
         if shard in reopening.perhaps:
             answered = [it for it in answered if it.number in reopening.inventories]
         having = [it.number for it in answered if it.has_all(shard, writes)]
-        if heir is None or heir in reopening.missing or not having or world.hosts[heir].has_all(shard, writes):
+        if successor is None or successor in reopening.missing or not having or world.hosts[successor].has_all(shard, writes):
             continue
-        if is_as_told(reopening.survey(shard), world.hosts[heir], shard):
-            raise Violation("best_copy_wins", f"server {heir} gets shard {shard}, and {having} have more of {writes}")
+        if is_as_told(reopening.survey(shard), world.hosts[successor], shard):
+            raise Violation("best_copy_wins", f"server {successor} gets shard {shard}, and {having} have more of {writes}")
 
 
 def is_as_told(survey: Survey, host: Host, shard: int) -> bool:

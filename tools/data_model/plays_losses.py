@@ -527,7 +527,7 @@ PLAYS = (
     Worked(order_not_recorded, "ordered_counted"),
     Worked(fewer_copies_for_a_while, "replaced_counted"),
     Worked(party_gives_up_its_copy, "copies_kept"),
-    Worked(two_copies_of_unlike_ones, "copies_at_heir"),
+    Worked(two_copies_of_unlike_ones, "copies_at_successor"),
     Worked(reopened_before_a_restart, "down_uncounted"),
     Worked(a_counted_replica_goes, "copies_left"),
     Worked(restart_stops_nobody, "down_lowers"),

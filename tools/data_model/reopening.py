@@ -220,7 +220,7 @@ class Reopening(driving.Reopening):
         seen = (view, position) if self.rules.views_compared else (0 if view >= 0 else -1, position)
         return (told is not None, *role, *seen, is_party)
 
-    def heir(self, survey: Survey, choice: int = 0) -> int | None:
+    def successor(self, survey: Survey, choice: int = 0) -> int | None:
         """The server that is to be the shard's primary: the one that is, or who has told the greatest copy."""
         primary = survey.primary()
         if primary is not None:
@@ -238,12 +238,12 @@ class Reopening(driving.Reopening):
         whole = set(survey.copies) if self.rules.copies_kept else set()
         return (whole | (set(survey.doubted) if self.rules.doubt_kept else set())) & survey.members
 
-    def settled_row(self, survey: Survey, heir: int | None) -> tuple[Cell, ...]:
-        """The cells of a shard if it goes to this heir: whoever has a copy keeps it."""
+    def settled_row(self, survey: Survey, successor: int | None) -> tuple[Cell, ...]:
+        """The cells of a shard if it goes to this successor: whoever has a copy keeps it."""
         row = [SECONDARY if cell in (SECONDARY, PRIMARY) else ABSENT for cell in survey.row]
         row = [SECONDARY if it in self.keeps(survey) else cell for it, cell in enumerate(row)]
-        if heir is not None:
-            row[heir] = PRIMARY
+        if successor is not None:
+            row[successor] = PRIMARY
         return tuple(cell if it in self.document.servers else ABSENT for it, cell in enumerate(row))
 
     # What is proposed, and what may be lost.
@@ -253,9 +253,9 @@ class Reopening(driving.Reopening):
         cells, lost = [], []
         for shard in self.shards:
             survey = self.survey(shard)
-            heir = self.heir(survey, choice)
-            cells.append(self.settled_row(survey, heir))
-            if self.is_bare(survey, shard, heir) or self.is_perhaps_lost(survey, shard):
+            successor = self.successor(survey, choice)
+            cells.append(self.settled_row(survey, successor))
+            if self.is_bare(survey, shard, successor) or self.is_perhaps_lost(survey, shard):
                 lost.append(shard)
         return Proposal(self.base, tuple(cells), tuple(lost), self.short_floors(cells), tuple(self.missing))
 
@@ -263,13 +263,13 @@ class Reopening(driving.Reopening):
         """So many of those that may have acknowledged writes are gone that all that had one may be among them."""
         return self.rules.loss_named and survey.primary() is None and len(survey.gone) >= self.least(shard)
 
-    def is_bare(self, survey: Survey, shard: int, heir: int | None) -> bool:
+    def is_bare(self, survey: Survey, shard: int, successor: int | None) -> bool:
         """The shard had a replica, and no copy is left that is known, or it gets a primary by the document alone."""
-        if heir is None:
+        if successor is None:
             had = any(it != ABSENT for it in (self.record.cells if self.record else self.document.cells)[shard])
             is_there = survey.copies or survey.doubted or any(survey.row[it] != ABSENT for it in survey.silent)
             return had and not is_there
-        return heir not in survey.copies and heir not in survey.doubted and heir != survey.primary()
+        return successor not in survey.copies and successor not in survey.doubted and successor != survey.primary()
 
     # What may be confirmed.
 
@@ -281,9 +281,9 @@ class Reopening(driving.Reopening):
         told = next((it for it, cell in enumerate(survey.row) if cell == PRIMARY and it in survey.sure), None)
         if self.rules.primary_stays and told is not None and row[told] != PRIMARY:
             return Refused("Primary", shard=shard, server=told)
-        heir = primary_of(row)
-        if survey.primary() is None and heir is not None and self.is_lower(survey, heir):
-            return Refused("LowerChoice", shard=shard, server=heir)
+        successor = primary_of(row)
+        if survey.primary() is None and successor is not None and self.is_lower(survey, successor):
+            return Refused("LowerChoice", shard=shard, server=successor)
         for server in sorted(self.keeps(survey)):
             if row[server] == ABSENT and server in self.document.servers:
                 return Refused("Moved", shard=shard, server=server)
@@ -301,26 +301,26 @@ class Reopening(driving.Reopening):
                 return Refused("StillThere", shard=shard, server=server)
         return None
 
-    def is_lower(self, survey: Survey, heir: int) -> bool:
-        """Somebody has told a better copy than the heir."""
+    def is_lower(self, survey: Survey, successor: int) -> bool:
+        """Somebody has told a better copy than the successor."""
         others = (*survey.copies, *(survey.doubted if self.rules.doubt_kept else ()))
-        return any(self.worth(survey, it) > self.worth(survey, heir) for it in others)
+        return any(self.worth(survey, it) > self.worth(survey, successor) for it in others)
 
     # How many copies are asked for, and what is settled.
 
     def copies_of(self, shard: int, row: tuple[Cell, ...]) -> int:
         """How many copies an acknowledged write has from now on. A primary that stays asks for as many as before, less
         the replicas that go; a new one for as many as were told exactly at its view and position."""
-        survey, wanted, heir = self.survey(shard), self.document.wanted(shard), primary_of(row)
-        if heir is not None and heir == survey.primary():
+        survey, wanted, successor = self.survey(shard), self.document.wanted(shard), primary_of(row)
+        if successor is not None and successor == survey.primary():
             left = {it for it, cell in enumerate(row) if cell != ABSENT}
             went = survey.members - left if self.rules.copies_left else set()
             return max(1, min(wanted, self.least(shard) - len(went)))
         there = {server: it for server, it in survey.copies.items() if row[server] != ABSENT}
-        best = survey.copies.get(heir) if heir is not None else max(there.values(), default=None)
+        best = survey.copies.get(successor) if successor is not None else max(there.values(), default=None)
         down = self.document.down.union(self.record.permits if self.record else ()) if self.rules.down_uncounted else ()
-        told = [it for server, it in there.items() if server == heir or server not in down]
-        if not self.rules.copies_at_heir:
+        told = [it for server, it in there.items() if server == successor or server not in down]
+        if not self.rules.copies_at_successor:
             return max(1, min(wanted, len(told)))
         return max(1, min(wanted, sum(it == best for it in told)))
 
@@ -343,8 +343,8 @@ class Reopening(driving.Reopening):
 
     def slot_told(self, shard: int, row: tuple[Cell, ...], server: int) -> SlotTold:
         """What a server has of a shard from now on; a primary that it was not before begins a view."""
-        heir = primary_of(row)
-        is_chosen = heir == server and self.survey(shard).primary() != server
+        successor = primary_of(row)
+        is_chosen = successor == server and self.survey(shard).primary() != server
         replicas = frozenset(it for it, cell in enumerate(row) if cell != ABSENT)
-        terms = Terms(self.copies[shard], self.document.wanted(shard), self.base, heir, replicas)
+        terms = Terms(self.copies[shard], self.document.wanted(shard), self.base, successor, replicas)
         return SlotTold(row[server], self.document.loads[shard], terms, self.base if is_chosen else None)

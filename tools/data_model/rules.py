@@ -89,7 +89,7 @@ class Rules(driving.Rules):
         "A server that is restored without a copy of a shard of its own is recorded down until its copies are whole."
     )
     doubt_told: bool = rule("A server that knows its disk to have gone back tells its copies as in doubt.")
-    doubt_kept: bool = rule("A copy in doubt is the heir if no other one is left, and no settlement deletes it.")
+    doubt_kept: bool = rule("A copy in doubt is the successor if no other one is left, and no settlement deletes it.")
     # What a reopening compares.
     position_wins: bool = rule("A shard without a primary goes to the greatest copy, whatever its server's role.")
     views_compared: bool = rule("Of two copies the one of the later view is greater, and then the longer one.")
@@ -110,7 +110,7 @@ class Rules(driving.Rules):
     replaced_counted: bool = rule("Replicas and numbers of copies that a replaced reopening has settled count as well.")
     copies_kept: bool = rule("A reopening takes no whole copy from a replica: it stays, at least as a secondary.")
     # The number of copies.
-    copies_at_heir: bool = rule("A new primary asks for no more copies than were told at just its view and position.")
+    copies_at_successor: bool = rule("A new primary asks for no more copies than were told at just its view and position.")
     down_uncounted: bool = rule("Other servers that are recorded down are not counted for that.")
     copies_left: bool = rule("A primary that stays asks for as many copies less as replicas go by the reopening.")
     down_lowers: bool = rule("An approval lowers the number by the replicas that are recorded down.")

@@ -114,23 +114,23 @@ class World(Following, Asking, Serving, base.World):
         self.perhaps[reopening.base] = reopening.perhaps
         laws.best_copy_wins(self, reopening)
         for shard, row in enumerate(reopening.cells):
-            survey, heir = reopening.survey(shard), primary_of(row)
-            self.cover_heir(shard, heir, reopening)
+            survey, successor = reopening.survey(shard), primary_of(row)
+            self.cover_successor(shard, successor, reopening)
             if shard in reopening.perhaps:
                 self.coverage["perhaps lost"] += 1
-                if heir is None:
+                if successor is None:
                     told = [self.hosts[it].copy(shard) for it in survey.copies if not self.hosts[it].is_lost]
                     best = max(told, key=lambda it: (it.view, it.position), default=None)
                     self.writes.keep(shard, best.writes if best else [])
 
-    def cover_heir(self, shard: int, heir: int | None, reopening: Reopening) -> None:
+    def cover_successor(self, shard: int, successor: int | None, reopening: Reopening) -> None:
         """Notes what a reopening has chosen among."""
         survey = reopening.survey(shard)
-        if heir is None or survey.primary() is not None:
+        if successor is None or survey.primary() is not None:
             return
-        if heir in survey.doubted:
+        if successor in survey.doubted:
             self.coverage["a copy in doubt chosen"] += 1
-        if heir in survey.copies and self.writes.acknowledged[shard]:
+        if successor in survey.copies and self.writes.acknowledged[shard]:
             self.coverage["a new primary, " + ("named" if shard in reopening.perhaps else "sure")] += 1
             self.coverage["a new primary, views differ"] += len({it.view for it in survey.copies.values()}) > 1
 

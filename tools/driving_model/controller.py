@@ -226,7 +226,7 @@ class Controller:
         return Outcome(reply, True, tuple(it for it in found if it is not None), ended)
 
     def goes_by_itself(self, plan: PlanState, stream: StreamState) -> bool:
-        """The stream's next step needs nobody."""
+        """The stream's next step is local."""
         if stream.is_done:
             return False
         instruction = stream.instruction
@@ -237,7 +237,7 @@ class Controller:
         return instruction.verb is Verb.WAIT and instruction.signal in plan.posted
 
     def advance(self, number: int) -> set[int]:
-        """Makes every step of a plan that needs nobody, always of the lowest stream that has one. Returns who moved."""
+        """Makes every step of a plan that is local, always of the lowest stream that has one. Returns who moved."""
         plan, moved = self.record.plans[number], set()
         while True:
             ready = (it for it, stream in enumerate(plan.streams) if self.goes_by_itself(plan, stream))

@@ -205,7 +205,7 @@ def permit_once(world: World, permit: int) -> None:
 
 
 def own_steps_are_made(world: World) -> None:
-    """After each command no unfinished stream stands before a step that needs nobody."""
+    """After each command no unfinished stream stands before a local step."""
     controller = world.controller
     for plan, number, stream in controller.record.running() if controller.is_open else ():
         if controller.goes_by_itself(controller.record.plans[plan], stream):

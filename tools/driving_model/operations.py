@@ -114,9 +114,9 @@ class Operator:
         rows = []
         for shard in world.shards:
             row = world.row(shard)
-            heirs = serving(row) or [it for it, cell in enumerate(row) if cell.is_in_handover]
+            successors = serving(row) or [it for it, cell in enumerate(row) if cell.is_in_handover]
             rows.append(tuple(
-                PRIMARY if heirs[:1] == [it] else SECONDARY if cell == SECONDARY else ABSENT
+                PRIMARY if successors[:1] == [it] else SECONDARY if cell == SECONDARY else ABSENT
                 for it, cell in enumerate(row)
             ))
         for host in world.hosts:

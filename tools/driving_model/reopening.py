@@ -91,10 +91,10 @@ class Reopening:
         silent = [it for it in self.missing if not self.may_be_carried(it)]
         if silent or not self.missing or self.record is None:
             return silent
-        heirs = {it: self.heir(self.survey(it), 0) for it in range(len(self.document.loads))}
+        successors = {it: self.successor(self.survey(it), 0) for it in range(len(self.document.loads))}
         return sorted({
-            heir for shard, heir in heirs.items()
-            if heir in self.missing and self.record.cells[shard][heir] != PRIMARY
+            successor for shard, successor in successors.items()
+            if successor in self.missing and self.record.cells[shard][successor] != PRIMARY
         })
 
     def standing_of(self, found: SlotFound) -> tuple[int, int]:
@@ -136,7 +136,7 @@ class Reopening:
             if cell.kind is Kind.SECONDARY:
                 survey.standing[server] = (COPY, NOBODY)
 
-    def heir(self, survey: Survey, choice: int) -> int | None:
+    def successor(self, survey: Survey, choice: int) -> int | None:
         """The server that is to be the shard's primary."""
         primary = survey.primary()
         if primary is not None:
@@ -152,11 +152,11 @@ class Reopening:
             return max(secondaries, key=lambda it: survey.standing[it])
         return documented
 
-    def settled_row(self, survey: Survey, heir: int | None) -> tuple[Cell, ...]:
-        """The cells of a shard if it goes to this heir: parties of handovers that are not the heir lose it."""
+    def settled_row(self, survey: Survey, successor: int | None) -> tuple[Cell, ...]:
+        """The cells of a shard if it goes to this successor: parties of handovers that are not the successor lose it."""
         row = [SECONDARY if cell in (SECONDARY, PRIMARY) else ABSENT for cell in survey.row]
-        if heir is not None:
-            row[heir] = PRIMARY
+        if successor is not None:
+            row[successor] = PRIMARY
         return tuple(cell if it in self.document.servers else ABSENT for it, cell in enumerate(row))
 
     def propose(self, choice: int = 0) -> Proposal:
@@ -164,19 +164,19 @@ class Reopening:
         cells, lost = [], []
         for shard in range(len(self.document.loads)):
             survey = self.survey(shard)
-            heir = self.heir(survey, choice)
-            cells.append(self.settled_row(survey, heir))
-            part = heir is not None and self.rules.survivor_rank and survey.standing[heir][0] == PART
-            part = part and survey.row[heir].kind is Kind.PREPARED
-            if self.is_bare(survey, shard, heir) or part or self.is_perhaps_lost(survey, shard):
+            successor = self.successor(survey, choice)
+            cells.append(self.settled_row(survey, successor))
+            part = successor is not None and self.rules.survivor_rank and survey.standing[successor][0] == PART
+            part = part and survey.row[successor].kind is Kind.PREPARED
+            if self.is_bare(survey, shard, successor) or part or self.is_perhaps_lost(survey, shard):
                 lost.append(shard)
         return Proposal(self.base, tuple(cells), tuple(lost), self.short_floors(cells), tuple(self.missing))
 
-    def is_bare(self, survey: Survey, shard: int, heir: int | None) -> bool:
+    def is_bare(self, survey: Survey, shard: int, successor: int | None) -> bool:
         """The shard had a replica, and gets no primary, or one that has it by the document alone."""
-        if heir is None:
+        if successor is None:
             return any(it != ABSENT for it in (self.record.cells if self.record else self.document.cells)[shard])
-        return heir not in survey.sure and heir not in survey.silent
+        return successor not in survey.sure and successor not in survey.silent
 
     def may_have_served(self, shard: int) -> set[int]:
         """Who is recorded so that it may have served a shard: who has a part in its lead, or, if nobody has, its
@@ -223,9 +223,9 @@ class Reopening:
         told = next((it for it, cell in enumerate(survey.row) if cell == PRIMARY and it in survey.sure), None)
         if self.rules.primary_stays and told is not None and row[told] != PRIMARY:
             return Refused("Primary", shard=shard, server=told)
-        heir = primary_of(row)
-        if self.rules.survivor_position and told is None and heir is not None and self.is_lower(survey, heir):
-            return Refused("LowerChoice", shard=shard, server=heir)
+        successor = primary_of(row)
+        if self.rules.survivor_position and told is None and successor is not None and self.is_lower(survey, successor):
+            return Refused("LowerChoice", shard=shard, server=successor)
         for server in self.missing:
             if self.record is None or row[server] != self.record.cells[shard][server]:
                 return Refused("CarriedOver", shard=shard, server=server)
@@ -240,13 +240,13 @@ class Reopening:
                 return Refused("StillThere", shard=shard, server=server)
         return None
 
-    def is_lower(self, survey: Survey, heir: int) -> bool:
-        """Another survivor ranks above the heir, or is as good and a party of the handover, which the heir is not."""
+    def is_lower(self, survey: Survey, successor: int) -> bool:
+        """Another survivor ranks above the successor, or is as good and a party of the handover, which the successor is not."""
         best = survey.best()
-        if best >= (0, 0) and survey.standing[heir] < best:
+        if best >= (0, 0) and survey.standing[successor] < best:
             return True
         parties = (it for it in survey.parties() if survey.standing[it] == best)
-        return not survey.row[heir].is_in_handover and any(parties)
+        return not survey.row[successor].is_in_handover and any(parties)
 
     def settle(self, cells: Cells) -> None:
         """Confirms the cells: everyone who answered the fence is sent what it has from now on."""

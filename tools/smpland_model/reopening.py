@@ -108,7 +108,7 @@ class NamedReopening(Reopening):
         names a primary. Secondaries without a lead do not show which of them has each write, so none is chosen."""
         return self.has_lead(shard) or (PRIMARY in self.document.cells[shard] and not self.has_replica(shard))
 
-    def heir_of(self, shard: int) -> int | None:
+    def successor_of(self, shard: int) -> int | None:
         """Returns the server that is proposed as the shard's primary."""
         if not self.is_led(shard):
             return None
@@ -125,14 +125,14 @@ class NamedReopening(Reopening):
         awaited = [it for it in self.missing if not (self.is_silent(it) and it in self.document.servers)]
         if awaited:
             return awaited
-        heirs = {(it, self.heir_of(it)) for it in self.shards}
-        return sorted({heir for it, heir in heirs if heir in self.missing and self.recorded(it, heir) != PRIMARY})
+        successors = {(it, self.successor_of(it)) for it in self.shards}
+        return sorted({successor for it, successor in successors if successor in self.missing and self.recorded(it, successor) != PRIMARY})
 
-    def proposed(self, shard: int, server: int, heir: int | None) -> Cell:
-        """Returns the cell that is proposed for a server if the shard goes to this heir."""
+    def proposed(self, shard: int, server: int, successor: int | None) -> Cell:
+        """Returns the cell that is proposed for a server if the shard goes to this successor."""
         if server not in self.document.servers:
             return ABSENT
-        if server == heir:
+        if server == successor:
             return PRIMARY
         slot = self.told(shard, server)
         silent = self.recorded(shard, server) if self.is_silent(server) else ABSENT
@@ -143,12 +143,12 @@ class NamedReopening(Reopening):
         """Returns what may be confirmed. Shards that the document leaves out are to be nowhere, and may be lost too."""
         cells = [(ABSENT,) * len(self.servers)] * len(self.document.loads)
         for shard in self.shards:
-            heir = self.heir_of(shard)
-            cells[shard] = tuple(self.proposed(shard, it, heir) for it in self.servers)
+            successor = self.successor_of(shard)
+            cells[shard] = tuple(self.proposed(shard, it, successor) for it in self.servers)
         lost = tuple(it for it in range(len(self.document.loads)) if self.is_named_lost(it))
         return Proposal(self.base, tuple(cells), lost, self.short_floors(cells), tuple(self.missing))
 
-    def is_bare(self, survey: object, shard: int, heir: int | None) -> bool:
+    def is_bare(self, survey: object, shard: int, successor: int | None) -> bool:
         """Returns whether no server is left that has all of a shard, of which there is or was to be one."""
         standings = [self.standing(shard, it)[0] for it in self.servers]
         cells = [(self.recorded(shard, it), self.document.cells[shard][it]) for it in self.servers]

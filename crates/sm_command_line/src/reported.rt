@@ -3,8 +3,8 @@ ghost use Rattle.std.specs.Prelude.{◌≡◌, ◌<◌, ℕ, length, take};
 ghost use Rattle.std.specs.Io.KnownBytes.{Appends, Keeps};
 ghost use Rattle.sm_report.specs.Report.{Output};
 ghost use Rattle.sm_report.specs.Status.{code_of};
-ghost use Rattle.sm_report.specs.Unmade.{unrun_text, not_run};
-ghost use Rattle.sm_report.specs.declared.unmade.Unrun.{Unrun};
+ghost use Rattle.sm_report.specs.RunStop.{not_finished_text, not_run};
+ghost use Rattle.sm_report.specs.declared.run_stop.NotFinished.{NotFinished};
 ghost use Rattle.sm_command_line.specs.Reported.{IsReported};
 
 use crate::words::Word;
@@ -32,9 +32,9 @@ pub fn report_word<R: AllocGlobal + Threads + Wait + Sync, I: Read, W: Write>(
         × IsReported word (I.remaining reader.old) output
         × (k : ℕ) × (k < length output.text) × Appends (W.contents writer.old) (W.contents writer.new) (take k output.text) }
     // A thread is missed by a run alone, whose plan has begun and was not run to its end: why is all that is written.
-    ensures threads { result ≡ Status.NoThread → (word ≡ Word.Run) × (why : Unrun)
+    ensures threads { result ≡ Status.NoThread → (word ≡ Word.Run) × (why : NotFinished)
         × IsReported word (I.remaining reader.old) (not_run why)
-        × Appends (W.contents writer.old) (W.contents writer.new) (unrun_text why) }
+        × Appends (W.contents writer.old) (W.contents writer.new) (not_finished_text why) }
 {
     match word {
         Word::Report(command) => report(rt.alloc(), command, reader, writer),

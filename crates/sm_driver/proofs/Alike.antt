@@ -14,7 +14,7 @@ use Rattle.sm_driver.specs.Driver.{DriverModel, HasApproved, HasBegunPlan, HasEn
 use Rattle.sm_driver.specs.Epochs.{HasOpenedEpoch, fault_by, last_epoch, shard_spent}
 use Rattle.sm_driver.specs.Orders.{awaits, epoch_base, message_of}
 use Rattle.sm_driver.specs.Permits.{restart_effect, server_permitted}
-use Rattle.sm_driver.specs.Restores.{RestoreModel, restore_now, was_told}
+use Rattle.sm_driver.specs.Restores.{RestoreModel, restore_now, is_last_restore}
 
 -- what is a function of record and epoch
 by_record : {A : Type 0} (f : State → ℕ → A) (d e : DriverModel) → AreAlike d e → f (record_of e) e.epoch ≡ f (record_of d) d.epoch
@@ -28,7 +28,7 @@ replies d e is = record {
   approve = λ v. ap (λ (w : State). (happens w (Approve v)).0) is.recorded;
   restarted = λ permit server_base. ap (λ (f : ℕ). restart_effect f server_base (server_permitted e.permits permit)) is.fence
       ∙ ap (λ (ps : List (Option ℕ)). restart_effect d.fence server_base (server_permitted ps permit)) is.permits;
-  told = λ v nonce. ap (λ (rs : List (Option RestoreModel)). was_told rs v nonce) is.restores;
+  told = λ v nonce. ap (λ (rs : List (Option RestoreModel)). is_last_restore rs v nonce) is.restores;
   naming = λ v. ap (λ (w : State). engaged w v) is.recorded;
   epoch = by_record (λ w n. fault_by (slice_get (unfinished_plans w) 0) (n == last_epoch) (shard_spent w)) d e is;
   message = λ id. by_record (λ w n. message_of (epoch_base n) w id) d e is;

@@ -12,7 +12,7 @@ use Rattle.sm_plan_code.specs.declared.limits.TheConstants.{MOST_PLACES}
 use Rattle.sm_protocol.specs.State.{State, is_unfinished}
 use Rattle.sm_protocol.specs.Next.{unfinished_plans}
 use Rattle.sm_protocol.specs.Laws.{AreDone, IsReached}
-use Rattle.sm_network.proofs.Resting.{rests_settled}
+use Rattle.laws_network.proofs.Resting.{rests_settled}
 use Rattle.sm_driver.specs.Epochs.{fault_by, shard_spent}
 
 -- if no number passes, each fails

@@ -61,7 +61,7 @@ steps_beside : (streams : List StreamId) (w : State) → IsBeside w (run (map St
 steps_beside [] w = still w
 steps_beside (id ∷ ids) w = beside_then w (happens w (Step id)).1 (run (map Step ids) (happens w (Step id)).1) (step_beside w id) (steps_beside ids (happens w (Step id)).1)
 
--- nor do those that need nobody
+-- nor do those that are local
 pub advance_beside : (w new : State) → IsAdvanced w new → IsBeside w new
 advance_beside w new x = subst (IsBeside w) (sym x.state) (steps_beside x.streams w)
 

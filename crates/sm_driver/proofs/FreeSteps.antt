@@ -1,4 +1,4 @@
--- A step that needs nobody is recorded.
+-- A local step is recorded.
 use Rattle.std.proofs.Common.{◌-◌, ◌<◌, ◌≤◌, ◌≡◌, ◌≢◌, ◌∙◌, ◌+◌, ◌++◌, ◌∷◌, [], Bool, true, false, not, Option, Some, None, List, length, map, refl, sym, ap, subst, arith}
 use Rattle.std.specs.Prelude.{◌&&◌, is_none, if◌then◌else◌}
 use Rattle.std.proofs.lemmas.Bool.{and_parts, not-true}
@@ -82,7 +82,7 @@ none_after : (streams : List StreamId) (w : State) → AreNextFree streams w →
 none_after [] w free = free
 none_after (id ∷ ids) w free = none_after ids (happens w (Step id)).1 free.1
 
--- once every step that needs nobody is made, no stream is free
+-- once every local step is made, no stream is free
 pub none_is_left : (w new : State) → IsAdvanced w new → next_free new ≡ None
 none_is_left w new x = ap next_free x.state ∙ none_after x.streams w x.free
 

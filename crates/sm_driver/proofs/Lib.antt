@@ -6,7 +6,7 @@ pub mod Effects
 mod FreeSteps
 mod Given
 mod Lists
-mod OwnSteps
+mod LocalSteps
 mod PermitLookups
 mod Recorded
 mod Searches

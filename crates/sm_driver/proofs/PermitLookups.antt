@@ -3,7 +3,7 @@ use Rattle.std.proofs.Common.{◌≡◌, ◌∙◌, ◌+◌, ◌<◌, ℕ, zero,
 use Rattle.std.specs.Prelude.{is_some, if◌then◌else◌}
 use Rattle.sm_placement.specs.Sums.{first_from}
 use Rattle.sm_protocol.specs.State.{State}
-use Rattle.sm_network.specs.Controller.{is_permitted}
+use Rattle.laws_network.specs.Controller.{is_permitted}
 use Rattle.sm_driver.specs.Permits.{ArePermitsOfDown, permit_of, server_permitted}
 
 -- what a search finds is at one of the numbers that it goes through

@@ -79,7 +79,7 @@ steps_longer : (streams : List StreamId) (w : State) → IsLonger w (run (map St
 steps_longer [] w = same w
 steps_longer (id ∷ ids) w = longer_then w (happens w (Step id)).1 (run (map Step ids) (happens w (Step id)).1) (step_longer w id) (steps_longer ids (happens w (Step id)).1)
 
--- over a change and the steps that need nobody after it
+-- over a change and the local steps after it
 pub advance_longer : (u w new : State) → IsLonger u w → IsAdvanced w new → IsLonger u new
 advance_longer u w new first x = longer_then u w new first (subst (IsLonger w) (sym x.state) (steps_longer x.streams w))
 

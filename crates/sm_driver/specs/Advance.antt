@@ -1,6 +1,6 @@
--- Steps that need nobody: signals, waits for posted signals, and ends of streams. The driver makes them by itself, each time that of
--- the lowest stream of the lowest plan that can make one.
--- `IsFreeIn`, `IsFreeAlone` and `posts_signal` are internal: you need not read them for the public contracts.
+-- Local steps: signals, waits for posted signals, and ends of streams. The driver makes them by itself, each time that
+-- of the lowest stream of the lowest plan that can make one. `IsFreeIn`, `IsFreeAlone` and `posts_signal` are internal:
+-- you need not read them for the public contracts.
 use Rattle.std.specs.Prelude.{◌≡◌, ◌&&◌, ℕ, Bool, true, false, Option, Some, None, List, [], ◌∷◌, is_none, length, map, if◌then◌else◌}
 use Rattle.sm_reservation.specs.declared.stream_id.StreamId.{StreamId}
 use Rattle.sm_plan_code.specs.declared.instruction.Instr.{Instr}
@@ -38,7 +38,7 @@ abbrev pub AreNextFree : List StreamId → State → Type 0
 AreNextFree [] w = next_free w ≡ None
 AreNextFree (id ∷ ids) w = (next_free w ≡ Some id) × AreNextFree ids (happens w (Step id)).1
 
--- The steps that need nobody were made, in their order, and no more are left.
+-- The local steps were made, in their order, and no more are left.
 pub record IsAdvanced (old new : State) : Type 0 where
   pub streams : List StreamId
   pub free : AreNextFree streams old

@@ -7,7 +7,7 @@ use Rattle.sm_driver.specs.Driver.{DriverModel, HasApproved, HasBegunPlan, HasEn
 use Rattle.sm_driver.specs.Epochs.{HasOpenedEpoch, epoch_fault}
 use Rattle.sm_driver.specs.Orders.{message_of}
 use Rattle.sm_driver.specs.Permits.{restart_effect, server_permitted}
-use Rattle.sm_driver.specs.Restores.{was_told}
+use Rattle.sm_driver.specs.Restores.{is_last_restore}
 
 -- The same is recorded of both, and all else is the same that contracts say of a driver.
 pub record AreAlike (d e : DriverModel) : Type 0 where
@@ -32,7 +32,7 @@ pub record ReplyAlike (d e : DriverModel) : Type 0 where
   pub approve : (v : ℕ) → (happens (record_of e) (Approve v)).0 ≡ (happens (record_of d) (Approve v)).0
   pub restarted : (permit : ℕ) (server_base : Option ℕ) →
       restart_effect e.fence server_base (server_permitted e.permits permit) ≡ restart_effect d.fence server_base (server_permitted d.permits permit)
-  pub told : (v nonce : ℕ) → was_told e.restores v nonce ≡ was_told d.restores v nonce
+  pub told : (v nonce : ℕ) → is_last_restore e.restores v nonce ≡ is_last_restore d.restores v nonce
   pub naming : (v : ℕ) → engaged (record_of e) v ≡ engaged (record_of d) v
   pub epoch : epoch_fault e ≡ epoch_fault d
   pub message : (id : StreamId) → message_of (base e) (record_of e) id ≡ message_of (base d) (record_of d) id

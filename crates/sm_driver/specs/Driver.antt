@@ -74,8 +74,8 @@ pub record IsOfJournal (old new : DriverModel) : Type 0 where
 abbrev pub HasLostNone : State → Type 0
 HasLostNone w = (id : StreamId) → ¬ HasLost w id
 
--- The facts that hold of every driver whose log has this many places: no stream stands before a step that needs nobody, no call was lost, the
--- permits are those of the servers that are down, no two alike, and carried servers are down.
+-- The facts that hold of every driver whose log has this many places: no stream stands before a local step, no call was
+-- lost, the permits are those of the servers that are down, no two alike, and carried servers are down.
 pub record IsDriving (places : ℕ) (d : DriverModel) : Type 0 where
   pub free : next_free (record_of d) ≡ None
   pub unlost : HasLostNone (record_of d)
@@ -85,7 +85,7 @@ pub record IsDriving (places : ℕ) (d : DriverModel) : Type 0 where
   pub restores : length d.restores ≡ (record_of d).sizes.servers
   pub room : (record_of d).room ≡ places
 
--- The plan begins under this number, and every step that needs nobody is made.
+-- The plan begins under this number, and every local step is made.
 pub record HasBegunPlan (plan : PlanModel) (number : ℕ) (old new : DriverModel) : Type 0 where
   pub between : State
   pub begun : happens (record_of old) (Begin plan) ≡ (Answered (played.Begun number), between)
@@ -93,8 +93,8 @@ pub record HasBegunPlan (plan : PlanModel) (number : ℕ) (old new : DriverModel
   pub permits : new.permits ≡ old.permits
   pub journal : IsOfJournal old new
 
--- The stream makes the step whose answer has come, for which it always has a try and the log a place, and every step that needs nobody
--- is made.
+-- The stream makes the step whose answer has come, for which it always has a try and the log a place, and every local
+-- step is made.
 pub record HasTakenStep (id : StreamId) (old new : DriverModel) : Type 0 where
   pub between : State
   pub step : happens (record_of old) (Step id) ≡ (Answered played.Moved, between)

@@ -8,8 +8,8 @@ use Rattle.sm_server.specs.declared.call.Call.TheVariants.{PrepareAdd, PrepareDr
 use Rattle.sm_reservation.specs.declared.stream_id.StreamId.{StreamId}
 use Rattle.sm_protocol.specs.State.{State, stream_count, stream_id}
 use Rattle.sm_protocol.specs.Next.{next_call_of, next_entry_of, since_of}
-use Rattle.sm_network.specs.Net.{Order as NetOrder, order_of}
-use Rattle.sm_network.specs.World.{Publication as NetPublication, publication_of}
+use Rattle.laws_network.specs.Net.{Order as NetOrder, order_of}
+use Rattle.laws_network.specs.World.{Publication as NetPublication, publication_of}
 use Rattle.sm_driver.specs.declared.order.StreamOrder.{StreamOrder}
 use Rattle.sm_driver.specs.declared.order.StreamPublication.{StreamPublication}
 use Rattle.sm_driver.specs.declared.order.StreamMessage.{StreamMessage}

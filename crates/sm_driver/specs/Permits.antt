@@ -6,7 +6,7 @@ use Rattle.std.specs.Option.{option_or}
 use Rattle.sm_placement.specs.Sums.{first_from}
 use Rattle.sm_plan_code.specs.declared.limits.TheConstants.{MOST_PLACES}
 use Rattle.sm_protocol.specs.State.{State}
-use Rattle.sm_network.specs.Controller.{is_permitted}
+use Rattle.laws_network.specs.Controller.{is_permitted}
 use Rattle.sm_driver.specs.declared.restart.RestartEffect.{RestartEffect}
 use Rattle.sm_driver.specs.declared.restart.RestartEffect.TheVariants.{Old, Unsettled, Up}
 

@@ -5,7 +5,7 @@ use Rattle.std.specs.List.{range_with_len}
 use Rattle.sm_server.specs.declared.call.Cell.{Cell}
 use Rattle.sm_server.specs.declared.call.Cell.TheVariants.{Prepared, Forwarding}
 use Rattle.sm_protocol.specs.State.{State}
-use Rattle.sm_network.specs.Net.{cell_above}
+use Rattle.laws_network.specs.Net.{cell_above}
 
 -- The message to a server: under which nonce it asked, the number at or below which orders are old to it from then on, and its cells,
 -- by the shards' numbers.
@@ -24,8 +24,8 @@ is_under nonce None = false
 is_under nonce (Some restore) = restore.nonce == nonce
 
 -- a server was told under this nonce last
-abbrev pub was_told : List (Option RestoreModel) → ℕ → ℕ → Bool
-was_told restores v nonce = is_under nonce (restore_at restores v)
+abbrev pub is_last_restore : List (Option RestoreModel) → ℕ → ℕ → Bool
+is_last_restore restores v nonce = is_under nonce (restore_at restores v)
 
 -- what is recorded of a server's cells, with the base in handover numbers
 abbrev pub cells_told : ℕ → State → ℕ → List Cell

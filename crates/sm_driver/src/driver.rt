@@ -9,14 +9,14 @@ ghost use Rattle.sm_protocol.specs.Next.{unfinished_plans};
 ghost use Rattle.sm_protocol.specs.Steps.{Answered};
 ghost use Rattle.sm_protocol.specs.Happens.{Approve, Begin, engaged, happens};
 ghost use Rattle.sm_task_controller.specs.Decision.{denial};
-ghost use Rattle.sm_network.specs.Net.{cell_above, order_of};
-ghost use Rattle.sm_network.specs.World.{publication_of};
+ghost use Rattle.laws_network.specs.Net.{cell_above, order_of};
+ghost use Rattle.laws_network.specs.World.{publication_of};
 ghost use Rattle.sm_driver.specs.Advance.{next_free};
 ghost use Rattle.sm_driver.specs.Orders.{awaiting_of, bases_end, epoch_base, message_number, message_of, net_message, net_order, net_publication};
 ghost use Rattle.sm_driver.specs.Carried.{AreCarriedDown};
 ghost use Rattle.sm_driver.specs.Permits.{AreEarlierPermits, ArePermitsOfDown, restart_effect, server_permitted};
 ghost use Rattle.sm_driver.specs.Epochs.{HasOpenedEpoch, epoch_fault};
-ghost use Rattle.sm_driver.specs.Restores.{restore_at, was_told};
+ghost use Rattle.sm_driver.specs.Restores.{restore_at, is_last_restore};
 ghost use Rattle.sm_driver.specs.Driver.{HasRestored, HasApproved, HasCome, HasBegunPlan, HasTakenStep, base, answer_effect, is_due, is_past, awaits_answer, order_number, record_of};
 ghost use Rattle.sm_driver.specs.declared.driver.AnswerEffect.TheVariants as answer;
 ghost use Rattle.sm_driver.specs.declared.epoch.EpochFault.TheVariants as refusal;
@@ -26,9 +26,9 @@ mod opening;
 
 use crate::carried::CarriedServers;
 use crate::epoch::{EpochFault, epoch_after, fault_by, shard_spent};
+use crate::local_steps::{advance, advance_plan};
 use crate::order::{StreamMessage, StreamOrder, StreamPublication};
 use crate::ordering::{awaiting, awaits, message_of, order_number, order_of, publication_of};
-use crate::own_steps::{advance, advance_plan};
 use crate::permits::Permits;
 use crate::restart::{RestartEffect, is_settled};
 use crate::restores::{RestoreFault, Restores, ServerRestore, cells_told, recorded_cell};
@@ -68,7 +68,7 @@ pub struct Driver {
 
 impl Model for Driver {
     ghost use Rattle.sm_driver.specs.Epochs.{HasOpenedEpoch, epoch_fault};
-    ghost use Rattle.sm_driver.specs.Restores.{restore_at, was_told};
+    ghost use Rattle.sm_driver.specs.Restores.{restore_at, is_last_restore};
     ghost use Rattle.sm_driver.specs.Driver.{HasRestored, DriverModel, IsDriving};
 
     ghost Value = { DriverModel };
@@ -146,14 +146,14 @@ impl Driver {
         awaiting(self.machine(), list)
     }
 
-    /// States that no stream stands before a step that needs nobody.
+    /// States that no stream stands before a local step.
     pub fn is_advanced(&self)
         ensures { next_free (record_of self.now) ≡ None }
     {
         let _ = &self.director;
     }
 
-    /// Begins a plan that is ready and was checked for the configuration, and makes every step that needs nobody. Returns the plan's
+    /// Begins a plan that is ready and was checked for the configuration, and makes every local step. Returns the plan's
     /// number. If the plan does not begin, it comes back ready, and nothing changes.
     pub fn begin(&mut self, ready: ReadyPlan) -> Result<u32, (ReadyPlan, BeginFault)>
         requires { ready.setup ≡ self.old.machine.placement.setup }
@@ -198,7 +198,7 @@ impl Driver {
         }
     }
 
-    /// Makes the step of a stream that waits for an answer, and every step that needs nobody.
+    /// Makes the step of a stream that waits for an answer, and every local step.
     fn take_step(&mut self, id: StreamId)
         requires { awaits_answer self.old id ≡ true }
         ensures { HasTakenStep id self.old self.new }
@@ -208,8 +208,7 @@ impl Driver {
         advance(&mut self.director, id);
     }
 
-    /// Takes the answer to an order or a publication of a stream. If the stream waits for it, it makes its step, and every step that
-    /// needs nobody is made: neither the log's room nor the stream's allowance is in the way. Otherwise nothing changes.
+    /// Takes the answer to an order or a publication of a stream. If the stream waits for it, it makes its step, and every local step is made: neither the log's room nor the stream's allowance is in the way. Otherwise nothing changes.
     pub fn answered(&mut self, id: StreamId, number: u64) -> AnswerEffect
         ensures effect { result ≡ answer_effect self.old id number }
         ensures moved { result ≡ answer.Moved → HasTakenStep id self.old self.new }
@@ -302,14 +301,14 @@ impl Driver {
         nonce: u64,
     ) -> Result<bool, RestoreFault>
         requires { server < (record_of self.old).sizes.servers }
-        ensures again { IfOk result (λ is_new. is_new ≡ not (was_told self.old.restores server nonce)) }
+        ensures again { IfOk result (λ is_new. is_new ≡ not (is_last_restore self.old.restores server nonce)) }
         ensures restored { IfOk result (λ is_new. is_new ≡ true → HasRestored server nonce self.old self.new) }
         ensures known { IfOk result (λ is_new. is_new ≡ false → self.new ≡ self.old) }
         ensures engaged { IfErr result (λ why. why ≢ fault.NoMemory → option_map fault.Engaged (engaged (record_of self.old) server) ≡ Some why) }
-        ensures unknown { OnErr result (was_told self.old.restores server nonce ≡ false) }
+        ensures unknown { OnErr result (is_last_restore self.old.restores server nonce ≡ false) }
         ensures unchanged { OnErr result (self.new ≡ self.old) }
     {
-        if self.restores.was_told(server, nonce) {
+        if self.restores.is_last_restore(server, nonce) {
             return Ok(false);
         }
         if let Some(stream) = self.machine().engaged(server) {

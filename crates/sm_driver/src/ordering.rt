@@ -2,8 +2,8 @@
 ghost use Rattle.std.specs.Prelude.{◌≡◌, ◌≤◌, ◌<◌, ◌++◌, IfSome, OnOk, length, option_map, true};
 ghost use Rattle.std.specs.Option.{option_to_list};
 ghost use Rattle.sm_protocol.specs.State.{is_begun, numbers_end};
-ghost use Rattle.sm_network.specs.Net.{call_above, order_of};
-ghost use Rattle.sm_network.specs.World.{publication_of};
+ghost use Rattle.laws_network.specs.Net.{call_above, order_of};
+ghost use Rattle.laws_network.specs.World.{publication_of};
 ghost use Rattle.sm_machine.specs.State.{state_of};
 ghost use Rattle.sm_driver.specs.Orders.{awaiting, awaiting_in, awaiting_of, awaits, bases_end, handover_of, message_number, message_of, net_message, net_order, net_publication, number_above};
 

@@ -1,7 +1,7 @@
 //! Permits of restarts.
 ghost use Rattle.std.specs.Prelude.{◌≡◌, ◌≤◌, ◌<◌, ◌↔◌, ℕ, Some, IfOk, IsTrue, length, slice_set};
 ghost use Rattle.sm_placement.specs.Layout.{place_of};
-ghost use Rattle.sm_network.specs.Controller.{is_permitted};
+ghost use Rattle.laws_network.specs.Controller.{is_permitted};
 ghost use Rattle.sm_driver.specs.Orders.{bases_end};
 ghost use Rattle.sm_driver.specs.Permits.{AreEarlierPermits, opening_permit, opening_permits, permit_of, server_permitted};
 

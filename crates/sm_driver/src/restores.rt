@@ -2,10 +2,10 @@
 ghost use Rattle.std.specs.Prelude.{◌≡◌, ◌≤◌, ◌<◌, IfOk, Some, None, length, replicate, slice_set};
 ghost use Rattle.std.specs.Option.{option_copied};
 ghost use Rattle.sm_protocol.specs.State.{numbers_end};
-ghost use Rattle.sm_network.specs.Net.{cell_above};
+ghost use Rattle.laws_network.specs.Net.{cell_above};
 ghost use Rattle.sm_machine.specs.State.{state_of};
 ghost use Rattle.sm_driver.specs.Orders.{bases_end};
-ghost use Rattle.sm_driver.specs.Restores.{cells_told, handover_in_cell, restore_at, was_told};
+ghost use Rattle.sm_driver.specs.Restores.{cells_told, handover_in_cell, restore_at, is_last_restore};
 
 use sm_machine::Machine;
 use sm_reservation::StreamId;
@@ -114,9 +114,9 @@ impl Restores {
     }
 
     /// Returns whether a server was told under this nonce last.
-    pub fn was_told(&self, server: ServerId, nonce: u64) -> bool
+    pub fn is_last_restore(&self, server: ServerId, nonce: u64) -> bool
         requires { server < length self.now }
-        ensures { result ≡ was_told self.now server nonce }
+        ensures { result ≡ is_last_restore self.now server nonce }
     {
         match self.get(server) {
             None => false,

@@ -12,8 +12,8 @@ use Rattle.sm_placement.specs.Setup.{IsSetup, sizes_of}
 use Rattle.sm_placement.specs.Opening.{first_below, is_handing}
 use Rattle.sm_placement.proofs.Searches.{first_none, first_none_from}
 use Rattle.sm_protocol.specs.Laws.{IsOpening}
-use Rattle.sm_network.specs.Reopening.{Inventory, MapOwner, Server, Settlement, Slots, is_asked}
-use Rattle.sm_network.specs.ReopeningLaws.{Keeps, is_carried}
+use Rattle.laws_network.specs.Reopening.{Inventory, MapOwner, Server, Settlement, Slots, is_asked}
+use Rattle.laws_network.specs.ReopeningLaws.{Keeps, is_carried}
 use Rattle.sm_reopening.specs.declared.ongoing.OngoingReopening.{OngoingReopening}
 use Rattle.sm_reopening.specs.declared.party.FoundSlot.{FoundSlot}
 use Rattle.sm_reopening.specs.declared.party.Inventory.{Inventory as Told}

@@ -2,7 +2,7 @@
 use Rattle.std.proofs.Common.{◌≡◌, ◌<◌, Bool, true, false, Option, Some, None, ℕ, length, refl}
 use Rattle.std.specs.Prelude.{◌&&◌, ◌==◌, is_none, is_some, nat_lt, not}
 use Rattle.std.proofs.lemmas.Bool.{and_parts, ltb-true}
-use Rattle.sm_network.specs.Reopening.{Server, is_asked, is_first}
+use Rattle.laws_network.specs.Reopening.{Server, is_asked, is_first}
 use Rattle.sm_reopening.specs.declared.ongoing.OngoingReopening.{OngoingReopening}
 use Rattle.sm_reopening.specs.Ongoing.{net_reopening}
 

@@ -1,6 +1,6 @@
 mod Confirming
 mod Firsts
-mod Heirs
+mod Successors
 mod Standings
 mod Taking
 mod Updates

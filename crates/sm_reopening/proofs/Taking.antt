@@ -4,8 +4,8 @@ use Rattle.std.specs.Prelude.{◌&&◌, ◌==◌, is_some, not, if◌then◌else
 use Rattle.std.proofs.lemmas.Bool.{and_from, and_parts}
 use Rattle.sm_placement.specs.Opening.{first_below}
 use Rattle.sm_placement.proofs.Searches.{first_none, first_none_from}
-use Rattle.sm_network.specs.Reopening.{MapOwner, Party, Reopening, Server, Took, entered, put_party}
-use Rattle.sm_network.specs.ReopeningLaws.{AllTook}
+use Rattle.laws_network.specs.Reopening.{MapOwner, Party, Reopening, Server, Took, entered, put_party}
+use Rattle.laws_network.specs.ReopeningLaws.{AllTook}
 use Rattle.sm_reopening.specs.declared.ongoing.OngoingReopening.{OngoingReopening}
 use Rattle.sm_reopening.specs.Ongoing.{net_reopening}
 use Rattle.sm_reopening.specs.Settles.{first_unsettled, is_due_settle, is_unsettled}

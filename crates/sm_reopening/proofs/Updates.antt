@@ -5,8 +5,8 @@ use Rattle.std.proofs.Math.Path.{fun_ext}
 use Rattle.std.proofs.Math.ListN.{get_or-map}
 use Rattle.std.proofs.lemmas.Bool.{cases_eq, cases_lt, eq-eqb, le-ltb, lt-ltb, ne_eqb}
 use Rattle.std.proofs.lemmas.List.{get_or-set_same, get_or-set_other, get_or_past, length-map}
-use Rattle.sm_network.specs.Reopening.{Inventory, MapOwner, Party, Reopen, Reopening, Server, Settlement, entered, is_party, put_party}
-use Rattle.sm_network.specs.ReopeningLaws.{no_reopening}
+use Rattle.laws_network.specs.Reopening.{Inventory, MapOwner, Party, Reopen, Reopening, Server, Settlement, entered, is_party, put_party}
+use Rattle.laws_network.specs.ReopeningLaws.{no_reopening}
 use Rattle.sm_reopening.specs.declared.party.Inventory.{Inventory as Told}
 use Rattle.sm_reopening.specs.declared.party.Membership.{Membership}
 use Rattle.sm_reopening.specs.declared.party.Membership.TheVariants.{Member}

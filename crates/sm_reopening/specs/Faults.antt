@@ -9,8 +9,8 @@ use Rattle.sm_placement.specs.Place.{Place, down_count}
 use Rattle.sm_placement.specs.Setup.{sizes_of}
 use Rattle.sm_placement.specs.Opening.{is_handing}
 use Rattle.sm_plan_code.specs.declared.limits.TheConstants.{MOST_PLACES}
-use Rattle.sm_network.specs.Reopening.{Server, Settlement, is_asked}
-use Rattle.sm_network.specs.ReopeningLaws.{Keeps, MaySettle, is_carried}
+use Rattle.laws_network.specs.Reopening.{Server, Settlement, is_asked}
+use Rattle.laws_network.specs.ReopeningLaws.{Keeps, MaySettle, is_carried}
 use Rattle.sm_reopening.specs.declared.ongoing.OngoingReopening.{OngoingReopening}
 use Rattle.sm_reopening.specs.Ongoing.{is_complete, is_missing, left_out_of, past_state, recorded_place, recorded_setup, net_reopening, told_slot}
 use Rattle.sm_reopening.specs.Proposal.{has_known_lead}

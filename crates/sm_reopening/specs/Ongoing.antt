@@ -5,8 +5,8 @@ use Rattle.sm_placement.specs.Opening.{first_below}
 use Rattle.sm_placement.specs.Place.{Place}
 use Rattle.sm_placement.specs.Setup.{Setup, sizes_of}
 use Rattle.sm_protocol.specs.State.{State, opened}
-use Rattle.sm_network.specs.Reopening.{Inventory, MapOwner, Party, Reopening, Server, Slots, is_asked, is_first}
-use Rattle.sm_network.specs.ReopeningLaws.{is_carried}
+use Rattle.laws_network.specs.Reopening.{Inventory, MapOwner, Party, Reopening, Server, Slots, is_asked, is_first}
+use Rattle.laws_network.specs.ReopeningLaws.{is_carried}
 use Rattle.sm_reopening.specs.declared.ongoing.OngoingReopening.{OngoingReopening}
 use Rattle.sm_reopening.specs.declared.party.FoundSlot.{FoundSlot}
 use Rattle.sm_reopening.specs.declared.party.Inventory.{Inventory as Told}

@@ -7,13 +7,13 @@ use Rattle.sm_server.specs.declared.call.Role.TheVariants as role
 use Rattle.sm_server.specs.Cell.{is_primary, is_secondary}
 use Rattle.sm_placement.specs.Lead.{has_part}
 use Rattle.sm_placement.specs.Opening.{first_below}
-use Rattle.sm_network.specs.Reopening.{Server}
-use Rattle.sm_network.specs.ReopeningLaws.{is_carried}
+use Rattle.laws_network.specs.Reopening.{Server}
+use Rattle.laws_network.specs.ReopeningLaws.{is_carried}
 use Rattle.sm_reopening.specs.declared.party.FoundSlot.{FoundSlot}
 use Rattle.sm_reopening.specs.declared.ongoing.OngoingReopening.{OngoingReopening}
 use Rattle.sm_reopening.specs.Ongoing.{left_out_of, past_state, recorded_place, net_reopening, told_slot}
 use Rattle.sm_reopening.specs.Settles.{nonce_of}
-use Rattle.sm_reopening.specs.Survivors.{HasNoSurvivor, IsHeirOf, heir_of, standing_of}
+use Rattle.sm_reopening.specs.Survivors.{HasNoSurvivor, IsSuccessorOf, successor_of, standing_of}
 
 -- by shard and server, the role that the document gives
 abbrev pub Documented : Type 0
@@ -71,7 +71,7 @@ is_led x d s = has_known_lead x s || (not (is_held x s) && is_documented x d s)
 -- The primary that is proposed for a shard: who inherits it; without a survivor the lowest Unknown server that the document has as the primary;
 -- and none for a shard that has none.
 pub record IsProposedPrimary (x : OngoingReopening) (d : Documented) (s : ℕ) (primary : Option ℕ) : Type 0 where
-  pub heir : (u : ℕ) → is_led x d s ≡ true → IsHeirOf x s u → primary ≡ Some u
+  pub successor : (u : ℕ) → is_led x d s ≡ true → IsSuccessorOf x s u → primary ≡ Some u
   pub documented : is_led x d s ≡ true → HasNoSurvivor x s → primary ≡ first_below (net_reopening x).servers (λ v. is_primary_role (role_counted x d s v))
   pub none : is_led x d s ≡ false → primary ≡ None
 
@@ -86,7 +86,7 @@ first_or None other = other
 
 -- that primary as a function
 abbrev pub primary_of : OngoingReopening → Documented → ℕ → Option ℕ
-primary_of x d s = if is_led x d s then first_or (heir_of x s) (documented_primary x d s) else None
+primary_of x d s = if is_led x d s then first_or (successor_of x s) (documented_primary x d s) else None
 
 -- the server has a replica of the shard: it holds one, or has one by the document if it is Unknown
 abbrev pub keeps_replica : OngoingReopening → Documented → ℕ → ℕ → Bool
@@ -114,5 +114,6 @@ abbrev pub has_no_slots : OngoingReopening → ℕ → Bool
 has_no_slots x v = (net_reopening x).lost v || is_some (nonce_of ((net_reopening x).told (Server v)))
 
 -- the primary has not answered, and is not recorded as one: it is waited for, or named as lost
-abbrev pub is_silent_heir : OngoingReopening → ℕ → ℕ → Bool
-is_silent_heir x s u = is_carried (net_reopening x) (past_state x) u && not (is_primary ((recorded_place x).cells s u))
+abbrev pub is_silent_successor : OngoingReopening → ℕ → ℕ → Bool
+is_silent_successor x s u =
+    is_carried (net_reopening x) (past_state x) u && not (is_primary ((recorded_place x).cells s u))

@@ -3,7 +3,7 @@
 use Rattle.std.specs.Prelude.{◌≡◌, ℕ, ◌&&◌, ◌||◌, Bool, true, false, Option, Some, None, List, length, is_some, nat_le, option_map, slice_index_or, if◌then◌else◌}
 use Rattle.sm_server.specs.declared.call.Cell.TheVariants.{Absent}
 use Rattle.sm_placement.specs.Layout.{place_of}
-use Rattle.sm_network.specs.Reopening.{Inventory, MapOwner, Party, Reopening, Server, Settlement, Slots, Unknown, Entries}
+use Rattle.laws_network.specs.Reopening.{Inventory, MapOwner, Party, Reopening, Server, Settlement, Slots, Unknown, Entries}
 use Rattle.sm_reopening.specs.declared.party.FoundSlot.{FoundSlot}
 use Rattle.sm_reopening.specs.declared.party.Inventory.{Inventory as Told}
 use Rattle.sm_reopening.specs.declared.party.Inventory.TheVariants as told

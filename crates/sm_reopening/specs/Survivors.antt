@@ -1,8 +1,8 @@
--- The heirs of a shard: the survivors, by what they told or are recorded to have.
+-- The successors of a shard: the survivors, by what they told or are recorded to have.
 -- `slot_claim` is internal: you need not read it for the public contracts.
 use Rattle.std.specs.Prelude.{◌≡◌, ◌<◌, ℕ, ◌&&◌, ◌||◌, ◌==◌, Bool, true, false, Option, Some, None, is_none, nat_lt}
 use Rattle.sm_placement.specs.Opening.{first_below}
-use Rattle.sm_network.specs.ReopeningLaws.{claim, claim_of}
+use Rattle.laws_network.specs.ReopeningLaws.{claim, claim_of}
 use Rattle.sm_reopening.specs.declared.ongoing.OngoingReopening.{OngoingReopening}
 use Rattle.sm_reopening.specs.declared.survivors.Standing.{Standing}
 use Rattle.sm_reopening.specs.Ongoing.{told_positions, past_state, net_reopening}
@@ -22,7 +22,7 @@ abbrev pub standing_of : OngoingReopening → ℕ → ℕ → Standing
 standing_of x s v = record { claim = claim_of (net_reopening x) (past_state x) s v; position = told_positions x s v }
 
 -- The server inherits the shard: it has a claim, nobody stands above it, and it is the lowest of those that stand as high.
-pub record IsHeirOf (x : OngoingReopening) (s u : ℕ) : Type 0 where
+pub record IsSuccessorOf (x : OngoingReopening) (s u : ℕ) : Type 0 where
   pub known : u < (net_reopening x).servers
   pub claims : 0 < (standing_of x s u).claim
   pub best : (v : ℕ) → stands_above (standing_of x s v) (standing_of x s u) ≡ false
@@ -38,5 +38,5 @@ is_best x s u =
     nat_lt 0 (standing_of x s u).claim && is_none (first_below (net_reopening x).servers (λ v. stands_above (standing_of x s v) (standing_of x s u)))
 
 -- who inherits the shard, if there is a survivor: the lowest of these
-abbrev pub heir_of : OngoingReopening → ℕ → Option ℕ
-heir_of x s = first_below (net_reopening x).servers (is_best x s)
+abbrev pub successor_of : OngoingReopening → ℕ → Option ℕ
+successor_of x s = first_below (net_reopening x).servers (is_best x s)

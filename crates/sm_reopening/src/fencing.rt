@@ -1,8 +1,8 @@
 //! Fences, and the first answers to them.
 ghost use Rattle.std.specs.Prelude.{◌≡◌, ◌<◌, ◌≤◌, ◌↔◌, true, false, if◌then◌else◌, is_none, is_some, Some, None, length};
 ghost use Rattle.sm_placement.specs.Opening.{first_below};
-ghost use Rattle.sm_network.specs.Reopening.{Entries, MapOwner, Server, Told, entered, is_asked, is_first, put_party};
-ghost use Rattle.sm_network.specs.ReopeningLaws.{is_carried};
+ghost use Rattle.laws_network.specs.Reopening.{Entries, MapOwner, Server, Told, entered, is_asked, is_first, put_party};
+ghost use Rattle.laws_network.specs.ReopeningLaws.{is_carried};
 ghost use Rattle.sm_reopening.specs.States.{fits_told, net_inventory};
 ghost use Rattle.sm_reopening.specs.Ongoing.{IsSameButTold, first_awaited, is_waited_for, is_complete, left_out_of, may_carry, position_after, told_positions, put_position, past_state, recorded_place, net_reopening, shards_of};
 

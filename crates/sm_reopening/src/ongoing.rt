@@ -29,8 +29,8 @@ pub struct OngoingReopening {
 impl OngoingReopening {
     ghost use Rattle.std.specs.Prelude.{◌≡◌, ◌≤◌, IfOk, length};
     ghost use Rattle.sm_placement.specs.Layout.{place_of};
-    ghost use Rattle.sm_network.specs.Reopening.{Reopen, entered};
-    ghost use Rattle.sm_network.specs.ReopeningLaws.{no_reopening};
+    ghost use Rattle.laws_network.specs.Reopening.{Reopen, entered};
+    ghost use Rattle.laws_network.specs.ReopeningLaws.{no_reopening};
     ghost use Rattle.sm_reopening.specs.States.{AreNextStates, is_left_out, says_lost, no_positions};
     ghost use Rattle.sm_reopening.specs.Ongoing.{left_out_of, told_positions, recorded_place, recorded_setup, net_reopening, shards_of};
 

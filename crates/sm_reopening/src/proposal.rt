@@ -6,7 +6,7 @@ ghost use Rattle.sm_placement.specs.Opening.{first_below};
 ghost use Rattle.sm_reopening.specs.Ongoing.{net_reopening};
 ghost use Rattle.sm_reopening.specs.Proposal.{IsProposedPrimary, has_known_lead, has_no_slots, has_replica_role};
 ghost use Rattle.sm_reopening.specs.Proposal.{has_told_part, has_told_replica, has_whole, holds_replica};
-ghost use Rattle.sm_reopening.specs.Proposal.{is_documented, is_held, is_led, is_primary_role, is_silent_heir};
+ghost use Rattle.sm_reopening.specs.Proposal.{is_documented, is_held, is_led, is_primary_role, is_silent_successor};
 ghost use Rattle.sm_reopening.specs.Proposal.{keeps_replica, leads_shard, primary_of, proposed_cell, role_counted};
 
 use crate::ongoing::OngoingReopening;
@@ -216,9 +216,9 @@ impl OngoingReopening {
         if !self.is_led(documented, shard) {
             return None;
         }
-        let heir = self.heir(shard);
-        if heir.is_some() {
-            return heir;
+        let successor = self.successor(shard);
+        if successor.is_some() {
+            return successor;
         }
         self.documented_primary(documented, shard)
     }
@@ -281,8 +281,8 @@ impl OngoingReopening {
     }
 
     /// Returns whether a server that would be a shard's primary has not answered, and is not recorded as one.
-    pub fn is_silent_heir(&self, shard: ShardId, server: ServerId) -> bool
-        ensures { result ≡ is_silent_heir self.now shard server }
+    pub fn is_silent_successor(&self, shard: ShardId, server: ServerId) -> bool
+        ensures { result ≡ is_silent_successor self.now shard server }
     {
         self.is_carried(server) && !matches!(self.recorded_cell(shard, server), Cell::Primary)
     }

@@ -1,7 +1,7 @@
 //! Settles, and the answers to them.
 ghost use Rattle.std.specs.Prelude.{◌≡◌, ◌↔◌, ◌⊎◌, ◌&&◌, true, false, is_some, option_map};
-ghost use Rattle.sm_network.specs.Reopening.{Server, Took, entered, put_party};
-ghost use Rattle.sm_network.specs.ReopeningLaws.{AllTook};
+ghost use Rattle.laws_network.specs.Reopening.{Server, Took, entered, put_party};
+ghost use Rattle.laws_network.specs.ReopeningLaws.{AllTook};
 ghost use Rattle.sm_reopening.specs.Ongoing.{IsSameButTold, told_positions, net_reopening};
 ghost use Rattle.sm_reopening.specs.Settles.{first_unsettled, is_due_settle, is_unsettled, net_party, nonce_of, settle_messages, settle_sent, settled_of, what_settles};
 

@@ -1,9 +1,9 @@
 //! Survivors: who inherits a shard.
 ghost use Rattle.std.specs.Prelude.{◌≡◌, ◌<◌, ◌^◌, ◌↔◌, IfSome};
-ghost use Rattle.sm_network.specs.ReopeningLaws.{claim};
+ghost use Rattle.laws_network.specs.ReopeningLaws.{claim};
 ghost use Rattle.sm_reopening.specs.States.{slot_in};
 ghost use Rattle.sm_reopening.specs.Ongoing.{told_positions, recorded_place, told_slot};
-ghost use Rattle.sm_reopening.specs.Survivors.{HasNoSurvivor, IsHeirOf, slot_claim, standing_of, stands_above};
+ghost use Rattle.sm_reopening.specs.Survivors.{HasNoSurvivor, IsSuccessorOf, slot_claim, standing_of, stands_above};
 
 use crate::ongoing::OngoingReopening;
 use crate::party::{FoundSlot, Inventory};
@@ -114,11 +114,11 @@ impl OngoingReopening {
     }
 
     /// Returns who inherits a shard, if there is a survivor.
-    pub fn heir(&self, shard: ShardId) -> Option<ServerId>
-        ensures heir { IfSome result (IsHeirOf self.now shard) }
+    pub fn successor(&self, shard: ShardId) -> Option<ServerId>
+        ensures successor { IfSome result (IsSuccessorOf self.now shard) }
         ensures none { (result ≡ None) ↔ HasNoSurvivor self.now shard }
     {
-        let mut heir = None;
+        let mut successor = None;
         let mut best = Standing {
             claim: 0,
             position: u64::MAX,
@@ -127,10 +127,10 @@ impl OngoingReopening {
             let server = ServerId::new(number);
             let standing = self.standing(shard, server);
             if standing.is_above(&best) {
-                heir = Some(server);
+                successor = Some(server);
                 best = standing;
             }
         }
-        heir
+        successor
     }
 }

@@ -7,11 +7,11 @@ use Rattle.sm_plan_code.specs.Plan.{PlanModel}
 use Rattle.sm_verifier.specs.Plan.{IsSound}
 use Rattle.sm_verifier.specs.Admission.{IsAdmitted}
 use Rattle.sm_plan_text.specs.declared.member.Member.{Member}
-use Rattle.sm_report.specs.declared.early.Early.{Early}
-use Rattle.sm_report.specs.declared.early.Early.TheVariants.{NoMemory, ReadFailed, Report}
+use Rattle.sm_report.specs.declared.stop.Stop.{Stop}
+use Rattle.sm_report.specs.declared.stop.Stop.TheVariants.{NoMemory, ReadFailed, Report}
 use Rattle.sm_report.specs.Report.{Output, done}
 use Rattle.sm_report_text.specs.Checking.{accepted_line}
-use Rattle.sm_report.specs.Early.{IfEnded, IfMade}
+use Rattle.sm_report.specs.Stop.{IfEnded, IfMade}
 use Rattle.sm_report.specs.Stages.{Then, member_stage, IsFaultReport, IsHoldingReport}
 use Rattle.sm_report.specs.Output.{IsPlanReport}
 
@@ -24,25 +24,25 @@ pub goes_on : {A : Type 0} (stage : Result A Output) (Next : A → Output → Ty
 goes_on stage Next found made is next = subst (λ s. Then s Next made) (sym is) next
 
 -- what is said of the report with which a stage ended is said of it in weaker words
-pub ended_weaker : (early : Early) (P Q : Output → Type 0) → ((made : Output) → P made → Q made) → IfEnded early P → IfEnded early Q
+pub ended_weaker : (stop : Stop) (P Q : Output → Type 0) → ((made : Output) → P made → Q made) → IfEnded stop P → IfEnded stop Q
 ended_weaker NoMemory P Q weaker h = tt
 ended_weaker ReadFailed P Q weaker h = h
 ended_weaker (Report made) P Q weaker h = weaker made h
 
 -- the same of a report that was made, to its end or to that of an earlier stage
-pub made_weaker : (result : Result Output Early) (P Q : Output → Type 0) → ((made : Output) → P made → Q made) → IfMade result P → IfMade result Q
+pub made_weaker : (result : Result Output Stop) (P Q : Output → Type 0) → ((made : Output) → P made → Q made) → IfMade result P → IfMade result Q
 made_weaker (Ok made) P Q weaker h = weaker made h
-made_weaker (Err early) P Q weaker h = ended_weaker early P Q weaker h
+made_weaker (Err stop) P Q weaker h = ended_weaker stop P Q weaker h
 
 -- where a stage ended the report, it is that of the command
-pub stage_ended : {A : Type 0} (stage : Result A Output) (Next : A → Output → Type 0) (early : Early) (result : Result Output Early) → result ≡ Err early
-    → IfEnded early (λ made. stage ≡ Err made) → IfMade result (Then stage Next)
-stage_ended stage Next early result is ends =
+pub stage_ended : {A : Type 0} (stage : Result A Output) (Next : A → Output → Type 0) (stop : Stop) (result : Result Output Stop) → result ≡ Err stop
+    → IfEnded stop (λ made. stage ≡ Err made) → IfMade result (Then stage Next)
+stage_ended stage Next stop result is ends =
     subst (λ r. IfMade r (Then stage Next)) (sym is)
-    (ended_weaker early (λ made. stage ≡ Err made) (Then stage Next) (λ made h. ends_there stage Next made h) ends)
+    (ended_weaker stop (λ made. stage ≡ Err made) (Then stage Next) (λ made h. ends_there stage Next made h) ends)
 
 -- where a stage went on, the report that the next ones make is that of the command
-pub stage_went_on : {A : Type 0} (stage : Result A Output) (Next : A → Output → Type 0) (found : A) (result : Result Output Early) → stage ≡ Ok found
+pub stage_went_on : {A : Type 0} (stage : Result A Output) (Next : A → Output → Type 0) (found : A) (result : Result Output Stop) → stage ≡ Ok found
     → IfMade result (Next found) → IfMade result (Then stage Next)
 stage_went_on stage Next found result is next = made_weaker result (Next found) (Then stage Next) (λ made h. goes_on stage Next found made is h) next
 
@@ -54,19 +54,19 @@ member_there P m (Some v) found is h = let same : v ≡ found = cc in subst P sa
 -- ---- a plan at a placement
 
 -- a plan that does not pass the check is reported with its fault
-pub plan_refused : (setup : Setup) (p : Place) (plan : PlanModel) (early : Early) (result : Result Output Early) → result ≡ Err early
-    → IfEnded early (IsFaultReport (sizes_of setup) [] plan) → IfMade result (IsPlanReport setup plan p)
-plan_refused setup p plan early result is ends =
+pub plan_refused : (setup : Setup) (p : Place) (plan : PlanModel) (stop : Stop) (result : Result Output Stop) → result ≡ Err stop
+    → IfEnded stop (IsFaultReport (sizes_of setup) [] plan) → IfMade result (IsPlanReport setup plan p)
+plan_refused setup p plan stop result is ends =
     subst (λ r. IfMade r (IsPlanReport setup plan p)) (sym is)
-    (ended_weaker early (IsFaultReport (sizes_of setup) [] plan) (IsPlanReport setup plan p) (λ made h. inl h) ends)
+    (ended_weaker stop (IsFaultReport (sizes_of setup) [] plan) (IsPlanReport setup plan p) (λ made h. inl h) ends)
 
 -- a plan that passed the check and may not start is reported with what holds it up
-pub plan_held : (setup : Setup) (p : Place) (plan checked : PlanModel) (early : Early) (result : Result Output Early) → result ≡ Err early → checked ≡ plan
-    → IsSound (sizes_of setup) plan → IfEnded early (IsHoldingReport setup p checked) → IfMade result (IsPlanReport setup plan p)
-plan_held setup p plan checked early result is same sound ends =
+pub plan_held : (setup : Setup) (p : Place) (plan checked : PlanModel) (stop : Stop) (result : Result Output Stop) → result ≡ Err stop → checked ≡ plan
+    → IsSound (sizes_of setup) plan → IfEnded stop (IsHoldingReport setup p checked) → IfMade result (IsPlanReport setup plan p)
+plan_held setup p plan checked stop result is same sound ends =
     subst (λ r. IfMade r (IsPlanReport setup plan p)) (sym is)
-    (ended_weaker early (IsHoldingReport setup p plan) (IsPlanReport setup plan p) (λ made h. inr (sound, inl h))
-    (subst (λ x. IfEnded early (IsHoldingReport setup p x)) same ends))
+    (ended_weaker stop (IsHoldingReport setup p plan) (IsPlanReport setup plan p) (λ made h. inr (sound, inl h))
+    (subst (λ x. IfEnded stop (IsHoldingReport setup p x)) same ends))
 
 -- a plan that may start is reported as accepted
 pub plan_accepted : (setup : Setup) (p : Place) (plan checked told : PlanModel) (made : Output) → checked ≡ plan → told ≡ checked

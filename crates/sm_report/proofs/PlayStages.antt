@@ -11,8 +11,8 @@ use Rattle.sm_placement.specs.Place.{Place}
 use Rattle.sm_protocol.specs.declared.event.Event.{Event}
 use Rattle.sm_plan_code.specs.Plan.{PlanModel}
 use Rattle.sm_verifier.specs.Plan.{IsSound}
-use Rattle.sm_report.specs.declared.early.Early.{Early}
-use Rattle.sm_report.specs.Early.{IfEnded, IfMade}
+use Rattle.sm_report.specs.declared.stop.Stop.{Stop}
+use Rattle.sm_report.specs.Stop.{IfEnded, IfMade}
 use Rattle.sm_report_text.specs.Checking.{accepted_line}
 use Rattle.sm_report.specs.Playing.{Scene, opened_scene}
 use Rattle.sm_report_text.specs.EventLines.{plan_front}
@@ -113,12 +113,12 @@ for_more setup (x ∷ xs) c for is (suc k) p e = for_more setup xs c (λ j q f. 
 -- ---- reports
 
 -- a report that ended at a check
-pub stopped_report : (c d : Sizes) (many : Bool) (Next : Output → Type 0) (plans : List PlanModel) (early : Early) (result : Result Output Early) → result ≡ Err early → c ≡ d →
-    IfEnded early (AtChecks c many 0 plans (λ other. ⊥)) → IfMade result (AtChecks d many 0 plans Next)
-stopped_report c d many Next plans early result is same ends =
+pub stopped_report : (c d : Sizes) (many : Bool) (Next : Output → Type 0) (plans : List PlanModel) (stop : Stop) (result : Result Output Stop) → result ≡ Err stop → c ≡ d →
+    IfEnded stop (AtChecks c many 0 plans (λ other. ⊥)) → IfMade result (AtChecks d many 0 plans Next)
+stopped_report c d many Next plans stop result is same ends =
     subst (λ r. IfMade r (AtChecks d many 0 plans Next)) (sym is)
-    (subst (λ s. IfEnded early (AtChecks s many 0 plans Next)) same
-    (ended_weaker early (AtChecks c many 0 plans (λ other. ⊥)) (AtChecks c many 0 plans Next) (λ made h. stopped_at c many Next plans made h) ends))
+    (subst (λ s. IfEnded stop (AtChecks s many 0 plans Next)) same
+    (ended_weaker stop (AtChecks c many 0 plans (λ other. ⊥)) (AtChecks c many 0 plans Next) (λ made h. stopped_at c many Next plans made h) ends))
 
 -- one behind checks that were passed
 pub passed_report : (c d : Sizes) (many : Bool) (Next : Output → Type 0) (plans : List PlanModel) (made : Output) → c ≡ d →
@@ -139,7 +139,7 @@ pub some_known : {A B : Type 0} (f : A → B) (P : B → Type 0) (o : Option A) 
 some_known f P o x is h = subst (λ o. IfSome (option_map f o) P) is h
 
 -- the report of a document with one plan
-pub one_at : (setup : Setup) (c : Sizes) (p : Place) (log : ℕ) (plans : List PlanModel) (plan : PlanModel) (front : List ℕ) (events : List Event) (x : Scene) (result : Result Output Early) → c ≡ sizes_of setup →
+pub one_at : (setup : Setup) (c : Sizes) (p : Place) (log : ℕ) (plans : List PlanModel) (plan : PlanModel) (front : List ℕ) (events : List Event) (x : Scene) (result : Result Output Stop) → c ≡ sizes_of setup →
     plans ≡ plan ∷ [] → front ≡ accepted_line plan → x ≡ opened_scene c p log plans → ((y : Output) → AtChecks c false 0 plans (λ other. other ≡ y) y) →
     IfMade result (Then (begin_stage setup x) (IsPlayedOutput setup false front events)) →
     IfMade result (AtChecks (sizes_of setup) false 0 (plan ∷ []) (Then (begin_stage setup (opened_scene (sizes_of setup) p log (plan ∷ []))) (IsPlayedOutput setup false (accepted_line plan) events)))
@@ -153,5 +153,5 @@ one_at setup c p log plans plan front events x result same listed told scene pas
     Next = Then (begin_stage setup (opened_scene (sizes_of setup) p log (plan ∷ []))) (IsPlayedOutput setup false (accepted_line plan) events)
 
 -- what is said of the ending of a stage is said of its result
-pub ended_so : {A : Type 0} (result : Result A Early) (early : Early) (P : Output → Type 0) → result ≡ Err early → IfEnded early P → IfErr result (λ e. IfEnded e P)
-ended_so {A} result early P is h = subst (λ (r : Result A Early). IfErr r (λ e. IfEnded e P)) (sym is) h
+pub ended_so : {A : Type 0} (result : Result A Stop) (stop : Stop) (P : Output → Type 0) → result ≡ Err stop → IfEnded stop P → IfErr result (λ e. IfEnded e P)
+ended_so {A} result stop P is h = subst (λ (r : Result A Stop). IfErr r (λ e. IfEnded e P)) (sym is) h

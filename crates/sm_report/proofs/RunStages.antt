@@ -20,12 +20,12 @@ use Rattle.sm_executor.specs.Closed.{IsClosed}
 use Rattle.sm_executor.specs.Views.{CallerModel, EndedModel, RunnerModel, running, AreRunners, streams_ended, streams_run}
 use Rattle.sm_executor.proofs.Leading.{HasMorePlans, plans_stay, opening_stays}
 use Rattle.sm_plan_text.specs.Documents.{DocumentModel}
-use Rattle.sm_report.specs.declared.early.Early.{Early}
-use Rattle.sm_report.specs.declared.early.Early.TheVariants as early
-use Rattle.sm_report.specs.declared.unmade.Unmade.{Unmade}
-use Rattle.sm_report.specs.declared.unmade.Unmade.TheVariants as unmade
+use Rattle.sm_report.specs.declared.stop.Stop.{Stop}
+use Rattle.sm_report.specs.declared.stop.Stop.TheVariants as stop
+use Rattle.sm_report.specs.declared.run_stop.RunStop.{RunStop}
+use Rattle.sm_report.specs.declared.run_stop.RunStop.TheVariants as run_stop
 use Rattle.sm_report_text.specs.Checking.{accepted_line}
-use Rattle.sm_report.specs.Early.{IfReadEnded}
+use Rattle.sm_report.specs.Stop.{IfReadEnded}
 use Rattle.sm_report_text.specs.Ending.{ending}
 use Rattle.sm_report.specs.Output.{IsReadAs}
 use Rattle.sm_report_text.specs.EventLines.{not_begun_line}
@@ -33,22 +33,22 @@ use Rattle.sm_report.specs.Report.{Output, done, refused}
 use Rattle.sm_report.specs.RunLines.{end_lines, run_lines, client_line, client_lines}
 use Rattle.sm_report.specs.Running.{HasRun, WasRunOrNot, IsStartedForRun, IsRunReport, IsRunReportOf, first_streams, are_steps_and_requests}
 use Rattle.sm_report.specs.Stages.{begun_or_refused, read_stage, start_stage, AtCheck}
-use Rattle.sm_report.specs.Unmade.{IfUnmade, IfRan, IfReadRan, IsOfRun, not_run}
+use Rattle.sm_report.specs.RunStop.{IfRunStop, IfRan, IfReadRan, IsOfRun, not_run}
 use Rattle.sm_report.proofs.Onward.{ends_there, goes_on, ended_weaker}
 use Rattle.sm_report.proofs.Inputs.{read_weaker}
 use Rattle.sm_report.proofs.RunLines.{down_as_opened, lines_are}
 
 -- what is said of a report of a run is said of it in weaker words
-unmade_weaker : (why : Unmade) (P Q : Output → Type 0) → ((made : Output) → P made → Q made) → IfUnmade why P → IfUnmade why Q
-unmade_weaker (unmade.Early ended) P Q weaker h = ended_weaker ended P Q weaker h
-unmade_weaker (unmade.Unrun why) P Q weaker h = weaker (not_run why) h
+run_stop_weaker : (why : RunStop) (P Q : Output → Type 0) → ((made : Output) → P made → Q made) → IfRunStop why P → IfRunStop why Q
+run_stop_weaker (run_stop.Stop ended) P Q weaker h = ended_weaker ended P Q weaker h
+run_stop_weaker (run_stop.NotFinished why) P Q weaker h = weaker (not_run why) h
 
-pub ran_weaker : (result : Result Output Unmade) (P Q : Output → Type 0) → ((made : Output) → P made → Q made) → IfRan result P → IfRan result Q
+pub ran_weaker : (result : Result Output RunStop) (P Q : Output → Type 0) → ((made : Output) → P made → Q made) → IfRan result P → IfRan result Q
 ran_weaker (Ok made) P Q weaker h = weaker made h
-ran_weaker (Err why) P Q weaker h = unmade_weaker why P Q weaker h
+ran_weaker (Err why) P Q weaker h = run_stop_weaker why P Q weaker h
 
 -- one of a plan that passed the check, and then begins
-pub run_checked : (setup given : Setup) (p : Place) (log : ℕ) (plan checked : PlanModel) (asks told : List ℕ) (result : Result Output Unmade) → given ≡ setup → checked ≡ plan → told ≡ asks → IsSound (sizes_of given) plan
+pub run_checked : (setup given : Setup) (p : Place) (log : ℕ) (plan checked : PlanModel) (asks told : List ℕ) (result : Result Output RunStop) → given ≡ setup → checked ≡ plan → told ≡ asks → IsSound (sizes_of given) plan
     → IfRan result (IsStartedForRun (opened (sizes_of given) p log) given checked told) → IfRan result (AtCheck (sizes_of setup) [] plan (IsStartedForRun (opened (sizes_of setup) p log) setup plan asks))
 run_checked setup given p log plan checked asks told result same plans asked sound h =
     ran_weaker result (IsStartedForRun (opened (sizes_of given) p log) given checked told) (AtCheck (sizes_of setup) [] plan (IsStartedForRun (opened (sizes_of setup) p log) setup plan asks))
@@ -62,15 +62,15 @@ run_checked setup given p log plan checked asks told result same plans asked sou
 -- ---- what is read
 
 -- what is said of a report that was made of what was read is said in weaker words of one that reads too
-behind_reading : (result : Result Output Unmade) (P Q : Output → Type 0) → ((made : Output) → P made → Q made) → IfRan result P → IfReadRan result Q
+behind_reading : (result : Result Output RunStop) (P Q : Output → Type 0) → ((made : Output) → P made → Q made) → IfRan result P → IfReadRan result Q
 behind_reading (Ok made) P Q weaker h = weaker made h
-behind_reading (Err (unmade.Early early.NoMemory)) P Q weaker h = tt
-behind_reading (Err (unmade.Early early.ReadFailed)) P Q weaker h = tt
-behind_reading (Err (unmade.Early (early.Report made))) P Q weaker h = weaker made h
-behind_reading (Err (unmade.Unrun why)) P Q weaker h = weaker (not_run why) h
+behind_reading (Err (run_stop.Stop stop.NoMemory)) P Q weaker h = tt
+behind_reading (Err (run_stop.Stop stop.ReadFailed)) P Q weaker h = tt
+behind_reading (Err (run_stop.Stop (stop.Report made))) P Q weaker h = weaker made h
+behind_reading (Err (run_stop.NotFinished why)) P Q weaker h = weaker (not_run why) h
 
 -- a report that ends where the bytes are read
-pub run_unread : (most : ℕ) (left : Option (List ℕ)) (ended : Early) (result : Result Output Unmade) → result ≡ Err (unmade.Early ended)
+pub run_unread : (most : ℕ) (left : Option (List ℕ)) (ended : Stop) (result : Result Output RunStop) → result ≡ Err (run_stop.Stop ended)
     → IfReadEnded ended (λ made. IsReadAs left most (Err made)) → IfReadRan result (IsRunReportOf most left)
 run_unread most left ended result is ends =
     subst (λ r. IfReadRan r (IsRunReportOf most left)) (sym is)
@@ -78,7 +78,7 @@ run_unread most left ended result is ends =
     (λ made h. (h.0, h.1, ends_there (read_stage most h.0) IsRunReport made h.2)) ends)
 
 -- a report that goes on with the document
-pub run_read : (most : ℕ) (left : Option (List ℕ)) (rows : DocumentModel) (result : Result Output Unmade) → IsReadAs left most (Ok rows)
+pub run_read : (most : ℕ) (left : Option (List ℕ)) (rows : DocumentModel) (result : Result Output RunStop) → IsReadAs left most (Ok rows)
     → IfRan result (IsRunReport rows) → IfReadRan result (IsRunReportOf most left)
 run_read most left rows result h reported =
     behind_reading result (IsRunReport rows) (IsRunReportOf most left)
@@ -142,7 +142,7 @@ IsTold begun setup ended clients accepted asked made =
     × (made ≡ done (accepted ++ end_lines now 0 ++ asked ++ ending setup now.place))
 
 -- the report of the machine of a board that is closed, at which one plan has begun
-pub is_told : (begun now : State) (setup given : Setup) (ended : List EndedModel) (clients : List ClientModel) (accepted asked : List ℕ) (result : Result Output Unmade)
+pub is_told : (begun now : State) (setup given : Setup) (ended : List EndedModel) (clients : List ClientModel) (accepted asked : List ℕ) (result : Result Output RunStop)
     → given ≡ setup → IsClosed setup begun now ended (callers_of clients) → OnOk result (length now.plans ≡ 1) → OnOk result (are_steps_and_requests now.log ≡ true)
     → IfOk result (λ made. made ≡ done (accepted ++ end_lines now 0 ++ asked ++ ending given now.place)) → IfOk result (IsTold begun setup ended clients accepted asked)
 is_told begun now setup given ended clients accepted asked (Ok made) same closed alone own text =
@@ -150,16 +150,16 @@ is_told begun now setup given ended clients accepted asked (Ok made) same closed
 is_told begun now setup given ended clients accepted asked (Err why) same closed alone own text = tt
 
 -- where no stage before the run has ended the report, it says why the plan was not run to its end, if there is one
-pub was_not_run : (begun : State) (setup : Setup) (asks : List ℕ) (why : Unmade) → IsOfRun why → IfUnmade why (WasRunOrNot begun setup asks)
-was_not_run begun setup asks (unmade.Early ended) h = ended_weaker ended (λ made. ⊥) (WasRunOrNot begun setup asks) (λ made never. absurd never) h
-was_not_run begun setup asks (unmade.Unrun why) h = inr (why, refl)
+pub was_not_run : (begun : State) (setup : Setup) (asks : List ℕ) (why : RunStop) → IsOfRun why → IfRunStop why (WasRunOrNot begun setup asks)
+was_not_run begun setup asks (run_stop.Stop ended) h = ended_weaker ended (λ made. ⊥) (WasRunOrNot begun setup asks) (λ made never. absurd never) h
+was_not_run begun setup asks (run_stop.NotFinished why) h = inr (why, refl)
 
 -- the report of such a run on a board that is closed
-pub was_run : (begun : State) (setup : Setup) (asks : List ℕ) (ended : List EndedModel) (clients : List ClientModel) (accepted asked : List ℕ) (result : Result Output Unmade)
+pub was_run : (begun : State) (setup : Setup) (asks : List ℕ) (ended : List EndedModel) (clients : List ClientModel) (accepted asked : List ℕ) (result : Result Output RunStop)
     → length begun.plans ≡ 1 → HasRun (stream_count begun 0) ended clients → shards_of clients ≡ asks → All (IsClient setup begun) clients → accepted ≡ accepted_line (plan_at begun 0) → asked ≡ client_lines setup 0 clients
     → IfOk result (IsTold begun setup ended clients accepted asked) → IfErr result IsOfRun → IfRan result (WasRunOrNot begun setup asks)
-was_run begun setup asks ended clients accepted asked (Err why) one ran shards ways front lines told unrun = was_not_run begun setup asks why unrun
-was_run begun setup asks ended clients accepted asked (Ok made) one ran shards ways front lines told unrun =
+was_run begun setup asks ended clients accepted asked (Err why) one ran shards ways front lines told not_finished = was_not_run begun setup asks why not_finished
+was_run begun setup asks ended clients accepted asked (Ok made) one ran shards ways front lines told not_finished =
     let same = nothing_more begun told.0 (plans_stay begun told.0 told.1.state.state.goes_on) one told.2 in
     let ran_lines : end_lines told.0 0 ≡ run_lines (plan_at begun 0) =
     lines_are setup told.0 told.1.state.state.reached told.1.state.done told.1.state.in_log told.3 told.2

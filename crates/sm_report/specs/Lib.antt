@@ -1,7 +1,7 @@
 pub mod Status
 pub mod Answers
 pub mod Report
-pub mod Early
+pub mod Stop
 pub mod Playing
 pub mod SafeScenes
 pub mod PlayLines
@@ -10,5 +10,5 @@ pub mod Stages
 pub mod Planning
 pub mod Output
 pub mod RunLines
-pub mod Unmade
+pub mod RunStop
 pub mod Running

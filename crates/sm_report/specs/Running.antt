@@ -20,7 +20,7 @@ use Rattle.sm_report_text.specs.Ending.{ending}
 use Rattle.sm_report.specs.Output.{IsInput}
 use Rattle.sm_report.specs.Report.{Output, done}
 use Rattle.sm_report.specs.RunLines.{run_lines, client_lines}
-use Rattle.sm_report.specs.Unmade.{IsUnrun}
+use Rattle.sm_report.specs.RunStop.{IsNotFinished}
 use Rattle.sm_report.specs.Stages.{Then, read_stage, member_stage, placement_stage, log_stage, start_stage, AtCheck}
 
 -- ---- what came of a run
@@ -64,7 +64,7 @@ pub record WasRun (begun : State) (setup : Setup) (asks : List ℕ) (output : Ou
 
 -- the plan that has begun was run beside asks, or it was not run to its end and the report says why
 abbrev pub WasRunOrNot : State → Setup → List ℕ → Output → Type 0
-WasRunOrNot begun setup asks output = WasRun begun setup asks output ⊎ IsUnrun output
+WasRunOrNot begun setup asks output = WasRun begun setup asks output ⊎ IsNotFinished output
 
 -- a plan begins from this state, if it may, and is then run beside asks
 abbrev pub IsStartedForRun : State → Setup → PlanModel → List ℕ → Output → Type 0

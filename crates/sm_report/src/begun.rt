@@ -1,7 +1,7 @@
 //! A plan that has begun on a machine and has no board yet.
 ghost use Rattle.std.specs.Prelude.{◌≡◌, ◌≤◌, IfOk, [], vec_len, vec_capacity};
 
-use crate::given::Given;
+use crate::outstanding::Outstanding;
 use sm_executor::Naming;
 use sm_machine::{Machine, Permit, StreamToken};
 use std::alloc::{AllocError, Global};
@@ -36,14 +36,14 @@ impl Begun {
         self,
         alloc: Global,
         asks: usize,
-    ) -> Result<(Begun, Given<A, B, C, N>), AllocError>
+    ) -> Result<(Begun, Outstanding<A, B, C, N>), AllocError>
         ensures begun { IfOk result (λ both. both.0 ≡ self) }
         ensures ended { IfOk result (λ both. both.1.ended.items ≡ []) }
         ensures clients { IfOk result (λ both. (both.1.clients.items ≡ []) × (asks ≤ vec_capacity both.1.clients)) }
         ensures callers { IfOk result (λ both. (both.1.callers.items ≡ []) × (asks ≤ vec_capacity both.1.callers)) }
         ensures tokens { IfOk result (λ both. (both.1.tokens.items ≡ []) × (vec_len self.tokens ≤ vec_capacity both.1.tokens)) }
     {
-        match Given::with_room(alloc, self.tokens.len(), asks) {
+        match Outstanding::with_room(alloc, self.tokens.len(), asks) {
             Ok(given) => Ok((self, given)),
             Err(error) => {
                 self.give_up(alloc);

@@ -15,15 +15,15 @@ ghost use Rattle.sm_report_text.specs.EventLines.{not_begun_line};
 ghost use Rattle.sm_report.specs.Report.{done, refused};
 ghost use Rattle.sm_report.specs.RunLines.{end_lines, client_lines};
 ghost use Rattle.sm_report.specs.Running.{HasRun, WasRunOrNot, IsStartedForRun, is_step_or_request, are_steps_and_requests};
-ghost use Rattle.sm_report.specs.Unmade.{IfRan, IsOfRun};
+ghost use Rattle.sm_report.specs.RunStop.{IfRan, IsOfRun};
 ghost use Rattle.sm_plan_code.specs.declared.limits.TheConstants.{MOST_STREAMS};
 
 use crate::begun::Begun;
-use crate::early::Early;
-use crate::given::{Given, keep_back, keep_ends, take_callers};
-use crate::made::Made;
+use crate::made_report::MadeReport;
+use crate::outstanding::{Outstanding, keep_back, keep_ends, take_callers};
 use crate::run_lines::{push_clients, push_ends};
-use crate::unmade::{Unmade, Unrun};
+use crate::run_stop::{NotFinished, RunStop};
+use crate::stop::Stop;
 use sm_executor::{
     Board, Client, Ground, Naming, NotOpened, Open, Runner, run_beside, take_tokens,
 };
@@ -40,13 +40,13 @@ use std::sync::ledger::Ledger;
 use std::thread::Threads;
 
 /// Returns the report of a plan that does not begin; none if memory was short for its start.
-fn not_begun(alloc: Global, config: &Config, fault: BeginFault) -> Result<Made, AllocError>
+fn not_begun(alloc: Global, config: &Config, fault: BeginFault) -> Result<MadeReport, AllocError>
     ensures { IfOk result (λ made. (fault ≢ begin_fault.NoMemory) × (made ≡ refused (not_begun_line config.now fault))) }
 {
     if fault == BeginFault::NoMemory {
         return Err(AllocError);
     }
-    Made::not_begun(alloc, config, fault)
+    MadeReport::not_begun(alloc, config, fault)
 }
 
 /// Makes a client for each ask, in an empty list with room for all. Returns false if the board gives out no more
@@ -101,8 +101,8 @@ fn run_begun<
     board: &Board<A, B, C, N>,
     runners: Vec<Runner<A>>,
     asks: &[ShardId],
-    given: &mut Given<A, B, C, N>,
-) -> Result<(), Unmade>
+    given: &mut Outstanding<A, B, C, N>,
+) -> Result<(), RunStop>
     requires none { (given.old.ended.items ≡ []) × (given.old.clients.items ≡ []) × (given.old.tokens.items ≡ []) }
     requires room { (length asks.now ≤ vec_capacity given.old.clients) × (vec_len runners ≤ vec_capacity given.old.tokens) }
     requires runners { AreRunners 0 (stream_count N.opened 0) runners.items }
@@ -114,7 +114,7 @@ fn run_begun<
 {
     if !make_clients(rt, board, asks, &mut given.clients) {
         take_tokens(runners, &mut given.tokens);
-        return Err(Unmade::Unrun(Unrun::NoCaller));
+        return Err(RunStop::NotFinished(NotFinished::NoCaller));
     }
     let clients = given.clients.as_mut_slice();
     match run_beside(rt, alloc, board, runners, clients, &Open) {
@@ -132,14 +132,14 @@ fn tell_asks<B: Ledger, C: Ledger, N: Naming>(
     config: &Config,
     clients: &[Client<B, C, N>],
     asks: &[ShardId],
-) -> Result<String, Unmade>
+) -> Result<String, RunStop>
     ensures shards { OnOk result (map (λ client. client.shard) clients.now ≡ asks.now) }
     ensures asked { IfOk result (λ asked. string_bytes asked ≡ client_lines config.now 0 clients.now) }
     ensures ways { OnOk result (All (IsClient N.setup N.opened) clients.now) }
     ensures why { IfErr result IsOfRun }
 {
     if !are_of(clients, asks) {
-        return Err(Unmade::Unrun(Unrun::OtherAsk));
+        return Err(RunStop::NotFinished(NotFinished::OtherAsk));
     }
     let mut asked = String::new(alloc);
     push_clients(&mut asked, config, clients)?;
@@ -159,8 +159,8 @@ fn run_told<
     board: &Board<A, B, C, N>,
     runners: Vec<Runner<A>>,
     asks: &[ShardId],
-    given: &mut Given<A, B, C, N>,
-) -> Result<String, Unmade>
+    given: &mut Outstanding<A, B, C, N>,
+) -> Result<String, RunStop>
     requires none { (given.old.ended.items ≡ []) × (given.old.clients.items ≡ []) × (given.old.tokens.items ≡ []) }
     requires room { (length asks.now ≤ vec_capacity given.old.clients) × (vec_len runners ≤ vec_capacity given.old.tokens) }
     requires runners { AreRunners 0 (stream_count N.opened 0) runners.items }
@@ -196,14 +196,14 @@ fn are_steps_and_requests(log: &[Logged]) -> bool
 
 /// Adds the lines of the streams of a machine's one plan. Threads do not tell what they did to a board. So it looks
 /// whether another plan has begun, and whether the log has other events than the run's.
-fn push_plan_ends(out: &mut String, machine: &Machine) -> Result<(), Unmade>
+fn push_plan_ends(out: &mut String, machine: &Machine) -> Result<(), RunStop>
     ensures alone { OnOk result (length (state_of machine.now).plans ≡ 1) }
     ensures own { OnOk result (are_steps_and_requests (state_of machine.now).log ≡ true) }
     ensures lines { OnOk result (string_bytes out.new ≡ string_bytes out.old ++ end_lines (state_of machine.now) 0) }
     ensures why { IfErr result IsOfRun }
 {
     if machine.plan_count() != 1 || !are_steps_and_requests(machine.log()) {
-        return Err(Unmade::Unrun(Unrun::OtherEvents));
+        return Err(RunStop::NotFinished(NotFinished::OtherEvents));
     }
     push_ends(out, machine)?;
     Ok(())
@@ -217,7 +217,7 @@ fn report_machine(
     permits: Vec<Permit>,
     accepted: String,
     asked: String,
-) -> Result<Made, Unmade>
+) -> Result<MadeReport, RunStop>
     ensures alone { OnOk result (length (state_of machine).plans ≡ 1) }
     ensures own { OnOk result (are_steps_and_requests (state_of machine).log ≡ true) }
     ensures text { IfOk result (λ made. made ≡ done (string_bytes accepted ++ end_lines (state_of machine) 0 ++ string_bytes asked ++ ending machine.placement.setup (state_of machine).place)) }
@@ -229,18 +229,18 @@ fn report_machine(
     ends?;
     text.push_str(asked.as_str())?;
     push_ending(&mut text, &placement)?;
-    Ok(Made::done(text))
+    Ok(MadeReport::done(text))
 }
 
 /// Closes a board, and returns the report of the plan that was run on it.
 fn report_ran<A: Ledger, B: Ledger, C: Ledger, N: Naming>(
     alloc: Global,
     board: Board<A, B, C, N>,
-    given: Given<A, B, C, N>,
+    given: Outstanding<A, B, C, N>,
     permits: Vec<Permit>,
     accepted: String,
     asked: String,
-) -> Result<Made, Unmade>
+) -> Result<MadeReport, RunStop>
     requires none { given.callers.items ≡ [] }
     requires room { vec_len given.clients ≤ vec_capacity given.callers }
     ensures told { IfOk result (λ made. (now : State) × IsClosed N.setup N.opened now given.ended.items (map (λ client. client.caller) given.clients.items)
@@ -249,7 +249,7 @@ fn report_ran<A: Ledger, B: Ledger, C: Ledger, N: Naming>(
         × (made ≡ done (string_bytes accepted ++ end_lines now 0 ++ string_bytes asked ++ ending N.setup now.place))) }
     ensures why { IfErr result IsOfRun }
 {
-    let Given {
+    let Outstanding {
         ended,
         clients,
         mut callers,
@@ -262,7 +262,7 @@ fn report_ran<A: Ledger, B: Ledger, C: Ledger, N: Naming>(
             let (board, ended, callers) = refused.back();
             let machine = board.give_up(ended, callers);
             machine.give_up(tokens, permits, Vec::new(alloc));
-            Err(Unmade::Unrun(Unrun::NotClosed))
+            Err(RunStop::NotFinished(NotFinished::NotClosed))
         }
     }
 }
@@ -271,13 +271,13 @@ fn report_ran<A: Ledger, B: Ledger, C: Ledger, N: Naming>(
 fn give_up<A: Ledger, B: Ledger, C: Ledger, N: Naming>(
     alloc: Global,
     board: Board<A, B, C, N>,
-    given: Given<A, B, C, N>,
+    given: Outstanding<A, B, C, N>,
     permits: Vec<Permit>,
 )
     requires none { given.callers.items ≡ [] }
     requires room { vec_len given.clients ≤ vec_capacity given.callers }
 {
-    let Given {
+    let Outstanding {
         ended,
         clients,
         mut callers,
@@ -299,12 +299,12 @@ fn report_given<
     rt: &R,
     alloc: Global,
     board: Board<A, B, C, N>,
-    mut given: Given<A, B, C, N>,
+    mut given: Outstanding<A, B, C, N>,
     permits: Vec<Permit>,
     runners: Vec<Runner<A>>,
     accepted: String,
     asks: &[ShardId],
-) -> Result<Made, Unmade>
+) -> Result<MadeReport, RunStop>
     requires none { (given.ended.items ≡ []) × (given.clients.items ≡ []) × (given.callers.items ≡ []) × (given.tokens.items ≡ []) }
     requires room { (length asks.now ≤ vec_capacity given.clients) × (length asks.now ≤ vec_capacity given.callers) × (vec_len runners ≤ vec_capacity given.tokens) }
     requires one { length N.opened.plans ≡ 1 }
@@ -329,7 +329,13 @@ fn report_on_ground<
     C: Ledger + Send + Sync,
     N: Naming + Send + Sync,
     R: Threads + Wait + Sync,
->(rt: &R, alloc: Global, begun: Begun, ground: Ground, asks: &[ShardId]) -> Result<Made, Unmade>
+>(
+    rt: &R,
+    alloc: Global,
+    begun: Begun,
+    ground: Ground,
+    asks: &[ShardId],
+) -> Result<MadeReport, RunStop>
     requires map { IsMapOf ground.words (state_of begun.machine) }
     requires setup { ground.setup ≡ begun.machine.placement.setup }
     requires names { (ground.words ≡ N.words) × (ground.setup ≡ N.setup) × (state_of begun.machine ≡ N.opened) }
@@ -363,7 +369,7 @@ fn report_on_ground<
         ) => {
             given.destroy_empty();
             machine.give_up(tokens, permits, Vec::new(alloc));
-            Err(Unmade::Early(Early::NoMemory))
+            Err(RunStop::Stop(Stop::NoMemory))
         }
     }
 }
@@ -374,7 +380,7 @@ fn report_on_board<R: Threads + Wait + Sync>(
     alloc: Global,
     begun: Begun,
     asks: &[ShardId],
-) -> Result<Made, Unmade>
+) -> Result<MadeReport, RunStop>
     requires one { length (state_of begun.machine).plans ≡ 1 }
     requires tokens { AreTokens 0 (stream_count (state_of begun.machine) 0) begun.tokens.items }
     requires accepted { string_bytes begun.accepted ≡ accepted_line (plan_at (state_of begun.machine) 0) }
@@ -389,7 +395,7 @@ fn report_on_board<R: Threads + Wait + Sync>(
         }
         Err(error) => {
             begun.give_up(alloc);
-            Err(Unmade::from(error))
+            Err(RunStop::from(error))
         }
     }
 }
@@ -404,7 +410,7 @@ pub fn report_started<R: Threads + Wait + Sync>(
     checked: Checked,
     accepted: String,
     asks: &[ShardId],
-) -> Result<Made, Unmade>
+) -> Result<MadeReport, RunStop>
     requires none { (state_of machine).plans ≡ [] }
     requires setup { checked.setup ≡ machine.placement.setup }
     requires accepted { string_bytes accepted ≡ accepted_line checked.plan }

@@ -6,12 +6,12 @@ ghost use Rattle.sm_placement.specs.Lead.{IsSettled};
 ghost use Rattle.sm_plan_code.specs.Plan.{IsKnownPlan};
 ghost use Rattle.sm_plan_text.specs.Documents.{IsDocument};
 ghost use Rattle.sm_plan_text.specs.Reading.{rows_of};
-ghost use Rattle.sm_report.specs.Early.{IfMade};
+ghost use Rattle.sm_report.specs.Stop.{IfMade};
 ghost use Rattle.sm_report.specs.Output.{IsPlanReport, IsCheckReport};
 
-use crate::early::Early;
-use crate::made::Made;
+use crate::made_report::MadeReport;
 use crate::stages::{checked, may_start, member, placement};
+use crate::stop::Stop;
 use sm_placement::Placement;
 use sm_plan_code::Plan;
 use sm_plan_text::{Document, Member};
@@ -19,7 +19,7 @@ use sm_reservation::Pool;
 use std::alloc::Global;
 
 /// Returns the report of a plan at a placement that is opened.
-fn report_plan(alloc: Global, placement: &Placement, plan: Plan) -> Result<Made, Early>
+fn report_plan(alloc: Global, placement: &Placement, plan: Plan) -> Result<MadeReport, Stop>
     requires settled { IsSettled (sizes_of placement.now.setup) (place_of placement.now) }
     requires fits { IsKnownPlan (length placement.now.setup.shards) (length placement.now.setup.servers) plan }
     ensures { IfMade result (IsPlanReport placement.now.setup plan (place_of placement.now)) }
@@ -27,11 +27,11 @@ fn report_plan(alloc: Global, placement: &Placement, plan: Plan) -> Result<Made,
     let pool = Pool::open(alloc, placement)?;
     let checked = checked(alloc, "", placement, plan)?;
     may_start(alloc, &checked, &pool, placement)?;
-    Ok(Made::accepted(alloc, checked.plan())?)
+    Ok(MadeReport::accepted(alloc, checked.plan())?)
 }
 
 /// Takes a document's plan out of it, and returns its report.
-pub fn report_check(alloc: Global, document: &mut Document) -> Result<Made, Early>
+pub fn report_check(alloc: Global, document: &mut Document) -> Result<MadeReport, Stop>
     requires { IsDocument (rows_of document.old) }
     ensures { IfMade result (IsCheckReport (rows_of document.old)) }
 {

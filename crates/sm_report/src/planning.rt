@@ -8,15 +8,15 @@ ghost use Rattle.sm_plan_text.specs.Documents.{IsDocument};
 ghost use Rattle.sm_plan_text.specs.Reading.{rows_of};
 ghost use Rattle.sm_machine.specs.State.{state_of};
 ghost use Rattle.sm_planner.specs.Basis.{basis_at};
-ghost use Rattle.sm_report.specs.Early.{IfEnded, IfMade};
+ghost use Rattle.sm_report.specs.Stop.{IfEnded, IfMade};
 ghost use Rattle.sm_report.specs.Planning.{aim_of, aim_stage, IsAimOf, IsPlanFor, IsRefusedFor, IsAnswered};
 ghost use Rattle.sm_report.specs.Report.{bad_input, refused};
 ghost use Rattle.sm_report_text.specs.BadInput.{text_fault_line};
 ghost use Rattle.sm_report.specs.Output.{IsLoggedForPlan, IsPlacedForPlan, IsOpenedForPlan, IsPlanningReport};
 
-use crate::early::Early;
-use crate::made::Made;
+use crate::made_report::MadeReport;
 use crate::stages::{director, placement, require_log_room};
+use crate::stop::Stop;
 use sm_machine::Machine;
 use sm_placement::{Config, Placement};
 use sm_plan_code::Move;
@@ -36,24 +36,24 @@ pub enum Wanted<'a> {
 }
 
 /// Returns the report of a document that is not one for a plan.
-fn misfit(alloc: Global, member: Member) -> Result<Made, AllocError>
+fn misfit(alloc: Global, member: Member) -> Result<MadeReport, AllocError>
     ensures { IfOk result (λ made. made ≡ bad_input (text_fault_line (TextFault.Shape member))) }
 {
-    Made::bad_input(alloc, TextFault::Shape { member })
+    MadeReport::bad_input(alloc, TextFault::Shape { member })
 }
 
 /// Returns the task that a document wants a plan for: its moves, or a server that is to be emptied, and not both.
-fn wanted_of(alloc: Global, document: &Document) -> Result<Wanted<'_>, Early>
+fn wanted_of(alloc: Global, document: &Document) -> Result<Wanted<'_>, Stop>
     requires { IsDocument (rows_of document.now) }
     ensures ok { IfOk result (λ wanted. aim_stage (rows_of document.now).moves (rows_of document.now).drain ≡ Ok (aim_of wanted)) }
     ensures known { IfOk result (λ wanted. IsAimOf (rows_of document.now).setup (aim_of wanted)) }
-    ensures ends { IfErr result (λ early. IfEnded early (λ made. aim_stage (rows_of document.now).moves (rows_of document.now).drain ≡ Err made)) }
+    ensures ends { IfErr result (λ stop. IfEnded stop (λ made. aim_stage (rows_of document.now).moves (rows_of document.now).drain ≡ Err made)) }
 {
     match (&document.moves, document.drain) {
         (Some(list), None) => Ok(Wanted::Moves(list.as_slice())),
         (None, Some(server)) => Ok(Wanted::Drain(server)),
-        (Some(_), Some(_)) => Err(Early::Report(misfit(alloc, Member::Drain)?)),
-        (None, None) => Err(Early::Report(misfit(alloc, Member::Moves)?)),
+        (Some(_), Some(_)) => Err(Stop::Report(misfit(alloc, Member::Drain)?)),
+        (None, None) => Err(Stop::Report(misfit(alloc, Member::Moves)?)),
     }
 }
 
@@ -76,15 +76,15 @@ fn report_answer(
     config: &Config,
     machine: &Machine,
     wanted: &Wanted<'_>,
-) -> Result<Made, Early>
+) -> Result<MadeReport, Stop>
     requires aim { IsAimOf machine.now.placement.setup (aim_of wanted.now) }
     requires setup { machine.now.placement.setup ≡ config.now }
     ensures { IfMade result (IsAnswered config.now (basis_at config.now (state_of machine.now)) (aim_of wanted.now)) }
 {
     match plan(alloc, machine, wanted) {
-        Ok(checked) => Ok(Made::planned(alloc, config, checked.plan())?),
-        Err(NoPlan::NoMemory) => Err(Early::NoMemory),
-        Err(why) => Ok(Made::unplanned(alloc, config, why)?),
+        Ok(checked) => Ok(MadeReport::planned(alloc, config, checked.plan())?),
+        Err(NoPlan::NoMemory) => Err(Stop::NoMemory),
+        Err(why) => Ok(MadeReport::unplanned(alloc, config, why)?),
     }
 }
 
@@ -94,7 +94,7 @@ fn report_logged(
     document: &Document,
     placement: Placement,
     wanted: &Wanted<'_>,
-) -> Result<Made, Early>
+) -> Result<MadeReport, Stop>
     requires document { IsDocument (rows_of document.now) }
     requires setup { placement.setup ≡ (rows_of document.now).setup }
     requires settled { IsSettled (sizes_of placement.setup) (place_of placement) }
@@ -114,7 +114,7 @@ fn report_placed(
     document: &Document,
     placement: Placement,
     wanted: &Wanted<'_>,
-) -> Result<Made, Early>
+) -> Result<MadeReport, Stop>
     requires document { IsDocument (rows_of document.now) }
     requires setup { placement.setup ≡ (rows_of document.now).setup }
     requires settled { IsSettled (sizes_of placement.setup) (place_of placement) }
@@ -126,7 +126,11 @@ fn report_placed(
 }
 
 /// Returns the report of the task that a document wants a plan for.
-fn report_wanted(alloc: Global, document: &Document, wanted: &Wanted<'_>) -> Result<Made, Early>
+fn report_wanted(
+    alloc: Global,
+    document: &Document,
+    wanted: &Wanted<'_>,
+) -> Result<MadeReport, Stop>
     requires document { IsDocument (rows_of document.now) }
     requires aim { IsAimOf (rows_of document.now).setup (aim_of wanted.now) }
     ensures { IfMade result (IsOpenedForPlan (rows_of document.now) (aim_of wanted.now)) }
@@ -136,7 +140,7 @@ fn report_wanted(alloc: Global, document: &Document, wanted: &Wanted<'_>) -> Res
 }
 
 /// Makes a plan for a document, and returns its report.
-pub fn report_plan(alloc: Global, document: &Document) -> Result<Made, Early>
+pub fn report_plan(alloc: Global, document: &Document) -> Result<MadeReport, Stop>
     requires { IsDocument (rows_of document.now) }
     ensures { IfMade result (IsPlanningReport (rows_of document.now)) }
 {

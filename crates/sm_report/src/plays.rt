@@ -11,7 +11,7 @@ ghost use Rattle.sm_plan_text.specs.Reading.{rows_of};
 ghost use Rattle.sm_protocol.specs.Laws.{NamesKnown};
 ghost use Rattle.sm_machine.specs.Hand.{AreFor, hand_plan};
 ghost use Rattle.sm_report_text.specs.Checking.{accepted_line};
-ghost use Rattle.sm_report.specs.Early.{IfEnded, IfMade};
+ghost use Rattle.sm_report.specs.Stop.{IfEnded, IfMade};
 ghost use Rattle.sm_report.specs.Player.{scene_of, IsSetUp};
 ghost use Rattle.sm_report.specs.Playing.{opened_scene};
 ghost use Rattle.sm_report_text.specs.EventLines.{plan_front};
@@ -20,11 +20,11 @@ ghost use Rattle.sm_report.specs.Stages.{AtChecks, IsFaultReport, Then, begin_st
 ghost use Rattle.sm_report.specs.Output.{played_output, IsLoggedForPlay, IsPlacedForPlay, IsOpenedForPlay, IsAloneForPlay, IsPlayReport, IsPlayedOutput};
 ghost use Rattle.sm_plan_code.specs.declared.limits.TheConstants.{MOST_PLACES};
 
-use crate::early::Early;
-use crate::made::Made;
+use crate::made_report::MadeReport;
 use crate::player::Player;
 use crate::playing::play_events;
 use crate::stages::{checked, member, placement, require_log_room, require_one_source_of_plans};
+use crate::stop::Stop;
 use sm_placement::{Config, Placement};
 use sm_plan_code::Plan;
 use sm_plan_text::{Document, Member};
@@ -40,12 +40,12 @@ fn check_at(
     place: usize,
     placement: &Placement,
     plan: Plan,
-) -> Result<Checked, Early>
+) -> Result<Checked, Stop>
     requires { IsKnownPlan (length placement.now.setup.shards) (length placement.now.setup.servers) plan }
     ensures setup { IfOk result (λ checked. checked.setup ≡ placement.now.setup) }
     ensures plan { IfOk result (λ checked. checked.plan ≡ plan) }
     ensures sound { OnOk result (IsSound (sizes_of placement.now.setup) plan) }
-    ensures ends { IfErr result (λ early. IfEnded early (IsFaultReport (sizes_of placement.now.setup) (plan_front many place) plan)) }
+    ensures ends { IfErr result (λ stop. IfEnded stop (IsFaultReport (sizes_of placement.now.setup) (plan_front many place) plan)) }
 {
     let mut front = String::new(alloc);
     push_plan_front(&mut front, many, place)?;
@@ -59,12 +59,12 @@ fn all_checked(
     many: bool,
     placement: &Placement,
     plans: Vec<Plan>,
-) -> Result<Vec<Option<Checked>>, Early>
+) -> Result<Vec<Option<Checked>>, Stop>
     requires { All (IsKnownPlan (length placement.now.setup.shards) (length placement.now.setup.servers)) plans.items }
     ensures waiting { IfOk result (λ waiting. map hand_plan waiting.items ≡ map (λ plan. Some plan) plans.items) }
     ensures checked { IfOk result (λ waiting. AreFor placement.now.setup waiting.items) }
     ensures passed { OnOk result ((output : Output) → AtChecks (sizes_of placement.now.setup) many 0 plans.items (λ other. other ≡ output) output) }
-    ensures ends { IfErr result (λ early. IfEnded early (AtChecks (sizes_of placement.now.setup) many 0 plans.items (λ other. ⊥))) }
+    ensures ends { IfErr result (λ stop. IfEnded stop (AtChecks (sizes_of placement.now.setup) many 0 plans.items (λ other. ⊥))) }
 {
     let mut left = plans;
     let mut waiting = Vec::with_capacity(alloc, left.len())?;
@@ -83,7 +83,7 @@ fn open_player(
     placement: Placement,
     log: u32,
     plans: Vec<Plan>,
-) -> Result<Player, Early>
+) -> Result<Player, Stop>
     requires settled { IsSettled (sizes_of placement.setup) (place_of placement) }
     requires room { down_count (sizes_of placement.setup) (place_of placement) ≤ log }
     requires most { log ≤ MOST_PLACES }
@@ -92,7 +92,7 @@ fn open_player(
     ensures setup { IfOk result (λ p. p.director.placement.setup ≡ placement.setup) }
     ensures ready { IfOk result IsSetUp }
     ensures passed { OnOk result ((output : Output) → AtChecks (sizes_of placement.setup) many 0 plans.items (λ other. other ≡ output) output) }
-    ensures ends { IfErr result (λ early. IfEnded early (AtChecks (sizes_of placement.setup) many 0 plans.items (λ other. ⊥))) }
+    ensures ends { IfErr result (λ stop. IfEnded stop (AtChecks (sizes_of placement.setup) many 0 plans.items (λ other. ⊥))) }
 {
     let waiting = all_checked(alloc, many, &placement, plans)?;
     Ok(Player::open(alloc, placement, log, waiting)?)
@@ -106,7 +106,7 @@ fn report_played(
     many: bool,
     mut player: Player,
     events: &[Event],
-) -> Result<Made, AllocError>
+) -> Result<MadeReport, AllocError>
     requires ready { IsSetUp player }
     requires known { All (NamesKnown (sizes_of config.now)) events.now }
     requires setup { player.director.placement.setup ≡ config.now }
@@ -117,7 +117,7 @@ fn report_played(
     let placement = player.close();
     told?;
     push_ending(&mut text, &placement)?;
-    Ok(Made::done(text))
+    Ok(MadeReport::done(text))
 }
 
 /// Returns the report of the events of a document whose plans are begun by events.
@@ -129,7 +129,7 @@ fn report_list(
     log: u32,
     plans: Vec<Plan>,
     events: &[Event],
-) -> Result<Made, Early>
+) -> Result<MadeReport, Stop>
     requires setup { placement.setup ≡ config.now }
     requires settled { IsSettled (sizes_of placement.setup) (place_of placement) }
     requires room { down_count (sizes_of placement.setup) (place_of placement) ≤ log }
@@ -144,17 +144,17 @@ fn report_list(
 }
 
 /// Begins the plan at the first place before any event; otherwise the report ends.
-fn begin_alone(alloc: Global, config: &Config, player: &mut Player) -> Result<(), Early>
+fn begin_alone(alloc: Global, config: &Config, player: &mut Player) -> Result<(), Stop>
     requires { IsSetUp player.old }
     ensures ok { OnOk result (begin_stage config.now (scene_of player.old) ≡ Ok (scene_of player.new)) }
     ensures ready { OnOk result (IsSetUp player.new) }
     ensures setup { OnOk result (player.new.director.placement.setup ≡ player.old.director.placement.setup) }
-    ensures ends { IfErr result (λ early. IfEnded early (λ made. begin_stage config.now (scene_of player.old) ≡ Err made)) }
+    ensures ends { IfErr result (λ stop. IfEnded stop (λ made. begin_stage config.now (scene_of player.old) ≡ Err made)) }
 {
     match player.play(alloc, Event::Begin { plan: 0 }) {
-        Ok(Played::NotBegun(why)) => Err(Early::Report(Made::not_begun(alloc, config, why)?)),
+        Ok(Played::NotBegun(why)) => Err(Stop::Report(MadeReport::not_begun(alloc, config, why)?)),
         Ok(_) => Ok(()),
-        Err(_) => Err(Early::NoMemory),
+        Err(_) => Err(Stop::NoMemory),
     }
 }
 
@@ -165,7 +165,7 @@ fn report_begun(
     front: String,
     mut player: Player,
     events: &[Event],
-) -> Result<Made, Early>
+) -> Result<MadeReport, Stop>
     requires ready { IsSetUp player }
     requires known { All (NamesKnown (sizes_of config.now)) events.now }
     requires setup { player.director.placement.setup ≡ config.now }
@@ -173,9 +173,9 @@ fn report_begun(
 {
     match begin_alone(alloc, config, &mut player) {
         Ok(()) => Ok(report_played(alloc, config, front, false, player, events)?),
-        Err(early) => {
+        Err(stop) => {
             let _ = player.close();
-            Err(early)
+            Err(stop)
         }
     }
 }
@@ -188,7 +188,7 @@ fn report_one(
     log: u32,
     plan: Plan,
     events: &[Event],
-) -> Result<Made, Early>
+) -> Result<MadeReport, Stop>
     requires setup { placement.setup ≡ config.now }
     requires settled { IsSettled (sizes_of placement.setup) (place_of placement) }
     requires room { down_count (sizes_of placement.setup) (place_of placement) ≤ log }
@@ -213,7 +213,7 @@ fn report_logged(
     document: &mut Document,
     placement: Placement,
     events: &[Event],
-) -> Result<Made, Early>
+) -> Result<MadeReport, Stop>
     requires document { IsDocument (rows_of document.old) }
     requires setup { placement.setup ≡ (rows_of document.old).setup }
     requires settled { IsSettled (sizes_of placement.setup) (place_of placement) }
@@ -248,7 +248,7 @@ fn report_placed(
     document: &mut Document,
     placement: Placement,
     events: &[Event],
-) -> Result<Made, Early>
+) -> Result<MadeReport, Stop>
     requires document { IsDocument (rows_of document.old) }
     requires setup { placement.setup ≡ (rows_of document.old).setup }
     requires settled { IsSettled (sizes_of placement.setup) (place_of placement) }
@@ -260,7 +260,11 @@ fn report_placed(
 }
 
 /// Returns the report of a document's events, which were taken out of it.
-fn report_events(alloc: Global, document: &mut Document, events: &[Event]) -> Result<Made, Early>
+fn report_events(
+    alloc: Global,
+    document: &mut Document,
+    events: &[Event],
+) -> Result<MadeReport, Stop>
     requires document { IsDocument (rows_of document.old) }
     requires events { All (NamesKnown (sizes_of (rows_of document.old).setup)) events.now }
     ensures { IfMade result (IsOpenedForPlay (rows_of document.old) events.now) }
@@ -270,7 +274,7 @@ fn report_events(alloc: Global, document: &mut Document, events: &[Event]) -> Re
 }
 
 /// Returns the report of the events of a document that has one plan at most, or a list of plans.
-fn report_alone(alloc: Global, document: &mut Document) -> Result<Made, Early>
+fn report_alone(alloc: Global, document: &mut Document) -> Result<MadeReport, Stop>
     requires { IsDocument (rows_of document.old) }
     ensures { IfMade result (IsAloneForPlay (rows_of document.old) tt) }
 {
@@ -279,7 +283,7 @@ fn report_alone(alloc: Global, document: &mut Document) -> Result<Made, Early>
 }
 
 /// Takes a document's events out of it with its plans, and returns their report.
-pub fn report_play(alloc: Global, document: &mut Document) -> Result<Made, Early>
+pub fn report_play(alloc: Global, document: &mut Document) -> Result<MadeReport, Stop>
     requires { IsDocument (rows_of document.old) }
     ensures { IfMade result (IsPlayReport (rows_of document.old)) }
 {

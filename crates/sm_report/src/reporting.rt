@@ -6,7 +6,7 @@ ghost use Rattle.sm_plan_text.specs.Reading.{rows_of};
 ghost use Rattle.sm_report.specs.declared.command.Command.{Command};
 ghost use Rattle.sm_report.specs.declared.limits.TheConstants.{MOST_BYTES};
 ghost use Rattle.sm_report.specs.Status.{code_of};
-ghost use Rattle.sm_report.specs.Early.{IfEnded, IfMade, IfReadEnded, IfReadMade};
+ghost use Rattle.sm_report.specs.Stop.{IfEnded, IfMade, IfReadEnded, IfReadMade};
 ghost use Rattle.sm_report.specs.Report.{Output};
 ghost use Rattle.sm_report.specs.SafeScenes.{ScenesAreSafe};
 ghost use Rattle.sm_report.specs.Stages.{read_stage};
@@ -15,13 +15,13 @@ ghost use Rattle.sm_report.specs.Output.{IsReadAs, IsDocumentReport, IsReport, I
 use crate::calls::report_calls;
 use crate::checks::report_check;
 use crate::command::Command;
-use crate::early::Early;
 use crate::input::{InputFault, take_input};
 use crate::limits::{MOST_BYTES, READ_TURNS};
-use crate::made::Made;
+use crate::made_report::MadeReport;
 use crate::planning::report_plan;
 use crate::plays::report_play;
 use crate::status::Status;
+use crate::stop::Stop;
 use sm_plan_text::{Document, TextFault, read_document};
 use sm_planner::rule_answers_once;
 use sm_protocol::runs_are_safe;
@@ -30,35 +30,39 @@ use std::alloc::Global;
 use std::io::{Read, Write};
 
 /// Reads the document that the bytes of an input are.
-fn read_bytes(alloc: Global, bytes: &[u8]) -> Result<Document, Early>
+fn read_bytes(alloc: Global, bytes: &[u8]) -> Result<Document, Stop>
     requires { length bytes.now ≤ MOST_BYTES }
     ensures ok { IfOk result (λ document. read_stage MOST_BYTES bytes.now ≡ Ok (rows_of document)) }
     ensures known { IfOk result (λ document. IsDocument (rows_of document)) }
-    ensures ends { IfErr result (λ early. IfEnded early (λ made. read_stage MOST_BYTES bytes.now ≡ Err made)) }
+    ensures ends { IfErr result (λ stop. IfEnded stop (λ made. read_stage MOST_BYTES bytes.now ≡ Err made)) }
 {
     match read_document(alloc, bytes) {
         Ok(document) => Ok(document),
-        Err(TextFault::NoMemory) => Err(Early::NoMemory),
-        Err(fault) => Err(Early::Report(Made::bad_input(alloc, fault)?)),
+        Err(TextFault::NoMemory) => Err(Stop::NoMemory),
+        Err(fault) => Err(Stop::Report(MadeReport::bad_input(alloc, fault)?)),
     }
 }
 
 /// Reads the document that a reader gives.
-pub fn read_input<R: Read>(alloc: Global, reader: &mut R) -> Result<Document, Early>
+pub fn read_input<R: Read>(alloc: Global, reader: &mut R) -> Result<Document, Stop>
     ensures ok { IfOk result (λ document. IsReadAs (R.remaining reader.old) MOST_BYTES (Ok (rows_of document))) }
     ensures known { IfOk result (λ document. IsDocument (rows_of document)) }
-    ensures ends { IfErr result (λ early. IfReadEnded early (λ made. IsReadAs (R.remaining reader.old) MOST_BYTES (Err made))) }
+    ensures ends { IfErr result (λ stop. IfReadEnded stop (λ made. IsReadAs (R.remaining reader.old) MOST_BYTES (Err made))) }
 {
     match take_input(alloc, reader, READ_TURNS, MOST_BYTES) {
         Ok(input) => read_bytes(alloc, input.as_slice()),
-        Err(InputFault::TooLong) => Err(Early::Report(Made::too_long(alloc)?)),
-        Err(InputFault::NoMemory) => Err(Early::NoMemory),
-        Err(InputFault::Read) => Err(Early::ReadFailed),
+        Err(InputFault::TooLong) => Err(Stop::Report(MadeReport::too_long(alloc)?)),
+        Err(InputFault::NoMemory) => Err(Stop::NoMemory),
+        Err(InputFault::Read) => Err(Stop::ReadFailed),
     }
 }
 
 /// Returns a command's report of a document.
-fn report_document(alloc: Global, command: Command, mut document: Document) -> Result<Made, Early>
+fn report_document(
+    alloc: Global,
+    command: Command,
+    mut document: Document,
+) -> Result<MadeReport, Stop>
     requires { IsDocument (rows_of document) }
     ensures { IfMade result (IsDocumentReport command (rows_of document)) }
 {
@@ -71,7 +75,11 @@ fn report_document(alloc: Global, command: Command, mut document: Document) -> R
 }
 
 /// Returns a command's report of all that a reader gives.
-fn report_reader<R: Read>(alloc: Global, command: Command, reader: &mut R) -> Result<Made, Early>
+fn report_reader<R: Read>(
+    alloc: Global,
+    command: Command,
+    reader: &mut R,
+) -> Result<MadeReport, Stop>
     ensures { IfReadMade result (IsReportOf command MOST_BYTES (R.remaining reader.old)) }
 {
     let document = read_input(alloc, reader)?;
@@ -102,10 +110,10 @@ pub fn report<R: Read, W: Write>(
 {
     match report_reader(alloc, command, reader) {
         Ok(made) => made.write(writer),
-        Err(early) => match early {
-            Early::Report(made) => made.write(writer),
-            Early::NoMemory => Status::NoMemory,
-            Early::ReadFailed => Status::ReadFailed,
+        Err(stop) => match stop {
+            Stop::Report(made) => made.write(writer),
+            Stop::NoMemory => Status::NoMemory,
+            Stop::ReadFailed => Status::ReadFailed,
         },
     }
 }

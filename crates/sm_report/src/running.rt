@@ -10,21 +10,21 @@ ghost use Rattle.sm_protocol.specs.State.{opened};
 ghost use Rattle.sm_plan_text.specs.Documents.{DocumentModel, IsDocument};
 ghost use Rattle.sm_plan_text.specs.Reading.{rows_of};
 ghost use Rattle.sm_report.specs.declared.limits.TheConstants.{MOST_BYTES};
-ghost use Rattle.sm_report.specs.declared.unmade.Unrun.{Unrun};
+ghost use Rattle.sm_report.specs.declared.run_stop.NotFinished.{NotFinished};
 ghost use Rattle.sm_report.specs.Report.{Output};
 ghost use Rattle.sm_report.specs.Running.{IsStartedForRun, IsLoggedForRun, IsPlacedForRun, IsOpenedForRun, IsRunReport, IsRunReportOf};
 ghost use Rattle.sm_report.specs.Status.{code_of};
-ghost use Rattle.sm_report.specs.Unmade.{unrun_text, not_run, IfRan, IfReadRan};
+ghost use Rattle.sm_report.specs.RunStop.{not_finished_text, not_run, IfRan, IfReadRan};
 ghost use Rattle.sm_plan_code.specs.declared.limits.TheConstants.{MOST_PLACES};
 
 use crate::boards::report_started;
 use crate::delivery::deliver;
-use crate::early::Early;
-use crate::made::Made;
+use crate::made_report::MadeReport;
 use crate::reporting::read_input;
+use crate::run_stop::{NotFinished, RunStop};
 use crate::stages::{checked, member, placement, require_log_room};
 use crate::status::Status;
-use crate::unmade::{Unmade, Unrun};
+use crate::stop::Stop;
 use sm_machine::{Machine, OpenFault};
 use sm_placement::Placement;
 use sm_plan_code::Plan;
@@ -45,7 +45,7 @@ fn report_checked<R: Threads + Wait + Sync>(
     log: u32,
     checked: Checked,
     asks: &[ShardId],
-) -> Result<Made, Unmade>
+) -> Result<MadeReport, RunStop>
     requires settled { IsSettled (sizes_of placement.setup) (place_of placement) }
     requires room { down_count (sizes_of placement.setup) (place_of placement) ≤ log }
     requires most { log ≤ MOST_PLACES }
@@ -59,7 +59,7 @@ fn report_checked<R: Threads + Wait + Sync>(
         Ok((machine, permits)) => {
             report_started(rt, alloc, machine, permits, checked, accepted, asks)
         }
-        Err((_, OpenFault::NoMemory)) => Err(Unmade::Early(Early::NoMemory)),
+        Err((_, OpenFault::NoMemory)) => Err(RunStop::Stop(Stop::NoMemory)),
         Err((_, OpenFault::LogFull)) => unreachable!(),
     }
 }
@@ -71,7 +71,7 @@ fn report_logged<R: Threads + Wait + Sync>(
     document: &Document,
     placement: Placement,
     plan: Plan,
-) -> Result<Made, Unmade>
+) -> Result<MadeReport, RunStop>
     requires document { IsDocument (rows_of document.now) }
     requires setup { placement.setup ≡ (rows_of document.now).setup }
     requires settled { IsSettled (sizes_of placement.setup) (place_of placement) }
@@ -91,7 +91,7 @@ fn report_placed<R: Threads + Wait + Sync>(
     document: &Document,
     placement: Placement,
     plan: Plan,
-) -> Result<Made, Unmade>
+) -> Result<MadeReport, RunStop>
     requires document { IsDocument (rows_of document.now) }
     requires setup { placement.setup ≡ (rows_of document.now).setup }
     requires settled { IsSettled (sizes_of placement.setup) (place_of placement) }
@@ -108,7 +108,7 @@ fn report_plan<R: Threads + Wait + Sync>(
     alloc: Global,
     document: &Document,
     plan: Plan,
-) -> Result<Made, Unmade>
+) -> Result<MadeReport, RunStop>
     requires document { IsDocument (rows_of document.now) }
     requires plan { IsKnownPlan (length (rows_of document.now).setup.shards) (length (rows_of document.now).setup.servers) plan }
     ensures { IfRan result (IsOpenedForRun (rows_of document.now) plan) }
@@ -122,7 +122,7 @@ fn report_document<R: Threads + Wait + Sync>(
     rt: &R,
     alloc: Global,
     document: &mut Document,
-) -> Result<Made, Unmade>
+) -> Result<MadeReport, RunStop>
     requires { IsDocument (rows_of document.old) }
     ensures { IfRan result (IsRunReport (rows_of document.old)) }
 {
@@ -135,7 +135,7 @@ fn report_reader<R: Threads + Wait + Sync, I: Read>(
     rt: &R,
     alloc: Global,
     reader: &mut I,
-) -> Result<Made, Unmade>
+) -> Result<MadeReport, RunStop>
     ensures { IfReadRan result (IsRunReportOf MOST_BYTES (I.remaining reader.old)) }
 {
     let mut document = read_input(alloc, reader)?;
@@ -143,12 +143,12 @@ fn report_reader<R: Threads + Wait + Sync, I: Read>(
 }
 
 /// Writes why a plan was not run to its end, and says how that ends.
-fn write_unrun<W: Write>(writer: &mut W, unrun: Unrun) -> Status
+fn write_not_finished<W: Write>(writer: &mut W, not_finished: NotFinished) -> Status
     ensures status { (result ≢ Status.WriteFailed) → result ≡ Status.NoThread }
-    ensures text { result ≡ Status.NoThread → Appends (W.contents writer.old) (W.contents writer.new) (unrun_text unrun) }
-    ensures front { result ≡ Status.WriteFailed → (k : ℕ) × (k < length (unrun_text unrun)) × Appends (W.contents writer.old) (W.contents writer.new) (take k (unrun_text unrun)) }
+    ensures text { result ≡ Status.NoThread → Appends (W.contents writer.old) (W.contents writer.new) (not_finished_text not_finished) }
+    ensures front { result ≡ Status.WriteFailed → (k : ℕ) × (k < length (not_finished_text not_finished)) × Appends (W.contents writer.old) (W.contents writer.new) (take k (not_finished_text not_finished)) }
 {
-    if deliver(writer, unrun.text().as_bytes()) {
+    if deliver(writer, not_finished.text().as_bytes()) {
         Status::NoThread
     } else {
         Status::WriteFailed
@@ -171,9 +171,9 @@ pub fn report_run<R: Threads + Wait + Sync, I: Read, W: Write>(
     ensures memory { result ≡ Status.NoMemory → Keeps (W.contents writer.old) (W.contents writer.new) }
     ensures read_fault { result ≡ Status.ReadFailed → Keeps (W.contents writer.old) (W.contents writer.new) }
     // If the plan has begun and was not run to its end, the text says only why.
-    ensures threads { result ≡ Status.NoThread → (why : Unrun)
+    ensures threads { result ≡ Status.NoThread → (why : NotFinished)
         × IsRunReportOf MOST_BYTES (I.remaining reader.old) (not_run why)
-        × Appends (W.contents writer.old) (W.contents writer.new) (unrun_text why) }
+        × Appends (W.contents writer.old) (W.contents writer.new) (not_finished_text why) }
     // After a write that fails, a front of the report's text is written, and not all of it.
     ensures write_fault { result ≡ Status.WriteFailed → (output : Output)
         × IsRunReportOf MOST_BYTES (I.remaining reader.old) output
@@ -181,12 +181,12 @@ pub fn report_run<R: Threads + Wait + Sync, I: Read, W: Write>(
 {
     match report_reader(rt, alloc, reader) {
         Ok(made) => made.write(writer),
-        Err(Unmade::Early(early)) => match early {
-            Early::Report(made) => made.write(writer),
-            Early::NoMemory => Status::NoMemory,
-            Early::ReadFailed => Status::ReadFailed,
+        Err(RunStop::Stop(stop)) => match stop {
+            Stop::Report(made) => made.write(writer),
+            Stop::NoMemory => Status::NoMemory,
+            Stop::ReadFailed => Status::ReadFailed,
         },
-        Err(Unmade::Unrun(unrun)) => write_unrun(writer, unrun),
+        Err(RunStop::NotFinished(not_finished)) => write_not_finished(writer, not_finished),
     }
 }
 

@@ -1,8 +1,8 @@
 //! A session under a journal.
-ghost use Rattle.sm_session.specs.Changes.{IsNew};
+ghost use Rattle.smpland_session.specs.Changes.{IsNew};
 
-use journal_session::{Applied, Applies};
-use sm_session::{LineEffect, Session};
+use journal_serve::{Applied, Applies};
+use smpland_session::{LineEffect, Session};
 use std::alloc::{AllocError, Global};
 
 /// A session whose lines a journal keeps.
@@ -29,12 +29,12 @@ impl Keeper {
 
 impl Applies for Keeper {
     ghost use Rattle.std.specs.Prelude.{◌≡◌};
-    ghost use Rattle.journal_session.specs.declared.applies.Applied.TheVariants as effect;
-    ghost use Rattle.sm_session.specs.declared.session.LineEffect.TheVariants as did;
-    ghost use Rattle.sm_session.specs.Asked.{DoesAsSaid};
-    ghost use Rattle.sm_session.specs.Changes.{SessionChanges};
-    ghost use Rattle.sm_session.specs.Declines.{DeclinesBy};
-    ghost use Rattle.sm_session.specs.Replies.{IsLineReply, RepliesTo};
+    ghost use Rattle.journal_serve.specs.declared.applies.Applied.TheVariants as effect;
+    ghost use Rattle.smpland_session.specs.declared.session.LineEffect.TheVariants as did;
+    ghost use Rattle.smpland_session.specs.Asked.{DoesAsSaid};
+    ghost use Rattle.smpland_session.specs.Changes.{SessionChanges};
+    ghost use Rattle.smpland_session.specs.Declines.{DeclinesBy};
+    ghost use Rattle.smpland_session.specs.Replies.{IsLineReply, RepliesTo};
 
     ghost takes = { λ old x new. (x.effect ≡ effect.Changed → SessionChanges old.session new.session)
         × (x.effect ≡ effect.Changed → DoesAsSaid x.line old.session new.session)

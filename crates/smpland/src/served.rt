@@ -2,9 +2,8 @@
 
 use crate::keeper::Keeper;
 use crate::status::Status;
-use journal::Journal;
 use journal_lines::journal_head;
-use journal_session::{RecoverFault, ResumeFault, ServeFault, resume, serve_unkept};
+use journal_serve::{Journal, RecoverFault, ResumeFault, ServeFault, resume, serve_unkept};
 use journal_store::{FileStore, HostDisk, OpenFailure};
 use std::fs::File;
 use std::io;

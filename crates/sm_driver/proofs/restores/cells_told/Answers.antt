@@ -2,7 +2,7 @@
 use Rattle.std.proofs.Common.{◌∙◌, ℕ, ap}
 use Rattle.sm_server.specs.declared.call.Cell.{Cell}
 use Rattle.sm_protocol.specs.State.{State}
-use Rattle.sm_network.specs.Net.{cell_above}
+use Rattle.laws_network.specs.Net.{cell_above}
 use Rattle.sm_machine.specs.State.{state_of}
 use Rattle.sm_driver.proofs.Lists.{pushed_more}
 use Rattle.sm_driver.proofs.restores.cells_told.Goals as goal

@@ -1,6 +1,6 @@
 use Rattle.std.proofs.Common.{◌≡◌, map}
 use Rattle.std.specs.List.{range_with_len}
-use Rattle.sm_network.specs.Net.{cell_above}
+use Rattle.laws_network.specs.Net.{cell_above}
 use Rattle.sm_machine.specs.State.{state_of}
 use Rattle.sm_driver.proofs.restores.cells_told.Given as goal
 

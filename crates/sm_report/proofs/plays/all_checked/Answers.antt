@@ -30,11 +30,11 @@ returns-in_err-checked-clause-ends c =
     let is : plan ≡ slice_index_or plans place plan =
     c.remove-plan.ensures.value ∙ ap (λ (xs : List PlanModel). slice_index_or xs 0 plan) c.loop-place.invariant.left ∙ first_of_left plans place plan in
     let sizes = sizes_of c.args.placement.now.setup in
-    let early = c.in_err-checked.field-0.0 in
+    let stop = c.in_err-checked.field-0.0 in
     let result = c.from_residual-in_err-checked.result in
-    let ended : result ≡ Err early = search rules in
-    ended_so result early (AtChecks sizes c.args.many 0 plans (λ other. ⊥)) ended
-    (ended_weaker early (IsFaultReport sizes (plan_front c.args.many place) plan) (AtChecks sizes c.args.many 0 plans (λ other. ⊥))
+    let ended : result ≡ Err stop = search rules in
+    ended_so result stop (AtChecks sizes c.args.many 0 plans (λ other. ⊥)) ended
+    (ended_weaker stop (IsFaultReport sizes (plan_front c.args.many place) plan) (AtChecks sizes c.args.many 0 plans (λ other. ⊥))
     (λ made fault. stopped_here plans place plan below is sizes c.args.many None made fault c.loop-place.invariant.rest) c.in_err-checked.ensures.ends)
 
 pub loop-place-preserved : goal.loop-place-preserved

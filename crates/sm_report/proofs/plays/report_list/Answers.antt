@@ -9,12 +9,12 @@ use Rattle.sm_report.proofs.plays.report_list.Goals as goal
 
 pub returns-in_err-player : goal.returns-in_err-player
 returns-in_err-player c =
-    let early = c.in_err-player.field-0.0 in
+    let stop = c.in_err-player.field-0.0 in
     let result = c.from_residual.result in
-    let is : result ≡ Err early = search rules in
+    let is : result ≡ Err stop = search rules in
     stopped_report (sizes_of c.args.placement.setup) (sizes_of c.args.config.now) c.args.many
     (IsPlayedOutput c.args.config.now c.args.many [] c.args.events.now (opened_scene (sizes_of c.args.config.now) (place_of c.args.placement) c.args.log c.args.plans.items))
-    c.args.plans.items early result is (ap sizes_of c.requires.setup) c.in_err-player.ensures.ends
+    c.args.plans.items stop result is (ap sizes_of c.requires.setup) c.in_err-player.ensures.ends
 
 pub returns : goal.returns
 returns c =

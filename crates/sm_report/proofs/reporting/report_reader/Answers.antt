@@ -6,10 +6,10 @@ use Rattle.sm_report.proofs.reporting.report_reader.Goals as goal
 
 pub returns-in_err-document : goal.returns-in_err-document
 returns-in_err-document g c =
-    let early = c.in_err-document.field-0.0 in
+    let stop = c.in_err-document.field-0.0 in
     let result = c.from_residual.result in
-    let is : result ≡ Err early = search rules in
-    read_ended c.args.command MOST_BYTES (g.R.Read.remaining c.args.reader.now) early result is c.in_err-document.ensures.ends
+    let is : result ≡ Err stop = search rules in
+    read_ended c.args.command MOST_BYTES (g.R.Read.remaining c.args.reader.now) stop result is c.in_err-document.ensures.ends
 
 pub returns : goal.returns
 returns g c =

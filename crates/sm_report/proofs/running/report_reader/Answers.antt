@@ -1,16 +1,16 @@
 use Rattle.std.proofs.Common.{◌≡◌, Err, rules}
 use Rattle.sm_plan_text.specs.Reading.{rows_of}
 use Rattle.sm_report.specs.declared.limits.TheConstants.{MOST_BYTES}
-use Rattle.sm_report.specs.declared.unmade.Unmade.TheVariants as unmade
+use Rattle.sm_report.specs.declared.run_stop.RunStop.TheVariants as run_stop
 use Rattle.sm_report.proofs.RunStages.{run_unread, run_read}
 use Rattle.sm_report.proofs.running.report_reader.Goals as goal
 
 pub returns-in_err-document : goal.returns-in_err-document
 returns-in_err-document g c =
-    let early = c.in_err-document.field-0.0 in
+    let stop = c.in_err-document.field-0.0 in
     let result = c.from_residual.result in
-    let is : result ≡ Err (unmade.Early early) = search rules in
-    run_unread MOST_BYTES (g.I.Read.remaining c.args.reader.now) early result is c.in_err-document.ensures.ends
+    let is : result ≡ Err (run_stop.Stop stop) = search rules in
+    run_unread MOST_BYTES (g.I.Read.remaining c.args.reader.now) stop result is c.in_err-document.ensures.ends
 
 pub returns : goal.returns
 returns g c =

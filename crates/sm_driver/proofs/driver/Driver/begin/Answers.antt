@@ -6,7 +6,7 @@ use Rattle.sm_driver.specs.Advance.{IsFreeIn}
 use Rattle.sm_driver.proofs.Beside.{IsBeside, advance_beside, begin_beside, beside_then}
 use Rattle.sm_driver.proofs.Driving.{driving_on}
 use Rattle.sm_driver.proofs.FreeSteps.{none_is_left}
-use Rattle.sm_driver.proofs.OwnSteps.{begun_is, free_after_start}
+use Rattle.sm_driver.proofs.LocalSteps.{begun_is, free_after_start}
 use Rattle.sm_driver.proofs.Recorded.{IsLonger, advance_longer, begin_longer}
 use Rattle.sm_driver.proofs.driver.Driver.begin.Goals as goal
 

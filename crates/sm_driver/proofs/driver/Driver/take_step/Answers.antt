@@ -11,7 +11,7 @@ use Rattle.sm_machine.specs.State.{state_of}
 use Rattle.sm_driver.proofs.Beside.{IsBeside, advance_beside, beside_then, step_beside}
 use Rattle.sm_driver.proofs.Driving.{driving_on}
 use Rattle.sm_driver.proofs.FreeSteps.{none_is_left}
-use Rattle.sm_driver.proofs.OwnSteps.{free_after_answer}
+use Rattle.sm_driver.proofs.LocalSteps.{free_after_answer}
 use Rattle.sm_driver.proofs.Recorded.{IsLonger, advance_longer, due_is_moved, step_longer}
 use Rattle.sm_driver.proofs.driver.Driver.take_step.Goals as goal
 

@@ -1,7 +1,7 @@
 -- The server that has a permit.
 use Rattle.std.proofs.Common.{◌∙◌, ◌<◌, ℕ, Option, Some, None, length, sym, ap, subst}
 use Rattle.std.specs.Prelude.{if◌then◌else◌}
-use Rattle.sm_network.specs.Controller.{is_permitted}
+use Rattle.laws_network.specs.Controller.{is_permitted}
 use Rattle.sm_machine.proofs.Engaged.{found, passed}
 use Rattle.sm_driver.specs.Permits.{permit_of}
 use Rattle.sm_driver.proofs.permits.Permits.server.Goals as goal

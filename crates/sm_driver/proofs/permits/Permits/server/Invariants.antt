@@ -1,6 +1,6 @@
 use Rattle.std.proofs.Common.{Some, None, length}
 use Rattle.std.specs.Prelude.{if◌then◌else◌}
-use Rattle.sm_network.specs.Controller.{is_permitted}
+use Rattle.laws_network.specs.Controller.{is_permitted}
 use Rattle.sm_machine.proofs.Engaged.{IsLeft}
 use Rattle.sm_driver.specs.Permits.{permit_of}
 use Rattle.sm_driver.proofs.permits.Permits.server.Given as goal

@@ -3,7 +3,7 @@ use Rattle.std.proofs.Common.{◌≡◌, ◌∙◌, ℕ, Bool, true, false, Opti
 use Rattle.std.specs.Prelude.{is_some}
 use Rattle.sm_placement.specs.Layout.{place_of}
 use Rattle.sm_placement.specs.Setup.{IsSetup}
-use Rattle.sm_network.specs.Reopening.{Settlement}
+use Rattle.laws_network.specs.Reopening.{Settlement}
 use Rattle.sm_reopening.specs.declared.faults.ConfirmFault.{ConfirmFault}
 use Rattle.sm_reopening.proofs.Confirming.{IsReady, fair_everywhere, is_fair, is_timely, may_confirm}
 use Rattle.sm_reopening.proofs.ongoing.OngoingReopening.fault_of.Goals as goal

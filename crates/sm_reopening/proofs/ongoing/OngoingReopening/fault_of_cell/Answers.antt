@@ -12,7 +12,7 @@ use Rattle.sm_reopening.specs.declared.ongoing.OngoingReopening.{OngoingReopenin
 use Rattle.sm_reopening.specs.Ongoing.{net_reopening}
 use Rattle.sm_reopening.specs.Survivors.{standing_of, stands_above}
 use Rattle.sm_reopening.proofs.Taking.{unsettled_parts}
-use Rattle.sm_reopening.proofs.Heirs.{none_better}
+use Rattle.sm_reopening.proofs.Successors.{none_better}
 use Rattle.sm_reopening.proofs.ongoing.OngoingReopening.fault_of_cell.Goals as goal
 
 absent_is : (c : Cell) → is_absent c ≡ true → c ≡ Absent

@@ -4,8 +4,8 @@ use Rattle.std.specs.Prelude.{◌&&◌, is_none, is_some, not, option_map}
 use Rattle.std.proofs.lemmas.Bool.{and_cases, and_from, and_parts, not-true}
 use Rattle.sm_placement.specs.Layout.{place_of}
 use Rattle.sm_placement.proofs.Searches.{first_none, first_some}
-use Rattle.sm_network.specs.Reopening.{MapOwner}
-use Rattle.sm_network.specs.ReopeningLaws.{is_carried}
+use Rattle.laws_network.specs.Reopening.{MapOwner}
+use Rattle.laws_network.specs.ReopeningLaws.{is_carried}
 use Rattle.sm_placement.specs.Opening.{first_below}
 use Rattle.sm_reopening.specs.States.{settlement_by, told_by}
 use Rattle.sm_reopening.specs.Ongoing.{first_awaited, is_waited_for, past_state, net_reopening}

@@ -1,7 +1,7 @@
 -- A first answer is recorded.
 use Rattle.std.proofs.Common.{◌≡◌, ◌∙◌, ℕ, Bool, true, Some, sym, ap}
 use Rattle.std.specs.Prelude.{if◌then◌else◌}
-use Rattle.sm_network.specs.Reopening.{Reopening, Server, is_first, put_party}
+use Rattle.laws_network.specs.Reopening.{Reopening, Server, is_first, put_party}
 use Rattle.sm_reopening.specs.States.{net_inventory}
 use Rattle.sm_reopening.specs.Ongoing.{told_positions, put_position, net_reopening}
 use Rattle.sm_reopening.proofs.Firsts.{first_parts}

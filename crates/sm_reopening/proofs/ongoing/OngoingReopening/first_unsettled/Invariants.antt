@@ -2,7 +2,7 @@ use Rattle.std.proofs.Common.{◌≡◌, ◌-◌, length}
 use Rattle.std.specs.List.{find, range_with_len}
 use Rattle.sm_placement.specs.Opening.{first_below}
 use Rattle.sm_reopening.specs.Ongoing.{net_reopening}
-use Rattle.sm_network.specs.Reopening.{Server}
+use Rattle.laws_network.specs.Reopening.{Server}
 use Rattle.sm_reopening.specs.Settles.{is_unsettled}
 use Rattle.sm_reopening.proofs.ongoing.OngoingReopening.first_unsettled.Given as goal
 

@@ -2,7 +2,7 @@
 use Rattle.std.proofs.Common.{◌≡◌, ◌∙◌, ℕ, Bool, true, false, Option, Some, None, refl, sym, ap}
 use Rattle.std.specs.Prelude.{is_none, is_some, not, option_map}
 use Rattle.std.proofs.lemmas.Bool.{not-false}
-use Rattle.sm_network.specs.Reopening.{MapOwner}
+use Rattle.laws_network.specs.Reopening.{MapOwner}
 use Rattle.sm_reopening.specs.States.{settlement_by}
 use Rattle.sm_reopening.specs.Ongoing.{net_reopening}
 use Rattle.sm_reopening.specs.Settles.{first_unsettled, is_unsettled}

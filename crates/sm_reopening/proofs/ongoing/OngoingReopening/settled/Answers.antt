@@ -1,7 +1,7 @@
 -- An answer that is due is entered.
 use Rattle.std.proofs.Common.{inr, ◌≡◌, ◌∙◌, true, sym, ap}
 use Rattle.std.specs.Prelude.{is_some}
-use Rattle.sm_network.specs.Reopening.{Reopening}
+use Rattle.laws_network.specs.Reopening.{Reopening}
 use Rattle.sm_reopening.specs.Ongoing.{net_reopening}
 use Rattle.sm_reopening.specs.Settles.{is_due_settle, net_party}
 use Rattle.sm_reopening.proofs.Taking.{due_is_entered, due_parts}

@@ -2,7 +2,7 @@
 use Rattle.std.proofs.Common.{◌≡◌, ◌<◌, ◌∙◌, ℕ, Bool, true, false, Option, Some, None, length, refl, sym, ap, subst, arith}
 use Rattle.std.specs.Prelude.{is_some, option_map}
 use Rattle.std.proofs.lemmas.List.{get_or_read}
-use Rattle.sm_network.specs.Reopening.{Inventory, Party, Reopening, Server, put_party}
+use Rattle.laws_network.specs.Reopening.{Inventory, Party, Reopening, Server, put_party}
 use Rattle.sm_reopening.specs.declared.party.Membership.TheVariants.{Member}
 use Rattle.sm_reopening.specs.declared.state.ServerState.{ServerState}
 use Rattle.sm_reopening.specs.States.{fits_told, fresh_state, net_inventory, settled_by, settlement_by, state_by, told_by}

@@ -1,9 +1,9 @@
 use Rattle.std.proofs.Common.{◌≡◌, ◌∙◌, ℕ, List, subst, sym}
 use Rattle.std.proofs.lemmas.List.{append_cancel_left}
-use Rattle.journal_session.specs.declared.applies.Applied.TheVariants as effect
-use Rattle.sm_session.specs.declared.session.LineEffect.{LineEffect}
-use Rattle.sm_session.specs.Declines.{DeclinesBy}
-use Rattle.sm_session.specs.Replies.{RepliesTo}
+use Rattle.journal_serve.specs.declared.applies.Applied.TheVariants as effect
+use Rattle.smpland_session.specs.declared.session.LineEffect.{LineEffect}
+use Rattle.smpland_session.specs.Declines.{DeclinesBy}
+use Rattle.smpland_session.specs.Replies.{RepliesTo}
 use Rattle.smpland.proofs.keeper.KeeperApplies.apply.Goals as goal
 
 pub returns-in-Changed-clause-takes : goal.returns-in-Changed-clause-takes

@@ -1,14 +1,14 @@
 -- An entry that changes nothing is declined as a line is.
 use Rattle.std.proofs.Common.{◌≡◌, ◌++◌, ℕ, IfOk, List, subst}
 use Rattle.std.specs.Prelude.{Result, Ok, Err}
-use Rattle.journal_session.specs.declared.applies.Applied.{Applied}
-use Rattle.journal_session.specs.declared.applies.Applied.TheVariants as effect
-use Rattle.sm_session.specs.Asked.{DoesAsSaid}
-use Rattle.sm_session.specs.Changes.{SessionChanges}
-use Rattle.sm_session.specs.Declines.{DeclinesBy}
-use Rattle.sm_session.specs.Replies.{IsLineReply, RepliesTo}
-use Rattle.sm_session.specs.declared.session.LineEffect.TheVariants as did
-use Rattle.sm_session.specs.declared.session.Session.{Session}
+use Rattle.journal_serve.specs.declared.applies.Applied.{Applied}
+use Rattle.journal_serve.specs.declared.applies.Applied.TheVariants as effect
+use Rattle.smpland_session.specs.Asked.{DoesAsSaid}
+use Rattle.smpland_session.specs.Changes.{SessionChanges}
+use Rattle.smpland_session.specs.Declines.{DeclinesBy}
+use Rattle.smpland_session.specs.Replies.{IsLineReply, RepliesTo}
+use Rattle.smpland_session.specs.declared.session.LineEffect.TheVariants as did
+use Rattle.smpland_session.specs.declared.session.Session.{Session}
 use Rattle.smpland.proofs.keeper.KeeperApplies.replay.Goals as goal
 
 -- what a keeper takes, of its session

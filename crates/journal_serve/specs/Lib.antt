@@ -1,0 +1,9 @@
+pub mod Moments
+pub mod Journal
+pub mod Trace
+pub mod Faults
+pub mod Pieces
+pub mod Turn
+pub mod Session
+pub mod Recovery
+pub mod Resume

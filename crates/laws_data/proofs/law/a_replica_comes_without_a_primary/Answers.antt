@@ -1,0 +1,6 @@
+-- The law is the lemma on the play.
+use Rattle.laws_data.proofs.Plays.{comes-without-primary}
+use Rattle.laws_data.proofs.law.a_replica_comes_without_a_primary.Goals as goal
+
+pub returns : goal.returns
+returns g = comes-without-primary

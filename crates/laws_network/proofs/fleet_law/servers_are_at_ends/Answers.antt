@@ -1,0 +1,6 @@
+-- The law is the lemma on all that events lead to.
+use Rattle.laws_network.proofs.FleetOnce.{servers_are_at_ends}
+use Rattle.laws_network.proofs.fleet_law.servers_are_at_ends.Goals as goal
+
+pub returns : goal.returns
+returns g = servers_are_at_ends

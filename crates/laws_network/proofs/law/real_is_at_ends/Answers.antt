@@ -1,0 +1,6 @@
+-- The law is the lemma on all that events lead to.
+use Rattle.laws_network.proofs.Raised.{real_is_at_ends}
+use Rattle.laws_network.proofs.law.real_is_at_ends.Goals as goal
+
+pub returns : goal.returns
+returns g = real_is_at_ends

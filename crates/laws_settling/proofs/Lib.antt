@@ -1,0 +1,9 @@
+mod Successors
+mod Told
+mod Inherited
+mod Among
+mod Taking
+mod Telling
+mod Settled
+mod Ending
+mod Plays

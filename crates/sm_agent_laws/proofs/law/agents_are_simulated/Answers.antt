@@ -1,6 +1,0 @@
--- The law is the lemma on each event.
-use Rattle.sm_agent_laws.proofs.Simulated.{agents_are_simulated}
-use Rattle.sm_agent_laws.proofs.law.agents_are_simulated.Goals as goal
-
-pub returns : goal.returns
-returns c = agents_are_simulated c.agents_do_so.ensures c.refuses_none.ensures

@@ -1,6 +1,0 @@
--- The law is the lemma.
-use Rattle.sm_agent_laws.proofs.Reached.{have_settlement}
-use Rattle.sm_agent_laws.proofs.law.have_settlement.Goals as goal
-
-pub returns : goal.returns
-returns c = have_settlement c.stand_for_reached.ensures c.opens_with_past.ensures

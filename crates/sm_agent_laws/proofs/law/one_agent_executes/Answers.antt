@@ -1,6 +1,0 @@
--- The law is the lemma.
-use Rattle.sm_agent_laws.proofs.Reached.{one_agent_executes}
-use Rattle.sm_agent_laws.proofs.law.one_agent_executes.Goals as goal
-
-pub returns : goal.returns
-returns c = one_agent_executes c.agents_are_simulated.ensures c.stand_for_reached.ensures c.executes_safely.ensures c.shown_executes.ensures

@@ -1,6 +1,0 @@
--- The law is the lemma.
-use Rattle.sm_agent_laws.proofs.Reached.{stand_for_reached}
-use Rattle.sm_agent_laws.proofs.law.stand_for_reached.Goals as goal
-
-pub returns : goal.returns
-returns c = stand_for_reached c.agents_are_simulated.ensures c.fleet_can_reopen.ensures

@@ -1,6 +1,0 @@
--- The law is the lemma on every state that events lead to.
-use Rattle.sm_call_laws.proofs.Tries.{further_tries_repeat}
-use Rattle.sm_call_laws.proofs.law.further_tries_repeat.Goals as goal
-
-pub returns : goal.returns
-returns g = further_tries_repeat

@@ -1,7 +1,0 @@
-use Rattle.sm_commands.proofs.Written.{next}
-use Rattle.sm_commands.proofs.bad_line.write_bad_members.Goals as goal
-
-pub returns : goal.returns
-returns c =
-    let o = c.args.writer.now.tokens in
-    next o _ _ (next o _ _ c.in_ok-write_text.ensures c.in_ok-write_text-2.ensures) c.in_ok-write_text-3.ensures

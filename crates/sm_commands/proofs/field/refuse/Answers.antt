@@ -1,5 +1,0 @@
-use Rattle.sm_commands.specs.Refusals.{own_refusal}
-use Rattle.sm_commands.proofs.field.refuse.Goals as goal
-
-pub returns-clause-refused : goal.returns-clause-refused
-returns-clause-refused c = (own_refusal c.args.kind.now c.args.fields.now, c.in_ok-write_own.ensures)

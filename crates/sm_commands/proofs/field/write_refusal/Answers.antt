@@ -1,6 +1,0 @@
-use Rattle.sm_refusals.specs.Refusals.{refusal_model}
-use Rattle.sm_commands.specs.Refusals.{shared_refusal}
-use Rattle.sm_commands.proofs.field.write_refusal.Goals as goal
-
-pub returns-clause-refused : goal.returns-clause-refused
-returns-clause-refused c = (shared_refusal (refusal_model c.args.refusal.now), c.in_ok-write_shared.ensures)

@@ -1,6 +1,0 @@
-use Rattle.std.proofs.Common.{All, length}
-use Rattle.sm_plan_code.specs.Move.{IsKnownMove}
-use Rattle.sm_commands.proofs.moves.read_moves_in.Given as goal
-
-abbrev pub invariant-loop-at : goal.invariant-loop-at
-invariant-loop-at l = All (IsKnownMove (length l.config.shards) (length l.config.servers)) l.moves.items

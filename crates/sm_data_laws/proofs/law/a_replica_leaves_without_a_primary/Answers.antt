@@ -1,6 +1,0 @@
--- The law is the lemma on the play.
-use Rattle.sm_data_laws.proofs.Plays.{leaves-without-primary}
-use Rattle.sm_data_laws.proofs.law.a_replica_leaves_without_a_primary.Goals as goal
-
-pub returns : goal.returns
-returns g = leaves-without-primary

@@ -1,7 +1,0 @@
--- Names are texts.
-use Rattle.std.proofs.Common.{◌∙◌}
-use Rattle.sm_document_reopening.proofs.Lists.{among_texts}
-use Rattle.sm_document_reopening.proofs.members.is_among.Goals as goal
-
-pub returns : goal.returns
-returns c = c.is_one_of.ensures ∙ among_texts c.args.name.now c.args.names.now

@@ -1,8 +1,0 @@
-use Rattle.std.proofs.Common.{◌≡◌}
-use Rattle.std.specs.List.{filter, range_with_len}
-use Rattle.sm_document_reopening.specs.Proposal.{has_shard}
-use Rattle.sm_document_reopening.proofs.reopening.DocumentReopening.shards_in_order.Given as goal
-
--- the shards so far
-abbrev pub invariant-loop-number : goal.invariant-loop-number
-invariant-loop-number l = l.shards.items ≡ filter (has_shard l.self) (range_with_len 0 l.number)

@@ -1,7 +1,0 @@
-use Rattle.sm_document_reopening.specs.Roles.{NamesRoles}
-use Rattle.sm_document_reopening.specs.RoleGrids.{role_at}
-use Rattle.sm_document_reopening.proofs.roles.Roles.name_cells.Given as goal
-
--- the servers so far are done
-abbrev pub invariant-loop-number : goal.invariant-loop-number
-invariant-loop-number l = NamesRoles (role_at l.self) l.shard l.number l.cells.items

@@ -1,6 +1,0 @@
--- The law is the lemma on what a command writes.
-use Rattle.sm_driver_laws.proofs.Turns.{commands_are_events}
-use Rattle.sm_driver_laws.proofs.driven.commands_are_events.Goals as goal
-
-pub returns : goal.returns
-returns c = commands_are_events c.driven_is_controlled.ensures c.fleet_is_reached.ensures

@@ -1,5 +1,0 @@
--- The driver is the controller of its fleet.
-use Rattle.sm_driver_laws.proofs.driven.driven_is_safe.Goals as goal
-
-pub returns : goal.returns
-returns c x reached = c.fleet_driven_is_safe.ensures x (c.driven_is_controlled.ensures x reached)

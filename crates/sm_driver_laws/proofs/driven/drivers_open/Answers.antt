@@ -1,6 +1,0 @@
--- The law is the lemma on the fleet that opens with the driver.
-use Rattle.sm_driver_laws.proofs.Opening.{drivers_open}
-use Rattle.sm_driver_laws.proofs.driven.drivers_open.Goals as goal
-
-pub returns : goal.returns
-returns g = drivers_open

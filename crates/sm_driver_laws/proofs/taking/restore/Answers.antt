@@ -1,6 +1,0 @@
--- The contract is that of the driver's own command.
-use Rattle.sm_driver_laws.proofs.Written.{restored_written}
-use Rattle.sm_driver_laws.proofs.taking.restore.Goals as goal
-
-pub returns : goal.returns
-returns c = restored_written c.args.server c.args.nonce _ _ c.restore.result c.restore.ensures.restored

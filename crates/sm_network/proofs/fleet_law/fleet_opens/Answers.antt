@@ -1,6 +1,0 @@
--- The law is the lemma on all that events lead to.
-use Rattle.sm_network.proofs.FleetOpening.{fleet_opens}
-use Rattle.sm_network.proofs.fleet_law.fleet_opens.Goals as goal
-
-pub returns : goal.returns
-returns g = fleet_opens

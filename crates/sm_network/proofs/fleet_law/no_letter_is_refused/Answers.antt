@@ -1,6 +1,0 @@
--- The law is the lemma on all that events lead to.
-use Rattle.sm_network.proofs.OfFleet.{no_letter_is_refused}
-use Rattle.sm_network.proofs.fleet_law.no_letter_is_refused.Goals as goal
-
-pub returns : goal.returns
-returns g = no_letter_is_refused

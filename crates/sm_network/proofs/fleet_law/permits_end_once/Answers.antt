@@ -1,6 +1,0 @@
--- The law is the lemma on all that events lead to.
-use Rattle.sm_network.proofs.FleetPermits.{permits_end_once}
-use Rattle.sm_network.proofs.fleet_law.permits_end_once.Goals as goal
-
-pub returns : goal.returns
-returns g = permits_end_once

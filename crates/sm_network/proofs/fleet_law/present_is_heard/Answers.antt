@@ -1,6 +1,0 @@
--- The law is the lemma on all that events lead to.
-use Rattle.sm_network.proofs.OfFleet.{present_is_heard}
-use Rattle.sm_network.proofs.fleet_law.present_is_heard.Goals as goal
-
-pub returns : goal.returns
-returns g = present_is_heard

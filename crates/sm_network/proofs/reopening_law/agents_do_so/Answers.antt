@@ -1,6 +1,0 @@
--- The law is the lemma on agents.
-use Rattle.sm_network.proofs.Agents.{agents_do_so}
-use Rattle.sm_network.proofs.reopening_law.agents_do_so.Goals as goal
-
-pub returns : goal.returns
-returns g = agents_do_so

@@ -1,6 +1,0 @@
--- The law is the lemma on the beginning.
-use Rattle.sm_network.proofs.Begun.{can_begin}
-use Rattle.sm_network.proofs.reopening_law.can_begin.Goals as goal
-
-pub returns : goal.returns
-returns g = can_begin

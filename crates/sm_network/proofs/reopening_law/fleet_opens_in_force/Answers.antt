@@ -1,6 +1,0 @@
--- The law is the lemma on all that events lead to.
-use Rattle.sm_network.proofs.FleetOpens.{fleet_opens_in_force}
-use Rattle.sm_network.proofs.reopening_law.fleet_opens_in_force.Goals as goal
-
-pub returns : goal.returns
-returns g = fleet_opens_in_force

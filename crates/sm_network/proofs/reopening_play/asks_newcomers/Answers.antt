@@ -1,6 +1,0 @@
--- The play is computed.
-use Rattle.sm_network.proofs.Plays.{asks_newcomers}
-use Rattle.sm_network.proofs.reopening_play.asks_newcomers.Goals as goal
-
-pub returns : goal.returns
-returns g = asks_newcomers

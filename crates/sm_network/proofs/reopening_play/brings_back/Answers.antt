@@ -1,6 +1,0 @@
--- The play is computed.
-use Rattle.sm_network.proofs.Plays.{brings_back}
-use Rattle.sm_network.proofs.reopening_play.brings_back.Goals as goal
-
-pub returns : goal.returns
-returns g = brings_back

@@ -1,4 +1,0 @@
-pub mod Audited
-pub mod Outgoing
-pub mod Told
-pub mod Written

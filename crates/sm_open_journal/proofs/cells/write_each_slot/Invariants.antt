@@ -1,8 +1,0 @@
-use Rattle.std.proofs.Common.{◌≡◌, ◌++◌}
-use Rattle.std.specs.List.{flat_map, range_with_len}
-use Rattle.sm_open_journal.specs.Cells.{slot_at}
-use Rattle.sm_open_journal.proofs.cells.write_each_slot.Given as goal
-
--- the shards so far
-abbrev pub invariant-loop-number : goal.invariant-loop-number
-invariant-loop-number l = l.writer.tokens ≡ l.initial.writer.tokens ++ flat_map (slot_at l.config l.cells) (range_with_len 0 l.number)

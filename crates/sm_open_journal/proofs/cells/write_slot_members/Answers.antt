@@ -1,9 +1,0 @@
-use Rattle.sm_commands.proofs.Written.{next}
-use Rattle.sm_open_journal.proofs.cells.write_slot_members.Goals as goal
-
-pub returns : goal.returns
-returns c =
-    let o = c.args.writer.now.tokens in
-    let shard = rw c.shard_name.ensures at c.in_ok-write_text.ensures in
-    let load = rw c.load.ensures.load at c.in_ok-write_number.ensures in
-    next o _ _ (next o _ _ shard c.in_ok-write_cell.ensures) load

@@ -1,9 +1,0 @@
-use Rattle.sm_commands.proofs.Written.{next}
-use Rattle.sm_open_journal.proofs.document.write_server_members.Goals as goal
-
-pub returns : goal.returns
-returns c =
-    let o = c.args.writer.now.tokens in
-    let name = rw c.as_str.ensures.value at c.in_ok-write_text.ensures in
-    let region = rw c.as_str-2.ensures.value at c.in_ok-write_text-2.ensures in
-    next o _ _ (next o _ _ (next o _ _ name region) c.in_ok-write_number.ensures) c.in_ok-write_flag.ensures

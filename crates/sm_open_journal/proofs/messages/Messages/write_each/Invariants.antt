@@ -1,9 +1,0 @@
-use Rattle.std.proofs.Common.{◌≡◌, ◌++◌, take}
-use Rattle.std.specs.List.{flat_map}
-use Rattle.sm_open_journal.specs.Messages.{stream_message}
-use Rattle.sm_open_journal.proofs.messages.Messages.write_each.Given as goal
-
--- those of the streams so far
-abbrev pub invariant-loop-id : goal.invariant-loop-id
-invariant-loop-id l =
-    l.writer.tokens ≡ l.initial.writer.tokens ++ flat_map (stream_message l.self.driver.now) (take l.id-index l.ids)

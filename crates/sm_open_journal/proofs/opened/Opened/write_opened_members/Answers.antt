@@ -1,9 +1,0 @@
-use Rattle.sm_commands.proofs.Written.{next}
-use Rattle.sm_open_journal.proofs.opened.Opened.write_opened_members.Goals as goal
-
-pub returns : goal.returns
-returns c =
-    let o = c.args.writer.now.tokens in
-    let journal = rw c.journal.ensures at c.in_ok-write_bits.ensures in
-    let epoch = rw c.epoch.ensures at (rw c.from.ensures at c.in_ok-write_number.ensures) in
-    next o _ _ (next o _ _ journal epoch) c.in_ok-write_permits.ensures

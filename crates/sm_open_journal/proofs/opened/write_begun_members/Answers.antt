@@ -1,9 +1,0 @@
-use Rattle.sm_commands.proofs.Written.{next}
-use Rattle.sm_open_journal.proofs.opened.write_begun_members.Goals as goal
-
-pub returns : goal.returns
-returns c =
-    let o = c.args.writer.now.tokens in
-    let plan = rw c.from.ensures at c.in_ok-write_number.ensures in
-    let epoch = rw c.from-2.ensures at c.in_ok-write_number-4.ensures in
-    next o _ _ (next o _ _ (next o _ _ plan c.in_ok-write_number-2.ensures) c.in_ok-write_number-3.ensures) epoch

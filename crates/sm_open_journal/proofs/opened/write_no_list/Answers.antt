@@ -1,7 +1,0 @@
-use Rattle.sm_commands.proofs.Written.{next}
-use Rattle.sm_open_journal.proofs.opened.write_no_list.Goals as goal
-
-pub returns : goal.returns
-returns c =
-    let o = c.args.writer.now.tokens in
-    next o _ _ (next o _ _ c.in_ok-key.ensures.ok c.in_ok-begin_array.ensures.ok) c.in_ok-end_array.ensures.ok

@@ -1,7 +1,0 @@
-use Rattle.sm_commands.proofs.Written.{next}
-use Rattle.sm_open_journal.proofs.since.write_changes_since.Goals as goal
-
-pub returns : goal.returns
-returns c =
-    let o = c.args.writer.now.tokens in
-    next o _ _ (next o _ _ c.in_ok-write_orders_since.ensures c.in_ok-write_published_since.ensures) c.in_ok-write_ended_since.ensures

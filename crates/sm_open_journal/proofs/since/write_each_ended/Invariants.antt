@@ -1,9 +1,0 @@
-use Rattle.std.proofs.Common.{◌≡◌, ◌++◌}
-use Rattle.std.specs.List.{flat_map, range_with_len}
-use Rattle.sm_open_journal.specs.History.{ended_at}
-use Rattle.sm_open_journal.specs.Since.{number_if_later}
-use Rattle.sm_open_journal.proofs.since.write_each_ended.Given as goal
-
--- the plans so far
-abbrev pub invariant-loop-number : goal.invariant-loop-number
-invariant-loop-number l = l.writer.tokens ≡ l.initial.writer.tokens ++ flat_map (λ k. number_if_later l.place k (ended_at l.history k)) (range_with_len 0 l.number)

@@ -1,6 +1,0 @@
--- The law is the lemma on a configuration's own order.
-use Rattle.sm_reopening_laws.proofs.Renumbered.{numbers_may_stay}
-use Rattle.sm_reopening_laws.proofs.in_force.numbers_may_stay.Goals as goal
-
-pub returns : goal.returns
-returns g = numbers_may_stay

@@ -1,6 +1,0 @@
--- The law is the lemma, by the laws of both parts and the fleet that is there.
-use Rattle.sm_reopening_laws.proofs.Within.{can_open}
-use Rattle.sm_reopening_laws.proofs.law.can_open.Goals as goal
-
-pub returns : goal.returns
-returns c = can_open c.laws_hold.ensures c.fleet_is_there_as.ensures

@@ -1,6 +1,0 @@
--- The law is the lemma on what was counted.
-use Rattle.sm_reopening_laws.proofs.Counted.{permits_end_once}
-use Rattle.sm_reopening_laws.proofs.law.permit_ends_once.Goals as goal
-
-pub returns : goal.returns
-returns c = permits_end_once c.permits_end_once.ensures c.fleet_opens_as.ensures

@@ -1,6 +1,0 @@
--- The law is the lemma on who has lost its slots.
-use Rattle.sm_reopening_laws.proofs.Restarts.{rules_keep_floors}
-use Rattle.sm_reopening_laws.proofs.law.rules_keep_floors.Goals as goal
-
-pub returns : goal.returns
-returns c = rules_keep_floors c.fleet_is_safe.ensures

@@ -1,6 +1,0 @@
--- The play is computed.
-use Rattle.std.proofs.Common.{refl}
-use Rattle.sm_reopening_laws.proofs.play.keeps_two.Goals as goal
-
-pub returns : goal.returns
-returns c = record { kept = refl; live = refl; forgot = refl }

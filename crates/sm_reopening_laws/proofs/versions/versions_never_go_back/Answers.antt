@@ -1,6 +1,0 @@
--- The law is the lemma on what is shown along events.
-use Rattle.sm_reopening_laws.proofs.MapVersions.{versions_never_go_back}
-use Rattle.sm_reopening_laws.proofs.versions.versions_never_go_back.Goals as goal
-
-pub returns : goal.returns
-returns c = versions_never_go_back c.fleet_opens_as.ensures c.map_never_goes_back.ensures

@@ -1,6 +1,0 @@
--- The law is the lemma that what is outstanding can come, stream by stream.
-use Rattle.sm_rounds_laws.proofs.Comes.{round_can_come}
-use Rattle.sm_rounds_laws.proofs.law.round_can_come.Goals as goal
-
-pub returns : goal.returns
-returns c = round_can_come

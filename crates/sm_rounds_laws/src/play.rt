@@ -1,7 +1,0 @@
-//! A worked play, computed by the definitions.
-ghost use Rattle.sm_rounds_laws.specs.RoundPlays.{EndsInSixRounds};
-
-/// Shows that a handover whose stream has six steps left is done after six rounds.
-pub fn ends_in_six_rounds()
-    ensures { EndsInSixRounds }
-{}

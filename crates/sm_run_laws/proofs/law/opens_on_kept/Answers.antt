@@ -1,6 +1,0 @@
--- The law is the lemma on what is kept.
-use Rattle.sm_run_laws.proofs.Renumbers.{opens_on_kept}
-use Rattle.sm_run_laws.proofs.law.opens_on_kept.Goals as goal
-
-pub returns : goal.returns
-returns g = opens_on_kept

@@ -1,6 +1,0 @@
--- The law is the lemma on fleets in force.
-use Rattle.sm_service_laws.proofs.Possible.{driver_can_open}
-use Rattle.sm_service_laws.proofs.law.driver_can_open.Goals as goal
-
-pub returns : goal.returns
-returns c = driver_can_open c.service_is_controlled.ensures c.laws_hold.ensures c.fleet_is_there_as.ensures c.opened_controls.ensures

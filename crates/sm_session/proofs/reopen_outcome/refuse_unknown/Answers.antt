@@ -1,7 +1,0 @@
-use Rattle.std.specs.Prelude.{codes}
-use Rattle.sm_session.proofs.Named.{told_of_name}
-use Rattle.sm_session.proofs.reopen_outcome.refuse_unknown.Goals as goal
-
-pub returns : goal.returns
-returns c =
-    told_of_name c.refuse.result (codes "UnknownName") (codes "server") c.args.name.now c.args.writer.now.tokens c.refuse.new.writer.tokens c.refuse.ensures.told

@@ -1,6 +1,0 @@
-use Rattle.std.proofs.Common.{◌≡◌, Bool, Option, refl, subst}
-use Rattle.sm_session.specs.Openings.{DoesOpen}
-use Rattle.sm_session.proofs.session.Session.carry_out.Goals as goal
-
-pub drive-requires : goal.drive-requires
-drive-requires c = c.standing-at.ensures

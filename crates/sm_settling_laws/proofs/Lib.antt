@@ -1,9 +1,0 @@
-mod Heirs
-mod Told
-mod Inherited
-mod Among
-mod Taking
-mod Telling
-mod Settled
-mod Ending
-mod Plays

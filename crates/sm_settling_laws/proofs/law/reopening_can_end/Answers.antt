@@ -1,6 +1,0 @@
--- The law is the lemma, by the law of what is settled and the fleet that a controller can open on.
-use Rattle.sm_settling_laws.proofs.Ending.{can_end}
-use Rattle.sm_settling_laws.proofs.law.reopening_can_end.Goals as goal
-
-pub returns : goal.returns
-returns c = can_end c.numbers_may_stay.ensures c.can_settle.ensures c.can_open.ensures c.laws_hold.ensures

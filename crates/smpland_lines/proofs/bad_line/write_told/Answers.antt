@@ -1,0 +1,8 @@
+use Rattle.smpland_lines.proofs.Written.{next}
+use Rattle.smpland_lines.proofs.bad_line.write_told.Goals as goal
+
+pub returns : goal.returns
+returns c =
+    let o = c.args.writer.now.tokens in
+    let begun = next o _ _ c.in_ok-key.ensures.ok c.in_ok-begin_object.ensures.ok in
+    next o _ _ begun (next c.begin_object.new.self.tokens _ _ c.in_ok-write_bad_members.ensures c.in_ok-end_object.ensures.ok)

@@ -1,0 +1,42 @@
+-- How a member of a command is written.
+use Rattle.std.specs.Prelude.{ℕ, List, codes}
+use Rattle.smpland_lines.specs.declared.command_member.CommandMember.{CommandMember}
+use Rattle.smpland_lines.specs.declared.command_member.CommandMember.TheVariants as members
+
+-- the name of a member in a line; of the line itself, what a bad line calls it
+abbrev pub member_text : CommandMember → List ℕ
+member_text members.Command = codes "command"
+member_text members.Do = codes "do"
+member_text members.Id = codes "id"
+member_text members.Document = codes "document"
+member_text members.Journal = codes "journal"
+member_text members.Epoch = codes "epoch"
+member_text members.Plan = codes "plan"
+member_text members.Name = codes "name"
+member_text members.Stream = codes "stream"
+member_text members.Number = codes "number"
+member_text members.Server = codes "server"
+member_text members.Shard = codes "shard"
+member_text members.Moves = codes "moves"
+member_text members.From = codes "from"
+member_text members.To = codes "to"
+member_text members.By = codes "by"
+member_text members.Permit = codes "permit"
+member_text members.Nonce = codes "nonce"
+member_text members.Lost = codes "lost"
+member_text members.Why = codes "why"
+member_text members.Base = codes "base"
+member_text members.Slots = codes "slots"
+member_text members.Unknown = codes "unknown"
+member_text members.Cells = codes "cells"
+member_text members.Place = codes "place"
+member_text members.Answer = codes "answer"
+member_text members.Cell = codes "cell"
+member_text members.Party = codes "party"
+member_text members.Handover = codes "handover"
+member_text members.Last = codes "last"
+member_text members.Load = codes "load"
+member_text members.Cut = codes "cut"
+member_text members.Position = codes "position"
+member_text members.Reached = codes "reached"
+member_text members.State = codes "state"

@@ -1,0 +1,12 @@
+use Rattle.std.proofs.Common.{◌∙◌, ap, sym}
+use Rattle.std.specs.String.{string_bytes}
+use Rattle.sm_placement.specs.Setup.{shard_named}
+use Rattle.smpland_reopening.proofs.Numbers.{shard_found}
+use Rattle.smpland_reopening.proofs.numbering.shard_number.Goals as goal
+
+-- the name has the number that was found, and keeps it
+pub returns-in-Some-clause-number : goal.returns-in-Some-clause-number
+returns-in-Some-clause-number c =
+    let name = string_bytes c.args.shard.now.name in
+    c.requires c.in-Some.number name
+    (shard_found c.args.recorded.now name c.in-Some.number (ap (λ n. shard_named c.args.recorded.now n) (sym c.deref.ensures) ∙ sym c.in-Some.ensures.named))

@@ -1,0 +1,8 @@
+use Rattle.std.proofs.Common.{◌≡◌}
+use Rattle.std.specs.List.{filter, range_with_len}
+use Rattle.smpland_reopening.specs.Proposal.{has_shard}
+use Rattle.smpland_reopening.proofs.reopening.DocumentReopening.shards_in_order.Given as goal
+
+-- the shards so far
+abbrev pub invariant-loop-number : goal.invariant-loop-number
+invariant-loop-number l = l.shards.items ≡ filter (has_shard l.self) (range_with_len 0 l.number)

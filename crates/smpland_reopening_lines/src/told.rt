@@ -1,0 +1,143 @@
+//! A server's account of its slots, as a reopening takes it.
+ghost use Rattle.std.specs.Prelude.{◌≡◌, ◌==◌, ◌<◌, ℕ, IfOk, OnOk, Some, if◌then◌else◌, length, true};
+ghost use Rattle.laws_network.specs.Reopening.{Unknown};
+ghost use Rattle.sm_reopening.specs.States.{fits_told, net_inventory, no_slot, slot_in};
+ghost use Rattle.smpland_reopening_lines.specs.Slots.{cell_told, is_text_of, party_told, slot_by, slot_told};
+ghost use Rattle.smpland_reopening_lines.specs.Told.{HasEachSlot};
+
+use sm_placement::Config;
+use sm_reopening::{FoundSlot, Inventory};
+use sm_server::{Cell, ServerId, ShardId};
+use smpland_lines::{CellKind, PartyText, SlotText};
+use std::alloc::{AllocError, Global};
+
+/// A server's account: slots of shards that have numbers, and the names of other shards that it has.
+#[derive(Drop)]
+pub(crate) struct Told {
+    pub inventory: Inventory,
+    pub unknown_shards: Vec<String>,
+}
+
+/// Returns the number of the other party of a handover: one that no server has for a name that nobody knows.
+fn party_of(numbering: &Config, party: PartyText<'_>) -> ServerId
+    ensures { result ≡ party_told numbering.now party.entry }
+{
+    let unknown = ServerId::new(u32::MAX);
+    match party {
+        PartyText::Name(name) => match numbering.server_named(name) {
+            Some(server) => server,
+            None => unknown,
+        },
+        PartyText::Null | PartyText::Missing => unknown,
+    }
+}
+
+/// Returns the cell that a slot tells.
+fn cell_told(numbering: &Config, slot: &SlotText<'_>) -> Cell
+    ensures { result ≡ cell_told numbering.now slot.now }
+{
+    let number = slot.handover.unwrap_or(0);
+    match slot.cell {
+        CellKind::Absent => Cell::Absent,
+        CellKind::Secondary => Cell::Secondary,
+        CellKind::Primary => Cell::Primary,
+        CellKind::Prepared => Cell::Prepared {
+            from: party_of(numbering, slot.party),
+            number,
+        },
+        CellKind::Forwarding => Cell::Forwarding {
+            to: party_of(numbering, slot.party),
+            number,
+        },
+    }
+}
+
+/// Returns what a slot tells.
+fn slot_told(numbering: &Config, slot: &SlotText<'_>) -> FoundSlot
+    ensures { result ≡ slot_told numbering.now slot.now }
+{
+    FoundSlot {
+        cell: cell_told(numbering, slot),
+        position: slot.position.unwrap_or(0),
+        reached: slot.reached.unwrap_or(false),
+    }
+}
+
+/// Returns nothing of each shard.
+fn no_slots(alloc: Global, numbering: &Config) -> Result<Vec<FoundSlot>, AllocError>
+    ensures count { IfOk result (λ slots. length slots.items ≡ length numbering.now.shards) }
+    ensures nothing { IfOk result (λ slots. (s : ℕ) → slot_in slots.items s ≡ no_slot) }
+{
+    let nothing = FoundSlot {
+        cell: Cell::Absent,
+        position: 0,
+        reached: false,
+    };
+    vec![in alloc; nothing; numbering.shard_count() as usize]
+}
+
+/// Puts a shard's slot at its place.
+fn put_slot(found: &mut Vec<FoundSlot>, shard: ShardId, slot: FoundSlot)
+    ensures count { length found.new.items ≡ length found.old.items }
+    ensures slots { shard < length found.old.items
+        → (s : ℕ) → slot_in found.new.items s ≡ (if shard == s then slot else slot_in found.old.items s) }
+{
+    let place = shard.number() as usize;
+    if place < found.len() {
+        found[place] = slot;
+    }
+}
+
+/// Takes a slot: of a shard that has a number as it is told, and of any other the name, if the server has something
+/// of it.
+fn take_slot(
+    alloc: Global,
+    numbering: &Config,
+    slot: &SlotText<'_>,
+    found: &mut Vec<FoundSlot>,
+    unknown_shards: &mut Vec<String>,
+) -> Result<(), AllocError>
+    requires { length found.old.items ≡ length numbering.now.shards }
+    ensures count { OnOk result (length found.new.items ≡ length found.old.items) }
+    ensures slots { OnOk result ((s : ℕ) → slot_in found.new.items s
+        ≡ (if is_text_of numbering.now s slot.now then slot_told numbering.now slot.now else slot_in found.old.items
+        s)) }
+{
+    match numbering.shard_named(slot.shard) {
+        Some(shard) => put_slot(found, shard, slot_told(numbering, slot)),
+        None if slot.cell == CellKind::Absent => {}
+        None => unknown_shards.push(String::from_str(alloc, slot.shard)?)?,
+    }
+    Ok(())
+}
+
+/// Returns what a server tells by these slots.
+pub(crate) fn told_by_slots(
+    alloc: Global,
+    numbering: &Config,
+    slots: &[SlotText<'_>],
+) -> Result<Told, AllocError>
+    ensures fits { IfOk result (λ told. fits_told (length numbering.now.shards) (Some told.inventory) ≡ true) }
+    ensures slots { IfOk result (λ told. HasEachSlot (slot_by numbering.now slots.now) told.inventory) }
+{
+    let mut found = no_slots(alloc, numbering)?;
+    let mut unknown_shards = Vec::new(alloc);
+    for slot in slots {
+        take_slot(alloc, numbering, slot, &mut found, &mut unknown_shards)?;
+    }
+    Ok(Told {
+        inventory: Inventory::Slots(found),
+        unknown_shards,
+    })
+}
+
+/// Returns what a server tells that has lost its slots.
+pub(crate) fn told_unknown(alloc: Global, nonce: u64) -> Told
+    ensures fits { (shards : ℕ) → fits_told shards (Some result.inventory) ≡ true }
+    ensures nonce { net_inventory result.inventory ≡ Unknown nonce }
+{
+    Told {
+        inventory: Inventory::Unknown { nonce },
+        unknown_shards: Vec::new(alloc),
+    }
+}

@@ -1,0 +1,204 @@
+-- The outcomes of commands on an open journal, and the replies that tell them.
+-- `TellsDecline`, `TellsOutcome`, `KnowsServers`, `StartOutcome` and `HasMovedWith` are internal: you need not read them for the public contracts.
+use Rattle.std.specs.Prelude.{◌≡◌, ◌<◌, ℕ, ◌&&◌, ◌||◌, Bool, true, false, List, ◌++◌, Option, Some, None, IfSome, bytes_eq, codes, if◌then◌else◌, not, string_bytes}
+use Rattle.std.specs.Option.{IsSomeAnd}
+use Rattle.json.specs.Token.{Token}
+use Rattle.serde_json.specs.Data.{Data}
+use Rattle.json_tree.specs.View.{view}
+use Rattle.sm_placement.specs.Setup.{server_named}
+use Rattle.sm_reservation.specs.declared.stream_id.StreamId.{StreamId}
+use Rattle.sm_plan_code.specs.Plan.{PlanModel}
+use Rattle.sm_verifier.specs.Plan.{IsCheckedPlan}
+use Rattle.smpland_state.specs.Names.{value_of}
+use Rattle.sm_driver.specs.Driver.{DriverModel, HasApproved, HasBegunPlan, HasEndedRestart, HasRestored, HasTakenStep, is_due, is_past, record_of}
+use Rattle.sm_driver.specs.Restores.{is_last_restore}
+use Rattle.sm_refusals.specs.Plans.{check_refusal}
+use Rattle.smpland_lines.specs.BadLines.{told_bad}
+use Rattle.smpland_lines.specs.Members.{server_text, text_member}
+use Rattle.smpland_lines.specs.Refusals.{TellsRefused, refused_member, shared_refusal}
+use Rattle.smpland_lines.specs.declared.bad_line.BadLine.TheVariants as bad
+use Rattle.smpland_lines.specs.declared.command_member.CommandMember.TheVariants.{Plan as PlanMember}
+use Rattle.smpland_lines.specs.declared.command.DriverCommand.{DriverCommand}
+use Rattle.smpland_lines.specs.declared.command.DriverCommand.TheVariants as driver
+use Rattle.smpland_state.specs.declared.begun_plan.BegunPlan.{BegunPlan}
+use Rattle.smpland_state.specs.declared.given_permits.GivenAt.{GivenAt}
+use Rattle.smpland_state.specs.declared.given_permits.GivenPermit.{GivenPermit}
+use Rattle.smpland_state.specs.declared.journal_state.JournalState.{JournalState}
+use Rattle.smpland_state.specs.Begun.{begun_again_members, begun_members, begun_plan}
+use Rattle.smpland_state.specs.Given.{given_at}
+use Rattle.smpland_state.specs.Permits.{approved_member, given_member, opened_member}
+use Rattle.smpland_state.specs.Replies.{gone_on, moved_members, sinces_of}
+use Rattle.smpland_state.specs.Restores.{TellsAgain, TellsKept, is_told}
+use Rattle.smpland_session.specs.Asked.{SaysPlan}
+use Rattle.smpland_session.specs.Begins.{IsNotSaid, kept_plan, other_plan}
+use Rattle.smpland_session.specs.Changes.{OpensNext}
+use Rattle.smpland_session.specs.Declines.{Declines}
+use Rattle.smpland_session.specs.declared.decline.Decline.{Decline}
+use Rattle.smpland_session.specs.declared.decline.Decline.TheVariants as decline
+use Rattle.smpland_session.specs.declared.decline.Ignored.{Ignored}
+use Rattle.smpland_session.specs.declared.decline.Ignored.TheVariants as ignored
+use Rattle.smpland_session.specs.declared.driver_outcome.DriverOutcome.{DriverOutcome}
+use Rattle.smpland_session.specs.declared.driver_outcome.DriverOutcome.TheVariants as outcome
+
+-- ---- replies
+
+-- the word for why a command tells nothing new
+abbrev pub ignored_word : Ignored → List ℕ
+ignored_word ignored.Old = codes "old"
+ignored_word ignored.Unknown = codes "unknown"
+
+-- behind what was written is told why nothing has come of a command
+abbrev pub TellsDecline : Decline → List Token → List Token → Type 0
+TellsDecline (decline.Ignored why) before after = after ≡ before ++ text_member (codes "ignored") (ignored_word why)
+TellsDecline (decline.NoPlan fault) before after = after ≡ before ++ told_bad (bad.Within PlanMember fault)
+TellsDecline (decline.Unchecked fault) before after = after ≡ before ++ refused_member (shared_refusal (check_refusal fault))
+TellsDecline (decline.OtherPlan name) before after = after ≡ before ++ refused_member (other_plan (string_bytes name))
+TellsDecline (decline.OtherServer at) before after = TellsRefused before after
+TellsDecline _ before after = Declines before after
+
+-- behind it is told, by the journal after the change, the outcome of a command
+abbrev pub TellsOutcome : JournalState → DriverOutcome → List Token → List Token → Type 0
+TellsOutcome o (outcome.Begun plan) before after = after ≡ before ++ begun_members o.driver plan
+TellsOutcome o (outcome.BegunBefore plan goes_on) before after = after ≡ before ++ begun_again_members o.driver plan goes_on
+TellsOutcome o (outcome.Moved id gone) before after = after ≡ before ++ moved_members o.driver id gone.items
+TellsOutcome o (outcome.Approved server permit) before after =
+    after ≡ before ++ approved_member o.driver server permit
+TellsOutcome o (outcome.ApprovedBefore at) before after =
+    IfSome (given_at o.permits at) (λ given. after ≡ before ++ given_member o.driver (string_bytes given.server) given.permit)
+TellsOutcome o (outcome.Up server) before after = after ≡ before ++ text_member (codes "up") (server_text o.driver.machine.placement.setup server)
+TellsOutcome o (outcome.Restored server nonce) before after = TellsKept o.driver server before after
+TellsOutcome o (outcome.RestoredBefore server nonce) before after = TellsAgain o server nonce before after
+TellsOutcome o outcome.NextEpoch before after = after ≡ before ++ opened_member o.driver
+TellsOutcome o (outcome.Declined why) before after = TellsDecline why before after
+
+-- the server that is told its cells is known
+abbrev pub KnowsServers : DriverModel → DriverOutcome → Type 0
+KnowsServers d (outcome.Restored server nonce) = server < (record_of d).sizes.servers
+KnowsServers d (outcome.RestoredBefore server nonce) = server < (record_of d).sizes.servers
+KnowsServers d _ = Unit {0}
+
+-- something has changed
+abbrev pub has_changed : DriverOutcome → Bool
+has_changed (outcome.Begun _) = true
+has_changed (outcome.BegunBefore _ _) = false
+has_changed (outcome.Moved _ _) = true
+has_changed (outcome.Approved _ _) = true
+has_changed (outcome.ApprovedBefore _) = false
+has_changed (outcome.Up _) = true
+has_changed (outcome.Restored _ _) = true
+has_changed (outcome.RestoredBefore _ _) = false
+has_changed outcome.NextEpoch = true
+has_changed (outcome.Declined _) = false
+
+-- ---- begins
+
+-- the plan has begun, or all is as it was
+abbrev pub StartOutcome : PlanModel → JournalState → DriverOutcome → JournalState → Type 0
+StartOutcome plan old (outcome.Begun begun) new =
+    HasBegunPlan plan begun.number old.driver new.driver × (begun ≡ begun_plan new.driver begun.number)
+StartOutcome plan old (outcome.Declined why) new = new ≡ old
+StartOutcome plan old _ new = ⊥
+
+-- the plan that a value says has begun, and is this one
+abbrev pub BeginsPlanAs : Data → BegunPlan → JournalState → JournalState → Type 0
+BeginsPlanAs value begun old new =
+    (plan : PlanModel) × SaysPlan old.driver.machine.placement.setup value plan × IsCheckedPlan (record_of old.driver).sizes plan
+    × HasBegunPlan plan begun.number old.driver new.driver × (begun ≡ begun_plan new.driver begun.number)
+
+-- the plan that a value says has begun; it had begun under this name before, if it is kept; or neither
+abbrev pub BeginOutcome : Data → List ℕ → Bool → JournalState → DriverOutcome → JournalState → Type 0
+BeginOutcome value name is_reopening old (outcome.Begun begun) new =
+    (is_reopening ≡ false) × (value_of old.plans name ≡ None) × BeginsPlanAs value begun old new
+BeginOutcome value name is_reopening old (outcome.BegunBefore plan goes_on) new =
+    (value_of old.plans name ≡ Some plan) × (goes_on ≡ not is_reopening) × (new ≡ old)
+    × IfSome (kept_plan old.driver plan) (SaysPlan old.driver.machine.placement.setup value)
+BeginOutcome value name is_reopening old (outcome.Declined why) new =
+    (new ≡ old) × IfSome (value_of old.plans name) (λ begun.
+    IsSomeAnd (kept_plan old.driver begun) (λ kept. IsNotSaid old.driver.machine.placement.setup value name kept why))
+BeginOutcome value name is_reopening old _ new = ⊥
+
+-- ---- answers to orders and publications
+
+-- a stream waits for this answer, and no reopening is under way
+abbrev pub is_expected : Bool → DriverModel → StreamId → ℕ → Bool
+is_expected is_reopening d id number = not is_reopening && is_due d id number
+
+-- why an answer is ignored: its stream has gone on, or a reopening is under way; otherwise it is not known
+abbrev pub why_ignored : Bool → DriverModel → StreamId → ℕ → Ignored
+why_ignored is_reopening d id number = if is_reopening || is_past d id number then ignored.Old else ignored.Unknown
+
+-- a stream has made its step, and these streams have gone on
+abbrev pub HasMovedWith : StreamId → List StreamId → DriverOutcome → Type 0
+HasMovedWith id ids (outcome.Moved stream gone) = (stream ≡ id) × (gone.items ≡ ids)
+HasMovedWith id ids _ = ⊥
+
+-- the stream has made its step, and is told with the streams of its plan that have gone on since; or no stream waits for the answer
+abbrev pub AnsweredOutcome : StreamId → ℕ → Bool → JournalState → DriverOutcome → JournalState → Type 0
+AnsweredOutcome id number is_reopening old (outcome.Moved stream gone) new =
+    (is_expected is_reopening old.driver id number ≡ true) × HasTakenStep id old.driver new.driver × (stream ≡ id)
+    × (gone.items ≡ gone_on (record_of new.driver) id.plan (sinces_of (record_of old.driver) id.plan))
+AnsweredOutcome id number is_reopening old (outcome.Declined why) new =
+    (is_expected is_reopening old.driver id number ≡ false) × (why ≡ decline.Ignored (why_ignored is_reopening old.driver id number)) × (new ≡ old)
+AnsweredOutcome id number is_reopening old _ new = ⊥
+
+-- ---- restarts
+
+-- what comes of an approval under a name that stands for a permit: it is told, or another server has it
+abbrev pub AgainOutcome : List ℕ → JournalState → GivenAt → DriverOutcome → Type 0
+AgainOutcome server o at (outcome.ApprovedBefore given) =
+    (given ≡ at) × IfSome (given_at o.permits at) (λ (permit : GivenPermit). bytes_eq (string_bytes permit.server) server ≡ true)
+AgainOutcome server o at (outcome.Declined (decline.OtherServer given)) =
+    (given ≡ at) × IfSome (given_at o.permits at) (λ (permit : GivenPermit). bytes_eq (string_bytes permit.server) server ≡ false)
+AgainOutcome server o at _ = ⊥
+
+-- the restart of the server with this name is approved; one was approved under this name before; or none was, and none is
+abbrev pub ApproveOutcome : List ℕ → List ℕ → Bool → JournalState → DriverOutcome → JournalState → Type 0
+ApproveOutcome name by is_reopening old (outcome.Approved server permit) new =
+    (is_reopening ≡ false) × (value_of old.approvals by ≡ None) × (server_named old.driver.machine.placement.setup name ≡ Some server)
+    × (server < (record_of old.driver).sizes.servers) × HasApproved server permit old.driver new.driver
+ApproveOutcome name by is_reopening old (outcome.ApprovedBefore at) new =
+    (value_of old.approvals by ≡ Some at) × AgainOutcome name old at (outcome.ApprovedBefore at) × (new ≡ old)
+ApproveOutcome name by is_reopening old (outcome.Declined (decline.OtherServer at)) new =
+    (value_of old.approvals by ≡ Some at) × AgainOutcome name old at (outcome.Declined (decline.OtherServer at)) × (new ≡ old)
+ApproveOutcome name by is_reopening old (outcome.Declined why) new = (value_of old.approvals by ≡ None) × (new ≡ old)
+ApproveOutcome name by is_reopening old _ new = ⊥
+
+-- the restart that has this permit has ended, of a server with this base; or none has
+abbrev pub RestartedOutcome : ℕ → Option ℕ → Bool → JournalState → DriverOutcome → JournalState → Type 0
+RestartedOutcome permit base is_reopening old (outcome.Up server) new =
+    (is_reopening ≡ false) × HasEndedRestart server permit base old.driver new.driver
+RestartedOutcome permit base is_reopening old (outcome.Declined why) new = new ≡ old
+RestartedOutcome permit base is_reopening old _ new = ⊥
+
+-- ---- restores
+
+-- the server with this name is restored; it was told under this nonce last; or it was not, and is not
+abbrev pub RestoreOutcome : List ℕ → ℕ → Bool → JournalState → DriverOutcome → JournalState → Type 0
+RestoreOutcome name nonce is_reopening old (outcome.Restored server under) new =
+    (is_reopening ≡ false) × (server_named old.driver.machine.placement.setup name ≡ Some server) × (is_told old server nonce ≡ false)
+    × HasRestored server nonce old.driver new.driver × (under ≡ nonce) × (server < (record_of new.driver).sizes.servers)
+RestoreOutcome name nonce is_reopening old (outcome.RestoredBefore server under) new =
+    (server_named old.driver.machine.placement.setup name ≡ Some server) × (is_told old server nonce ≡ true) × (under ≡ nonce)
+    × (server < (record_of new.driver).sizes.servers) × (new ≡ old)
+RestoreOutcome name nonce is_reopening old (outcome.Declined why) new =
+    IfSome (server_named old.driver.machine.placement.setup name) (λ server. is_told old server nonce ≡ false) × (new ≡ old)
+RestoreOutcome name nonce is_reopening old _ new = ⊥
+
+-- ---- epochs
+
+-- the next epoch has opened, or it has not
+abbrev pub EpochOutcome : Bool → JournalState → DriverOutcome → JournalState → Type 0
+EpochOutcome is_reopening old outcome.NextEpoch new = (is_reopening ≡ false) × OpensNext old.driver new.driver
+EpochOutcome is_reopening old (outcome.Declined why) new = new ≡ old
+EpochOutcome is_reopening old _ new = ⊥
+
+-- ---- commands
+
+-- A command on an open journal has an outcome. Only as long as no reopening is under way does it change the journal.
+abbrev pub HasOutcome : DriverCommand → Bool → JournalState → DriverOutcome → JournalState → Type 0
+HasOutcome (driver.Begin plan name) is_reopening old o new = BeginOutcome (view plan.now) name.now is_reopening old o new
+HasOutcome (driver.Answered plan stream number) is_reopening old o new = AnsweredOutcome (record { plan = plan; stream = stream }) number is_reopening old o new
+HasOutcome (driver.Approve server by) is_reopening old o new = ApproveOutcome server.now by.now is_reopening old o new
+HasOutcome (driver.Restarted permit base) is_reopening old o new = RestartedOutcome permit base is_reopening old o new
+HasOutcome (driver.Restore name nonce) is_reopening old o new = RestoreOutcome name.now nonce is_reopening old o new
+HasOutcome driver.NewEpoch is_reopening old o new = EpochOutcome is_reopening old o new

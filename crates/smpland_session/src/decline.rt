@@ -1,0 +1,179 @@
+//! The reasons why nothing comes of commands on an open journal.
+ghost use Rattle.std.specs.Prelude.{◌≡◌, ◌++◌, OnOk};
+ghost use Rattle.smpland_lines.specs.Refusals.{TellsRefused, refused_member};
+ghost use Rattle.smpland_session.specs.Begins.{other_plan};
+ghost use Rattle.smpland_session.specs.Declines.{Declines};
+ghost use Rattle.smpland_session.specs.Outcomes.{TellsDecline, ignored_word};
+
+use sm_driver::EpochFault;
+use sm_plan_text::TextFault;
+use sm_protocol::BeginFault;
+use sm_reservation::StreamId;
+use sm_server::ServerId;
+use sm_task_controller::Denied;
+use sm_verifier::Fault;
+use smpland_lines::{
+    BadLine, CommandMember, Field, LinePart, Writer, refuse, refuse_begin, refuse_check,
+    refuse_restart, shard_name, write_bad, write_text,
+};
+use smpland_state::{GivenAt, JournalState};
+use std::alloc::{AllocError, Global};
+
+/// The reason why a command tells nothing new.
+#[derive(Clone, Copy, Debug, PartialEq, Eq)]
+pub enum Ignored {
+    /// What it tells was told before, or is of no epoch that goes on.
+    Old,
+    /// Nobody waits for what it tells.
+    Unknown,
+}
+
+impl Ignored {
+    /// The word of the reply.
+    fn word(self) -> &'static str
+        ensures { result.now ≡ ignored_word self }
+    {
+        match self {
+            Ignored::Old => "old",
+            Ignored::Unknown => "unknown",
+        }
+    }
+}
+
+/// The reason why nothing comes of a command on an open journal.
+#[derive(Drop)]
+pub enum Decline {
+    /// The value is no plan.
+    NoPlan(TextFault),
+    /// The plan does not pass the check.
+    Unchecked(Fault),
+    /// The plan passed the check, and does not begin now.
+    NotBegun(BeginFault),
+    /// Another plan has begun under this name.
+    OtherPlan(String),
+    /// No server has the name.
+    UnknownServer,
+    /// The restart is not approved.
+    Denied(Denied),
+    /// Another server's restart was approved under this name.
+    OtherServer(GivenAt),
+    /// The server was not settled at or above the fence.
+    Unsettled(ServerId),
+    /// A stream engages the server.
+    Engaged { server: ServerId, stream: StreamId },
+    /// The next epoch does not open.
+    NoEpoch(EpochFault),
+    /// A reopening is under way.
+    Reopening,
+    /// The command tells nothing new.
+    Ignored(Ignored),
+}
+
+/// Writes what is wrong with a line.
+fn tell_bad(writer: &mut Writer, alloc: Global, bad: BadLine<'_>) -> Result<(), AllocError>
+    ensures { OnOk result (Declines writer.old.tokens writer.new.tokens) }
+{
+    write_bad(writer, alloc, bad)
+}
+
+/// Writes that a stream engages a server.
+fn refuse_engaged(
+    writer: &mut Writer,
+    alloc: Global,
+    server: &str,
+    stream: StreamId,
+) -> Result<(), AllocError>
+    ensures { OnOk result (Declines writer.old.tokens writer.new.tokens) }
+{
+    let server = Field::Name("server", server);
+    let plan = Field::Number("plan", u64::from(stream.plan));
+    let number = Field::Number("stream", u64::from(stream.stream));
+    refuse(writer, alloc, "Engaged", &[server, plan, number])
+}
+
+/// Writes why the next epoch does not open.
+fn refuse_epoch(
+    opened: &JournalState,
+    alloc: Global,
+    writer: &mut Writer,
+    fault: EpochFault,
+) -> Result<(), AllocError>
+    ensures { OnOk result (Declines writer.old.tokens writer.new.tokens) }
+{
+    match fault {
+        EpochFault::NotAtRest { plan } => {
+            let plan = Field::Number("plan", u64::from(plan));
+            refuse(writer, alloc, "Running", &[plan])
+        }
+        EpochFault::LastEpoch => refuse(writer, alloc, "LastEpoch", &[]),
+        EpochFault::VersionsSpent { shard } => {
+            let config = opened.driver.machine().config();
+            let shard = Field::Name("shard", shard_name(config, shard));
+            refuse(writer, alloc, "VersionsSpent", &[shard])
+        }
+        EpochFault::NoMemory => Err(AllocError),
+    }
+}
+
+/// Writes that another plan has begun under a name.
+fn refuse_other_plan(writer: &mut Writer, alloc: Global, name: &str) -> Result<(), AllocError>
+    ensures { OnOk result (writer.new.tokens ≡ writer.old.tokens ++ refused_member (other_plan name.now)) }
+{
+    refuse(writer, alloc, "OtherPlan", &[Field::Name("name", name)])
+}
+
+/// Writes that another server's restart was approved under the name of a command.
+fn refuse_other(
+    opened: &JournalState,
+    alloc: Global,
+    writer: &mut Writer,
+    at: GivenAt,
+) -> Result<(), AllocError>
+    ensures { OnOk result (TellsRefused writer.old.tokens writer.new.tokens) }
+{
+    match opened.permits.get(at) {
+        Some(given) => {
+            let other = Field::Name("server", given.server.as_str());
+            refuse(writer, alloc, "OtherServer", &[other])
+        }
+        None => refuse(writer, alloc, "OtherServer", &[]),
+    }
+}
+
+impl Decline {
+    /// Writes the reply.
+    pub fn write(
+        &self,
+        opened: &JournalState,
+        alloc: Global,
+        writer: &mut Writer,
+    ) -> Result<(), AllocError>
+        ensures { OnOk result (TellsDecline self.now writer.old.tokens writer.new.tokens) }
+    {
+        let config = opened.driver.machine().config();
+        match self {
+            Decline::NoPlan(fault) => {
+                write_bad(writer, alloc, BadLine::Within(CommandMember::Plan, *fault))
+            }
+            Decline::Unchecked(fault) => refuse_check(writer, alloc, fault),
+            Decline::NotBegun(fault) => refuse_begin(writer, alloc, config, *fault),
+            Decline::OtherPlan(name) => refuse_other_plan(writer, alloc, name.as_str()),
+            Decline::UnknownServer => {
+                let bad = BadLine::UnknownName(LinePart::Line, CommandMember::Server);
+                tell_bad(writer, alloc, bad)
+            }
+            Decline::Denied(why) => refuse_restart(writer, alloc, config, *why),
+            Decline::OtherServer(at) => refuse_other(opened, alloc, writer, *at),
+            Decline::Unsettled(server) => {
+                let server = Field::Name("server", opened.name_of(*server));
+                refuse(writer, alloc, "Unsettled", &[server])
+            }
+            Decline::Engaged { server, stream } => {
+                refuse_engaged(writer, alloc, opened.name_of(*server), *stream)
+            }
+            Decline::NoEpoch(fault) => refuse_epoch(opened, alloc, writer, *fault),
+            Decline::Reopening => refuse(writer, alloc, "Reopening", &[]),
+            Decline::Ignored(why) => write_text(writer, "ignored", why.word()),
+        }
+    }
+}

@@ -1,0 +1,5 @@
+mod Lookups
+pub mod Audited
+pub mod Outgoing
+pub mod Told
+pub mod Written
