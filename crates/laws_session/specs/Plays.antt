@@ -1,18 +1,15 @@
 -- Plays: the premises of the laws of replays can hold.
 use Rattle.std.specs.Prelude.{◌≡◌, ℕ, List, Option, Some, None, codes}
 use Rattle.std.specs.Borrow.{Bor}
-use Rattle.json.specs.Token.{Token}
 use Rattle.serde_json.specs.Data.{Data, member, no_members, object, string}
 use Rattle.sm_plan_text.specs.Reading.{data_of}
 use Rattle.sm_driver.specs.Driver.{DriverModel}
-use Rattle.smpland_lines.specs.Ids.{line_id}
 use Rattle.smpland_lines.specs.Lines.{Says}
 use Rattle.smpland_lines.specs.declared.command.LineCommand.TheVariants as line
 use Rattle.smpland_lines.specs.declared.command.ReopeningCommand.TheVariants as reopening
 use Rattle.smpland_lines.specs.declared.command.InventoryText.{InventoryText}
 use Rattle.smpland_state.specs.declared.journal_state.JournalState.{JournalState}
 use Rattle.smpland_reopening.specs.Reopening.{ReopeningModel}
-use Rattle.smpland_reopening_lines.specs.Parties.{TellsAwaited}
 use Rattle.smpland_reopening_lines.specs.Taken.{TakesFenced}
 use Rattle.smpland_session.specs.Changes.{OpensNext}
 use Rattle.smpland_session.specs.declared.session.Session.{Session}
@@ -38,6 +35,6 @@ with_reopening a r = record a { under_way = Some (record { reopening = r }) }
 
 -- Whenever the reopening under way can take the answer to a fence that a line says, the line can be an entry.
 abbrev pub AnswerIsAnEntry : Type 0
-AnswerIsAnEntry = (text : List ℕ) (value : Data) (server : Option (Bor (List ℕ))) (base : ℕ) (told : InventoryText) (a : Session) (u : UnderWay) (next : ReopeningModel) (members : List Token)
+AnswerIsAnEntry = (text : List ℕ) (value : Data) (server : Option (Bor (List ℕ))) (base : ℕ) (told : InventoryText) (a : Session) (u : UnderWay) (next : ReopeningModel)
     → data_of text ≡ Some value → Says value (line.Reopening (reopening.Fenced server base told)) → a.under_way ≡ Some u → TakesFenced server base told u.reopening next
-    → TellsAwaited next (line_id value) members → TakesEntry text a (with_reopening a next)
+    → TakesEntry text a (with_reopening a next)

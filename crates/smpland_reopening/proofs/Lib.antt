@@ -14,3 +14,4 @@ pub mod InForce
 pub mod Awaited
 pub mod Written
 pub mod Settled
+pub mod Proposed

@@ -13,3 +13,5 @@ pub mod InForce
 pub mod Eased
 pub mod Settled
 pub mod Confirmed
+pub mod Proposed
+pub mod Stages

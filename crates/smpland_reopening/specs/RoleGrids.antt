@@ -1,5 +1,4 @@
 -- Roles by shard and server, as they are kept.
--- `role_at` is internal: you need not read it for the public contracts.
 use Rattle.std.specs.Prelude.{ℕ, Option, None}
 use Rattle.sm_server.specs.declared.call.Role.{Role}
 use Rattle.sm_placement.specs.Layout.{grid_of}

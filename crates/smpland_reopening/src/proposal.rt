@@ -1,15 +1,19 @@
 //! Proposals, by the numbers of a reopening.
-ghost use Rattle.std.specs.Prelude.{◌≡◌, ◌<◌, ◌++◌, ◌∷◌, ℕ, [], IfNone, IfOk, OnOk, Some, false, true, length};
+ghost use Rattle.std.specs.Prelude.{◌≡◌, ◌<◌, ◌++◌, ◌∷◌, ℕ, [], IfNone, IfOk, OnOk, Some, false, length, map, true};
 ghost use Rattle.std.specs.Prelude.{slice_index_or};
 ghost use Rattle.std.specs.List.{filter};
+ghost use Rattle.sm_placement.specs.Setup.{sizes_of};
 ghost use Rattle.sm_reopening.specs.Losses.{is_named_lost};
 ghost use Rattle.sm_reopening.specs.Ongoing.{net_reopening};
 ghost use Rattle.sm_reopening.specs.Proposal.{proposed_cell};
 ghost use Rattle.smpland_reopening.specs.Chosen.{proposed_role, role_by_proposal, roles_with};
 ghost use Rattle.smpland_reopening.specs.Proposal.{NamesLost, document_shards, documented_roles, has_shard};
 ghost use Rattle.smpland_reopening.specs.Proposal.{is_shard_among, lost_shards, proposed_primary};
+ghost use Rattle.smpland_reopening.specs.Proposed.{IsProposalOf, is_unmet, is_silent, live_and_floor, proposal_role};
+ghost use Rattle.smpland_reopening.specs.Proposed.{roles_proposed, unanswered_servers};
+ghost use Rattle.smpland_reopening.specs.Confirmed.{is_down_next};
 ghost use Rattle.smpland_reopening.specs.RoleGrids.{role_at};
-ghost use Rattle.smpland_reopening.specs.Roles.{role_by_cell};
+ghost use Rattle.smpland_reopening.specs.Roles.{is_down_in, role_by_cell};
 
 use crate::marks::{is_marked, mark};
 use crate::reopening::DocumentReopening;
@@ -57,10 +61,22 @@ pub struct Proposal {
 }
 
 impl Proposal {
-    /// Returns the role that is proposed for a server.
-    pub fn role(&self, shard: ShardId, server: ServerId) -> Option<Role> {
+    /// The role that is proposed for a server.
+    pub fn role(&self, shard: ShardId, server: ServerId) -> Option<Role>
+        ensures { result ≡ proposal_role self.now shard server }
+    {
         self.roles.get(shard.number(), server.number())
     }
+}
+
+/// Adds a floor if it is not met.
+fn push_short(short: &mut Vec<ShortFloor>, floor: ShortFloor) -> Result<(), AllocError>
+    ensures { OnOk result (short.new.items ≡ short.old.items ++ filter is_unmet (floor ∷ [])) }
+{
+    if floor.live < floor.floor {
+        short.push(floor)?;
+    }
+    Ok(())
 }
 
 impl DocumentReopening {
@@ -111,6 +127,7 @@ impl DocumentReopening {
         ensures roles { IfOk result (λ roles. (s v : ℕ)
             → s < length self.now.numbering.shards → v < length self.now.numbering.servers
             → role_at roles s v ≡ proposed_role self.now s v) }
+        ensures all { IfOk result (λ roles. role_at roles ≡ roles_proposed self.now) }
     {
         let (shards, servers) = (self.numbering.shard_count(), self.numbering.server_count());
         let mut roles = Roles::none(alloc, shards, servers)?;
@@ -181,31 +198,10 @@ impl DocumentReopening {
         Ok(first_apart(&lost, named))
     }
 
-    /// Returns the shards that would have fewer live replicas than their floors.
-    fn short_floors(
-        &self,
-        alloc: Global,
-        roles: &Roles,
-        shards: &[ShardId],
-    ) -> Result<Vec<ShortFloor>, AllocError> {
-        let down = self.down_servers(alloc)?;
-        let mut short = Vec::new(alloc);
-        for shard in shards {
-            let live = roles.live(*shard, &down);
-            let floor = self.floor(*shard);
-            if live < floor {
-                short.push(ShortFloor {
-                    shard: *shard,
-                    live,
-                    floor,
-                })?;
-            }
-        }
-        Ok(short)
-    }
-
-    /// Returns the floor that the document gives a shard.
-    fn floor(&self, shard: ShardId) -> u32 {
+    /// The floor that the document gives a shard.
+    fn floor(&self, shard: ShardId) -> u32
+        ensures { result ≡ (sizes_of self.now.numbering).floor shard }
+    {
         if shard.number() < self.numbering.shard_count() {
             self.numbering.floor(shard)
         } else {
@@ -213,21 +209,62 @@ impl DocumentReopening {
         }
     }
 
-    /// Returns the servers that have not answered.
-    fn silent_servers(&self, alloc: Global) -> Result<Vec<ServerId>, AllocError> {
+    /// How many servers that are up would have a replica of a shard, and its floor.
+    fn live_and_floor(&self, roles: &Roles, down: &[bool], shard: ShardId) -> ShortFloor
+        requires servers { roles.now.servers ≡ length self.now.numbering.servers }
+        requires down { is_down_in down.now ≡ is_down_next self.now }
+        ensures { result ≡ live_and_floor self.now (role_at roles.now) shard }
+    {
+        ShortFloor {
+            shard,
+            live: roles.live(shard, down),
+            floor: self.floor(shard),
+        }
+    }
+
+    /// The floors of shards that would not be met.
+    fn short_floors(
+        &self,
+        alloc: Global,
+        roles: &Roles,
+        shards: &[ShardId],
+    ) -> Result<Vec<ShortFloor>, AllocError>
+        requires { roles.now.servers ≡ length self.now.numbering.servers }
+        ensures { IfOk result (λ short. short.items
+            ≡ filter is_unmet (map (live_and_floor self.now (role_at roles.now)) shards.now)) }
+    {
+        let down = self.down_servers(alloc)?;
+        let mut short = Vec::new(alloc);
+        for shard in shards {
+            push_short(&mut short, self.live_and_floor(roles, &down, *shard))?;
+        }
+        Ok(short)
+    }
+
+    /// Adds a server if it has been asked and has not answered.
+    fn push_silent(&self, servers: &mut Vec<ServerId>, server: ServerId) -> Result<(), AllocError>
+        ensures { OnOk result (servers.new.items ≡ servers.old.items ++ filter (is_silent self.now) (server ∷ [])) }
+    {
+        if self.ongoing.is_asked(server) && !self.ongoing.has_told(server) {
+            servers.push(server)?;
+        }
+        Ok(())
+    }
+
+    /// The servers that have not answered, in the order of their numbers.
+    fn silent_servers(&self, alloc: Global) -> Result<Vec<ServerId>, AllocError>
+        ensures { IfOk result (λ servers. servers.items ≡ unanswered_servers self.now) }
+    {
         let mut servers = Vec::new(alloc);
         for number in 0..self.ongoing.server_count() {
-            let server = ServerId::new(number);
-            if self.ongoing.is_asked(server) && !self.ongoing.has_told(server) {
-                servers.push(server)?;
-            }
+            self.push_silent(&mut servers, ServerId::new(number))?;
         }
         Ok(servers)
     }
 
     /// Proposes what may be confirmed.
     pub fn proposal(&self, alloc: Global) -> Result<Proposal, AllocError>
-        ensures lost { IfOk result (λ proposal. proposal.lost.items ≡ lost_shards self.now) }
+        ensures { IfOk result (IsProposalOf self.now) }
     {
         let shards = self.shards_in_order(alloc)?;
         let roles = self.proposed_roles(alloc)?;

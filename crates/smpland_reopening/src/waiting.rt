@@ -6,6 +6,7 @@ ghost use Rattle.sm_reopening.specs.Proposal.{is_the};
 ghost use Rattle.sm_reopening.specs.Settles.{is_unsettled, net_party};
 ghost use Rattle.smpland_reopening.specs.Proposal.{awaited_parties, has_silent_lead, is_silent_primary};
 ghost use Rattle.smpland_reopening.specs.Proposal.{parties_waited_for, silent_leaders};
+ghost use Rattle.smpland_reopening.specs.Stages.{stage_of};
 ghost use Rattle.smpland_reopening.specs.Waiting.{is_unanswered, unanswered_parties, unsettled_parties};
 
 use crate::marks::{is_marked, mark};
@@ -179,8 +180,10 @@ impl DocumentReopening {
         self.ongoing.settlement().is_some()
     }
 
-    /// Returns how far the reopening is.
-    pub fn stage(&self, alloc: Global) -> Result<Stage, AllocError> {
+    /// The stage of the reopening.
+    pub fn stage(&self, alloc: Global) -> Result<Stage, AllocError>
+        ensures { IfOk result (λ stage. stage ≡ stage_of self.now) }
+    {
         if self.is_confirmed() {
             return Ok(Stage::Settle);
         }

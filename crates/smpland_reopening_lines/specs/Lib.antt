@@ -5,3 +5,5 @@ pub mod Settles
 pub mod Slots
 pub mod Taken
 pub mod Told
+pub mod Proposals
+pub mod Progress

@@ -13,7 +13,8 @@ use Rattle.smpland_lines.specs.BadLines.{told_bad}
 use Rattle.smpland_lines.specs.Members.{text_member}
 use Rattle.smpland_lines.specs.Refusals.{TellsRefused}
 use Rattle.smpland_lines.specs.declared.command.InventoryText.{InventoryText}
-use Rattle.smpland_reopening_lines.specs.Parties.{TellsAwaited, waiting_member}
+use Rattle.smpland_reopening_lines.specs.Parties.{waiting_member}
+use Rattle.smpland_reopening_lines.specs.Proposals.{TellsAwaited}
 use Rattle.smpland_reopening_lines.specs.Settles.{settles_member}
 use Rattle.smpland_reopening_lines.specs.Taken.{ConfirmsAt, TakesSettledOf, TakesToldBy, party_named}
 use Rattle.smpland_reopening_lines.specs.declared.outcome.ReopeningOutcome.{ReopeningOutcome}
@@ -73,8 +74,9 @@ DoesSettled server base old came new = DoesOf (DoesSettledOf base) (party_named 
 
 -- ---- replies
 
--- The reply that tells what has come of a line, by the reopening after it, in this journal. An answer to a fence tells who has to answer, a
--- confirmation the settles, and an answer to a settle who has not taken its own. The last one tells nothing here: the next epoch is open.
+-- The reply that tells what has come of a line, by the reopening after it, in this journal. An answer to a fence tells who has to answer, or
+-- otherwise what may be confirmed, a confirmation the settles, and an answer to a settle who has not taken its own. The last one tells nothing
+-- here: the next epoch is open.
 abbrev pub TellsTaken : List ℕ → ReopeningModel → ReopeningOutcome → List Token → List Token → Type 0
 TellsTaken journal r outcome.Fenced before after = TellsAwaited r before after
 TellsTaken journal r outcome.Confirmed before after = after ≡ before ++ settles_member journal r

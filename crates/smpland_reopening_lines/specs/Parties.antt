@@ -8,7 +8,6 @@ use Rattle.sm_reopening.specs.declared.party.Party.{Party}
 use Rattle.sm_reopening.specs.declared.party.Party.TheVariants.{MapOwner, Server}
 use Rattle.smpland_reopening.specs.Reopening.{ReopeningModel}
 use Rattle.smpland_reopening.specs.Waiting.{unanswered_parties}
-use Rattle.smpland_reopening.specs.Proposal.{parties_waited_for}
 use Rattle.smpland_lines.specs.Members.{list_member, name_member, number_member, object, server_text, text_member}
 
 -- the name of a party; the map's owner has none
@@ -39,12 +38,3 @@ party_text numbering MapOwner = null ∷ []
 -- whose answers are missing, as a member
 abbrev pub waiting_member : Setup → List Party → List Token
 waiting_member numbering parties = list_member (codes "waiting") (flat_map (party_text numbering) parties)
-
--- the same behind what was written, if some are missing
-abbrev pub TellsWaiting : Setup → List Party → List Token → List Token → Type 0
-TellsWaiting numbering [] before after = Unit {0}
-TellsWaiting numbering (p ∷ ps) before after = after ≡ before ++ waiting_member numbering (p ∷ ps)
-
--- the reply to an answer to a fence: who has to answer. Of what is proposed once nobody has to no text is said.
-abbrev pub TellsAwaited : ReopeningModel → List Token → List Token → Type 0
-TellsAwaited r before after = TellsWaiting r.numbering (parties_waited_for r) before after

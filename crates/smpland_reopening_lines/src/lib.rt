@@ -3,6 +3,7 @@
 
 mod law;
 mod outcome;
+mod progress;
 mod proposed;
 mod refused;
 mod sent;
@@ -11,7 +12,7 @@ mod told;
 
 pub use law::settles_bring_all;
 pub use outcome::ReopeningOutcome;
-pub use proposed::{write_proposal, write_state, write_waiting};
+pub use progress::write_progress;
 pub use refused::{refuse_confirm, refuse_reopen};
 pub use sent::{write_fences, write_settles};
 pub use taken::{take_confirm, take_fenced, take_settled};

@@ -3,7 +3,8 @@ ghost use Rattle.std.specs.Prelude.{◌≡◌, ◌++◌, OnOk};
 ghost use Rattle.sm_reopening.specs.Ongoing.{net_reopening};
 ghost use Rattle.smpland_reopening.specs.Waiting.{unsettled_parties};
 ghost use Rattle.smpland_reopening_lines.specs.Outcomes.{TellsTaken, has_counted};
-ghost use Rattle.smpland_reopening_lines.specs.Parties.{TellsAwaited, waiting_member};
+ghost use Rattle.smpland_reopening_lines.specs.Parties.{waiting_member};
+ghost use Rattle.smpland_reopening_lines.specs.Proposals.{TellsAwaited};
 
 use crate::proposed::{write_proposal, write_waiting};
 use crate::refused::refuse_confirm;

@@ -20,7 +20,8 @@ use Rattle.smpland_state.specs.Permits.{opened_member}
 use Rattle.smpland_state.specs.declared.journal_state.JournalState.{JournalState}
 use Rattle.sm_placement.specs.Setup.{Setup}
 use Rattle.smpland_reopening_lines.specs.Outcomes.{has_counted}
-use Rattle.smpland_reopening_lines.specs.Parties.{TellsWaiting, fences_member, waiting_member}
+use Rattle.smpland_reopening_lines.specs.Parties.{fences_member, waiting_member}
+use Rattle.smpland_reopening_lines.specs.Proposals.{waiting_or_proposal}
 use Rattle.smpland_reopening_lines.specs.Settles.{settles_member}
 use Rattle.smpland_reopening_lines.specs.declared.outcome.ReopeningOutcome.{ReopeningOutcome}
 use Rattle.smpland_reopening_lines.specs.declared.outcome.ReopeningOutcome.TheVariants as outcome
@@ -267,10 +268,6 @@ module _ (s : Session) (before after : List Token) where
 -- ---- replies that are not made
 
 module _ (front : List Token) where
-  told_waiting : (numbering : Setup) (parties : List Party) → (members : List Token) × TellsWaiting numbering parties front members
-  told_waiting numbering [] = (front, tt)
-  told_waiting numbering (p ∷ ps) = (front ++ waiting_member numbering (p ∷ ps), refl)
-
   told_open : (o : Option JournalState) → (members : List Token) × IfSome o (λ (o : JournalState). members ≡ front ++ opened_member o.driver)
   told_open (Some o) = (front ++ opened_member o.driver, refl)
   told_open None = (front, tt)
@@ -291,7 +288,7 @@ module _ (front : List Token) where
   told_under_way : (o : Option JournalState) (u : Option UnderWay) (it : ReopeningOutcome) → has_counted it ≡ true →
       (members : List Token) × TellsUnderWay o u it front members
   told_under_way o u outcome.Complete is = told_open o
-  told_under_way o (Some u) outcome.Fenced is = told_waiting u.reopening.numbering (parties_waited_for u.reopening)
+  told_under_way o (Some u) outcome.Fenced is = (front ++ waiting_or_proposal u.reopening (parties_waited_for u.reopening), refl)
   told_under_way o (Some u) outcome.Confirmed is = (front ++ settles_member (hexadecimal u.reopening.journal) u.reopening, refl)
   told_under_way o (Some u) outcome.Settled is =
       (front ++ waiting_member u.reopening.numbering (unsettled_parties (net_reopening u.reopening.ongoing)), refl)

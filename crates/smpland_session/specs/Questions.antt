@@ -17,6 +17,8 @@ use Rattle.smpland_lines.specs.declared.command.FailedAnswer.{FailedAnswer}
 use Rattle.smpland_lines.specs.declared.command.PlanQuestion.TheVariants as plans
 use Rattle.smpland_lines.specs.declared.command.Question.{Question}
 use Rattle.smpland_lines.specs.declared.command.Question.TheVariants as question
+use Rattle.smpland_lines.specs.declared.command.StateOf.{StateOf}
+use Rattle.smpland_lines.specs.declared.command.StateOf.TheVariants as of
 use Rattle.smpland_lines.specs.declared.slots.SlotText.{SlotText}
 use Rattle.smpland_state.specs.declared.journal_state.JournalState.{JournalState}
 use Rattle.smpland_state.specs.Audit.{audit_reply, audited_member}
@@ -27,7 +29,9 @@ use Rattle.smpland_state.specs.Messages.{orders_member}
 use Rattle.smpland_state.specs.Notices.{carried_member}
 use Rattle.smpland_state.specs.Published.{map_member}
 use Rattle.smpland_state.specs.Since.{since_member}
+use Rattle.smpland_state.specs.State.{TellsPlanState, recorded_members, shard_state_reply}
 use Rattle.smpland_reopening_lines.specs.Parties.{fences_member}
+use Rattle.smpland_reopening_lines.specs.Progress.{progress_member}
 use Rattle.smpland_reopening_lines.specs.Settles.{settles_member}
 use Rattle.smpland_session.specs.Checks.{TellsCheck}
 use Rattle.smpland_session.specs.declared.session.Session.{Session}
@@ -121,17 +125,55 @@ abbrev pub TellsUnlessLater : Bool → Option JournalState → List ℕ → ℕ 
 TellsUnlessLater true opened server place rows before after = after ≡ before ++ audited_member server (codes "later")
 TellsUnlessLater false opened server place rows before after = TellsOf opened (λ o. TellsAudit o server place rows) before after
 
+-- the fence of the journal that is open, 0 without one
+abbrev pub fence_now : Option JournalState → ℕ
+fence_now (Some o) = o.driver.fence
+fence_now None = 0
+
+-- the word for what there is: a journal, or none, as long as no reopening is under way
+abbrev pub condition_word : Option JournalState → Option UnderWay → List ℕ
+condition_word opened (Some u) = codes "reopening"
+condition_word (Some o) None = codes "open"
+condition_word None None = codes "new"
+
+-- all that is recorded in the journal, if there is one
+abbrev pub recorded_of : Option JournalState → Bool → List Token
+recorded_of (Some o) is_reopening = recorded_members o is_reopening
+recorded_of None is_reopening = []
+
+-- how far a reopening is, if one is under way
+abbrev pub reopening_progress : Option UnderWay → List Token
+reopening_progress (Some u) = progress_member u.reopening
+reopening_progress None = []
+
+-- where the journal stands, its fence, and a word for whether anything may begin
+abbrev pub state_head : Session → List Token
+state_head s =
+    place_members s
+    ++ number_member (codes "fence") (fence_now s.opened)
+    ++ text_member (codes "is") (condition_word s.opened s.under_way)
+
+-- these, all that is recorded, and how far a reopening is
+abbrev pub state_members : Session → List Token
+state_members s = state_head s ++ recorded_of s.opened (is_some s.under_way) ++ reopening_progress s.under_way
+
+-- the reply to `state` of one shard, of one plan, or of all
+abbrev pub TellsState : StateOf → Session → List Token → List Token → Type 0
+TellsState (of.Shard name) s before after =
+    TellsOf s.opened (λ o before after. after ≡ before ++ shard_state_reply o.driver name.now) before after
+TellsState (of.Plan number) s before after = TellsOf s.opened (λ o. TellsPlanState o (is_some s.under_way) number) before after
+TellsState of.Whole s before after = after ≡ before ++ object_member (codes "state") (state_members s)
+
 -- ---- questions
 
--- The reply to a question. What `state`, `moves` and `drain` are told is tested alone: the functions of smpland_state
--- that write states promise no text, and a plan that is made is written by way of its text.
+-- The reply to a question. What `moves` and `drain` are told is tested alone: a plan that is made is written by way of its text.
 abbrev pub TellsAnswer : Question → Session → List Token → List Token → Type 0
 TellsAnswer question.Hello s before after = after ≡ before ++ object_member (codes "hello") (hello_members s)
 TellsAnswer question.Orders s before after = after ≡ before ++ all_orders s.opened s.under_way
 TellsAnswer question.Map s before after = TellsOf s.opened (λ o before after. after ≡ before ++ map_member o.driver) before after
 TellsAnswer (question.Since place) s before after =
     TellsOf s.opened (λ o before after. after ≡ before ++ since_member o (is_some s.under_way) s.place place) before after
-TellsAnswer (question.State _) s before after = Unit {0}
+TellsAnswer (question.State of) s before after = TellsState of s before after
 TellsAnswer question.Document s before after = TellsOf s.opened (λ o before after. after ≡ before ++ document_member o) before after
 TellsAnswer (question.InForce (plans.Check plan)) s before after =
     TellsOf (journal_in_force s) (λ o. TellsCheck o.driver.machine (view plan.now)) before after

@@ -26,7 +26,8 @@ use Rattle.smpland_state.specs.Restores.{TellsKept}
 use Rattle.sm_reopening.specs.Ongoing.{net_reopening}
 use Rattle.smpland_reopening.specs.Reopening.{ReopeningModel}
 use Rattle.smpland_reopening.specs.Waiting.{unsettled_parties}
-use Rattle.smpland_reopening_lines.specs.Parties.{TellsAwaited, fences_member, waiting_member}
+use Rattle.smpland_reopening_lines.specs.Parties.{fences_member, waiting_member}
+use Rattle.smpland_reopening_lines.specs.Proposals.{TellsAwaited}
 use Rattle.smpland_reopening_lines.specs.Settles.{settles_member}
 use Rattle.smpland_reopening_lines.specs.Taken.{TakesConfirm, TakesSettled, TakesTold}
 use Rattle.smpland_session.specs.Answers.{AnswersLine}
@@ -102,8 +103,8 @@ abbrev pub TellsFences : Option UnderWay → List Token → List Token → Type 
 TellsFences (Some u) before after = after ≡ before ++ fences_member (hexadecimal u.reopening.journal) u.reopening
 TellsFences None before after = ⊥
 
--- The reply to a line on a reopening. An answer to a fence tells who has to answer, a confirmation the settles, and an answer to a settle who has not
--- taken its own. Of what is proposed once nobody has to answer no text is said.
+-- The reply to a line on a reopening. An answer to a fence tells who has to answer, or otherwise what may be confirmed, a confirmation the settles,
+-- and an answer to a settle who has not taken its own.
 pub data TellsOn (old new : ReopeningModel) (before after : List Token) : Type 0 where
   Fenced : TakesTold old new → TellsAwaited new before after → TellsOn old new before after
   Confirmed : TakesConfirm old new → after ≡ before ++ settles_member (hexadecimal new.journal) new → TellsOn old new before after

@@ -3,6 +3,7 @@ ghost use Rattle.std.specs.Prelude.{◌≡◌, ◌++◌, IfOk, OnOk, string_byte
 ghost use Rattle.smpland_state.specs.Bits.{hexadecimal};
 ghost use Rattle.smpland_reopening_lines.specs.Outcomes.{TellsTaken};
 ghost use Rattle.smpland_reopening_lines.specs.Parties.{fences_member};
+ghost use Rattle.smpland_reopening_lines.specs.Progress.{progress_member};
 ghost use Rattle.smpland_reopening_lines.specs.Settles.{settles_member};
 ghost use Rattle.smpland_session.specs.Questions.{fences_left, orders_during};
 ghost use Rattle.smpland_session.specs.Reopenings.{TellsNotUnderWay, TellsUnderWay};
@@ -10,7 +11,7 @@ ghost use Rattle.smpland_session.specs.Reopenings.{TellsNotUnderWay, TellsUnderW
 use crate::answering::write_ignored;
 use smpland_lines::{Writer, refuse};
 use smpland_reopening::DocumentReopening;
-use smpland_reopening_lines::{ReopeningOutcome, write_fences, write_settles, write_state};
+use smpland_reopening_lines::{ReopeningOutcome, write_fences, write_progress, write_settles};
 use smpland_state::{JournalState, hexadecimal, write_no_list};
 use std::alloc::{AllocError, Global};
 
@@ -83,8 +84,10 @@ impl UnderWay {
     }
 
     /// Writes, as a member, how far the reopening is.
-    pub fn write_state(&self, alloc: Global, writer: &mut Writer) -> Result<(), AllocError> {
-        write_state(writer, alloc, &self.reopening)
+    pub fn write_progress(&self, alloc: Global, writer: &mut Writer) -> Result<(), AllocError>
+        ensures { OnOk result (writer.new.tokens ≡ writer.old.tokens ++ progress_member self.now.reopening) }
+    {
+        write_progress(writer, alloc, &self.reopening)
     }
 }
 

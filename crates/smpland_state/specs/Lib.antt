@@ -17,6 +17,7 @@ pub mod Permits
 pub mod Published
 pub mod Replies
 pub mod Restores
+pub mod State
 pub mod Unserved
 pub mod Told
 pub mod Since

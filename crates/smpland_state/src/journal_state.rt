@@ -1,5 +1,6 @@
 //! A journal that is open.
-ghost use Rattle.std.specs.Prelude.{◌≡◌, ◌++◌, [], IfOk, OnOk};
+ghost use Rattle.std.specs.Prelude.{◌≡◌, ◌++◌, [], IfOk, OnOk, length, min};
+ghost use Rattle.sm_driver.specs.Driver.{record_of};
 ghost use Rattle.smpland_lines.specs.Members.{list_member};
 ghost use Rattle.smpland_state.specs.Replies.{moved_members, plan_members};
 ghost use Rattle.smpland_state.specs.Begun.{begun_again_members, begun_member, begun_members, begun_plan};
@@ -190,8 +191,10 @@ impl JournalState {
         }
     }
 
-    /// Returns how many plans have begun in the present epoch.
-    pub fn plan_count(&self) -> u32 {
+    /// The number of plans that have begun in the present epoch.
+    pub fn plan_count(&self) -> u32
+        ensures { result ≡ min (length (record_of self.now.driver).plans) 4294967295 }
+    {
         let count = self.driver.machine().plan_count();
         u32::try_from(count).unwrap_or(u32::MAX)
     }

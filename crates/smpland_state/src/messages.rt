@@ -22,7 +22,7 @@ pub struct Messages<'d> {
 }
 
 /// Returns how many streams a plan has that has begun: none if it has not.
-fn stream_count(machine: &Machine, plan: u32) -> u32
+pub fn stream_count(machine: &Machine, plan: u32) -> u32
     ensures count { result ≡ stream_count (state_of machine.now) plan }
     ensures begun { (i : ℕ) → i < result → is_begun (state_of machine.now) (stream_id plan i) ≡ true }
 {

@@ -26,7 +26,7 @@ fn write_notice_members(
 }
 
 /// Returns whether a server was carried over, and has not come up since.
-fn is_carried(opened: &JournalState, server: ServerId) -> bool
+pub fn is_carried(opened: &JournalState, server: ServerId) -> bool
     ensures { result ≡ slice_index_or opened.now.driver.carried server false }
 {
     match opened.driver.carried().get(server.number() as usize) {
