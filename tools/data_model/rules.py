@@ -138,6 +138,11 @@ class Rules(driving.Rules):
     )
     # Fences.
     fence_bounded: bool = rule("A server with slots takes no fence further than 2^20 epochs above its base.")
+    # Another journal, after the last epoch, whose numbers are low again.
+    journal_ended: bool = rule("Before it opens, all controllers of the one before have ended, and what they sent.")
+    views_cleared: bool = rule("Before it opens, the views of each copy become the one view 0.")
+    unlike_set_aside: bool = rule("But a copy of another view or position than the greatest one is set aside before that.")
+    versions_cleared: bool = rule("The map's owner shows its entries under version 0.")
 
     def without(self, *names: str) -> Rules:
         """The same rules without these."""
