@@ -272,7 +272,7 @@ class Harm:
             self.count("replace")
             self.fleet.remake(name)
             self.fleet.agents[name].start()
-            self.fleet.wait_for(f"{name} answers", lambda: self.revive(name) or self.fleet.answers(name))  # (its side ends if its database is slow to answer)
+            self.fleet.wait_for(f"{name} answers", lambda: self.revive(name) or self.fleet.answers(name))  # (its side ends if its database is away for long)
             status = self.fleet.command("add-server", name, "--region", "r", "--room", str(self.fleet.room), "--yes").wait()
             self.say(f"{name} is back with an empty disk: {'added' if status == 0 else 'not added'}")
             if status == 0:

@@ -1,7 +1,9 @@
 """One PostgreSQL server: what may be adopted, the guard, requests and their identities, positions, changes of a schema, and what is refused."""
+import contextlib
 import itertools
 import os
 import shutil
+import signal
 import socketserver
 import struct
 import subprocess
@@ -17,11 +19,13 @@ import servers  # (it makes the packages be found)
 import psycopg
 from smplan import agent
 from smplan.agent import Base, Cell, Request, Slot
+from smplan.control_http import fetch
 from smplan.failure import Failure
-from smplan_pg import adopt, copies, orders, status, streams
+from smplan_pg import adopt, copies, orders, silence, status, streams
 from smplan_pg.database import Database, signed, unsigned, value
 from smplan_pg.records import Cut, Mark, Peer, Records
 from smplan_pg.server import Limits, Server
+from smplan_pg.silence import SILENT, Silence, patiently
 
 TABLES = "CREATE SCHEMA {0}; CREATE TABLE {0}.things (id bigserial PRIMARY KEY, word text)"
 VECTORS = Path(servers.ROOT) / "build/agent-vectors.txt"
@@ -590,6 +594,20 @@ class WholeTest(Case):
         self.server.keeping.leave_out(*names)
         self.assertEqual(POST.query(f"SELECT server FROM {self.shard}.sm_members"), [(2,)])
 
+    def test_no_follower_is_dead_by_a_silence_of_this_database(self):
+        with DATABASE.transaction() as tx:
+            Records(tx).put_members(self.shard, {2: False})
+        found, clock = [], 1000.0
+        for step in (0.0, 100.0, 2.0, 2.0):
+            clock += step
+            with mock.patch.object(time, "monotonic", lambda: clock):
+                if step < SILENT:
+                    self.server.silence.end()
+                self.server.keeping.leave_out_the_dead()
+                self.server.silence.end()
+            found.append(POST.query(f"SELECT count(*) FROM {self.shard}.sm_members")[0][0])
+        self.assertEqual(found, [1, 1, 1, 0])
+
     def test_left_behind(self):
         self.server.whole.notice({"journal": "9", "fence": 50})
         self.assertEqual((self.server.whole.tell_base({}), self.slot(), self.has()), ({"base": None}, [], True))
@@ -766,6 +784,141 @@ class SeveralTest(unittest.TestCase):
         with b.connection() as c:
             self.assertEqual(len(streams.streams_of(c, self.shard)), 1)
         streams.drop_streams(b, self.shard)
+
+
+class SilenceTest(unittest.TestCase):
+    """A server's side whose database says nothing for a while. The tests go on from each other."""
+
+    @classmethod
+    def setUpClass(cls):
+        POST.query("CREATE DATABASE silent")
+        reach, port = POST.reach.replace("dbname=postgres", "dbname=silent"), servers.free_ports(1)[0]
+        cls.url = f"http://127.0.0.1:{port}"
+        database = Database(reach)
+        with database.transaction() as tx:
+            adopt.install(tx)
+            tx.execute("INSERT INTO sm.servers VALUES (1, 'a', %s)", (cls.url,))
+            Records(tx).put_base(Base(journal=9, number=7, known=1), 0)
+        database.close()
+        program = str(servers.ROOT / "ports/postgresql/smplan-pg")
+        cls.words = [program, "serve", "--name", "a", "--controller", "http://127.0.0.1:1", "--dsn"]
+        cls.side = servers.Process("a", [*cls.words, reach], FOLDER / "silent.log")
+        cls.side.log.touch()
+
+    @classmethod
+    def tearDownClass(cls):
+        cls.side.kill()
+
+    def setUp(self):
+        self.before = len(self.side.log.read_text())
+
+    def told(self):
+        return self.side.log.read_text()[self.before:]
+
+    def base(self):
+        return fetch(f"{self.url}/base", timeout=2)
+
+    def wait_for(self, what, condition, seconds=60.0):
+        until = time.monotonic() + seconds
+        while True:
+            with contextlib.suppress(OSError, Failure):
+                if condition():
+                    return
+            self.assertLess(time.monotonic(), until, f"{what}: {self.told()}")
+            if self.side.process.poll() is not None:
+                self.fail(f"its side ended: {self.told()}")
+            time.sleep(0.1)
+
+    @contextlib.contextmanager
+    def silence(self):
+        """All processes of the database stand still."""
+        stopped = [POST.process.pid]
+        try:
+            os.kill(POST.process.pid, signal.SIGSTOP)
+            words = ["ps", "--ppid", str(POST.process.pid), "-o", "pid="]
+            for it in subprocess.run(words, capture_output=True, text=True, check=True).stdout.split():
+                with contextlib.suppress(ProcessLookupError):
+                    os.kill(int(it), signal.SIGSTOP)
+                    stopped.append(int(it))
+            yield
+        finally:
+            for it in reversed(stopped):
+                os.kill(it, signal.SIGCONT)
+
+    def goes_on(self):
+        """The side tells of the silence's end, and what its database has."""
+        self.wait_for("it goes on", lambda: "goes on" in self.told() and self.base() == {"base": 7})
+
+    def is_away(self):
+        """Whether the side answers that its database is away."""
+        try:
+            return self.base() is None
+        except Failure as why:
+            return "the database of a is away" in str(why)
+
+    def waits(self):
+        self.wait_for("it waits", lambda: "a waits for its database" in self.told())
+
+    def test_1_it_starts(self):
+        with self.silence():
+            self.side.start()
+            self.waits()
+        self.goes_on()
+
+    def test_2_it_serves(self):
+        with self.silence():
+            self.waits()
+            with self.assertRaises(Failure):
+                self.base()
+        self.goes_on()
+
+    def test_3_it_is_restarted(self):
+        POST.stop(signal.SIGINT)
+        self.waits()
+        self.wait_for("it tells nothing", self.is_away)
+        POST.start()
+        POST.wait()
+        self.goes_on()
+
+    def test_a_database_that_is_the_wrong_one(self):
+        words = [*self.words, POST.reach.replace("dbname=postgres", "dbname=nowhere")]
+        told = subprocess.run(words, capture_output=True, text=True, check=False, timeout=60)
+        self.assertEqual(told.returncode, 1)
+        self.assertRegex(told.stderr, '^smplan-pg: .*database "nowhere" does not exist')
+
+
+class PatienceTest(unittest.TestCase):
+    """The time of a server's side, and for how long it waits."""
+
+    def test_it_stands_still_in_a_silence(self):
+        it, clock = Silence("a"), 50.0
+        with mock.patch.object(time, "monotonic", lambda: clock):
+            self.assertEqual(it.now(), 50.0)
+            it.end()
+            steps = ((51, True, 51), (53, False, 53), (90, False, 54), (91, True, 54), (92, False, 55))
+            for clock, hears, now in steps:
+                if hears:
+                    it.end()
+                self.assertEqual(it.now(), now)
+
+    def test_a_database_that_nobody_serves(self):
+        database = Database(f"host=127.0.0.1 port={servers.free_ports(1)[0]} dbname=it user=it")
+        with mock.patch.object(silence, "STARTING", 1.5), self.assertRaisesRegex(psycopg.OperationalError, "refused"):
+            patiently(Silence("a"), database, database.connect)
+
+    def test_its_number_is_looked_for_though_the_database_is_away(self):
+        server, looks = Server("a", DATABASE, POST.reach, []), []
+
+        def look():
+            looks.append(True)
+            if len(looks) < 3:
+                raise psycopg.OperationalError("away")
+            server.number = 1
+            return True
+
+        server.look = look
+        server.find()
+        self.assertEqual(len(looks), 3)
 
 
 class OldServer(socketserver.BaseRequestHandler):

@@ -15,6 +15,7 @@ from .bouncer import databases_of, servers_of
 from .database import Database
 from .ddl import change
 from .server import Limits, Server
+from .silence import Silence, patiently
 from .status import come_back, drop, settings, status
 
 DSN = "a connection string of libpq, as service=pg-a; passwords by its own means (~/.pgpass, pg_service.conf)"
@@ -36,11 +37,15 @@ def run_serve(told: argparse.Namespace) -> int:
     """Serves a server's side for a controller."""
     token = Path(told.token).read_text(encoding="utf-8").strip() if told.token else None
     database = Database(told.dsn)
-    with database.transaction() as tx:
-        refuse_server(tx)
-        install(tx)
     limits = Limits(copies=told.copies, dead=told.dead, stalled=told.stalled, keeping=told.keeping, ending=told.ending)
-    Server(told.name, database, told.reach or told.dsn, told.controller, token, limits, told.http).run()
+
+    def make() -> Server:
+        with database.transaction() as tx:
+            refuse_server(tx)
+            install(tx)
+        return Server(told.name, database, told.reach or told.dsn, told.controller, token, limits, told.http)
+
+    patiently(Silence(told.name), database, make).run()
     return 0
 
 

@@ -164,8 +164,9 @@ class Copies:
                 lacking = streams.lacks_tables(c, mine)
                 position = value(c.execute("SELECT sm.position(%s)", (shard,)).fetchone())
                 now = (lacking, position, value(c.execute("SELECT sum(bytes_processed) FROM pg_stat_progress_copy").fetchone()))
-            before, since = (before, since) if now == before else (now, time.monotonic())
-            if time.monotonic() - since > 10 * self.server.limits.stalled:
+            clock = self.server.silence.now()
+            before, since = (before, since) if now == before else (now, clock)
+            if clock - since > 10 * self.server.limits.stalled:
                 raise Stuck("the copy does not get on: it begins anew")
             if not lacking and goal is None:
                 goal = value(self.server.peer(number).row("SELECT sm.position(%s)", shard))

@@ -11,6 +11,7 @@ from contextlib import contextmanager
 from typing import Any, Dict, Iterator, List, Optional, Tuple
 
 import psycopg
+from psycopg import pq
 from psycopg.conninfo import conninfo_to_dict, make_conninfo
 from psycopg.rows import dict_row
 
@@ -51,6 +52,10 @@ class Database:
     def connect(self) -> Connection:
         """A new connection. It prepares no statements, so that pgbouncer may stand between."""
         return psycopg.connect(self.reach, autocommit=True, row_factory=dict_row, prepare_threshold=None)
+
+    def is_up(self) -> bool:
+        """Whether a server answers there, or nobody could be asked; not one that starts or ends."""
+        return pq.PGconn.ping(self.reach.encode()) not in (pq.Ping.NO_RESPONSE, pq.Ping.REJECT)
 
     @contextmanager
     def connection(self) -> Iterator[Connection]:

@@ -233,8 +233,9 @@ class Following:
 
     def may_get_on(self, shard: str, told: State, primary: int) -> bool:
         """Whether a source that serves no more, or is away for a moment, may still bring the last writes."""
-        since = self.unserved.setdefault(shard, time.monotonic())
-        return told.is_whole and told.cut is None and told.source not in (None, primary) and time.monotonic() - since < CUT_COMES
+        now = self.server.silence.now()
+        since = self.unserved.setdefault(shard, now)
+        return told.is_whole and told.cut is None and told.source not in (None, primary) and now - since < CUT_COMES
 
     def go_over(self, shard: str, owner: int, seconds: float = 3.0) -> bool:
         """Follows the new owner as soon as it has sealed. Whether it does."""
@@ -274,7 +275,8 @@ class Following:
 
     def refuses(self, shard: str, source: int, was: Optional[Applied]) -> bool:
         """Whether what a source sends could not be applied for a while, again and again, and nothing got on: it does not go on from the copy here."""
-        row, now = self.server.database.row(APPLIED, shard, shard, shard, self.server.number), time.monotonic()
+        row = self.server.database.row(APPLIED, shard, shard, shard, self.server.number)
+        now = self.server.silence.now()
         assert row is not None
         mark, errors, there = Mark(row["view"], row["position"]), row["errors"] or 0, self.server.sources.mark_at(source, shard)
         if was is None or was.mark != mark or was.errors > errors or there is None or not mark < there:

@@ -1,7 +1,6 @@
 """What a server does by itself: it goes on without followers that are dead, forgets old identities, and tidies streams that nobody will read."""
 from __future__ import annotations
 
-import time
 from contextlib import suppress
 from dataclasses import dataclass
 from typing import TYPE_CHECKING, Dict, List, Optional
@@ -65,7 +64,7 @@ class Keeping:
 
     def is_dead(self, name: str, row: Optional[Row]) -> bool:
         """Whether nobody will go on with a stream, as far as can be seen from here."""
-        now = time.monotonic()
+        now = self.server.silence.now()
         if row is not None and (row["is_copied"] or row["cell"] in (Cell.PREPARED, Cell.FORWARDING) or row["at_work"]):
             self.watched.pop(name, None)
             return False
@@ -126,7 +125,7 @@ class Keeping:
 
     def drop_unread(self) -> None:
         """Drops streams by which tables were copied and which nobody has read for long: who read them is lost, or begins anew."""
-        now = time.monotonic()
+        now = self.server.silence.now()
         self.unread = {it["slot_name"]: self.unread.get(it["slot_name"], now) for it in self.server.database.rows(UNREAD)}
         for name, since in self.unread.items():
             if now - since > 2 * self.server.limits.dead:

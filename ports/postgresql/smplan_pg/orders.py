@@ -193,13 +193,13 @@ class Orders:
     def hold(self, tx: Connection, shard: str, order: Order) -> None:
         """Waits until no request runs. Meanwhile none begins: so it waits shortly, and rests long; at a deadline it ends those that run."""
         live = self.server.live(shard)
-        first = live.first_try.setdefault(order.number, time.monotonic())
+        first = live.first_try.setdefault(order.number, self.server.silence.now())
         tx.execute(f"SET LOCAL lock_timeout = {int(self.limits.holding * 1000)}")
         try:
             tx.execute("SELECT sm.hold(%s)", (shard,))
         except psycopg.errors.LockNotAvailable:
             live.rest_until = time.monotonic() + self.limits.resting
-            if time.monotonic() > first + self.limits.ending:
+            if self.server.silence.now() > first + self.limits.ending:
                 self.server.whole.end_requests(shard)
             raise Ended("requests run too long; it rests") from None
 
@@ -279,9 +279,10 @@ class Orders:
 
     def wait_for_followers(self, shard: str, seconds: float = 10.0) -> None:
         """Waits until nobody reads streams of a shard that begin here; not for those that are dead."""
-        first = self.server.live(shard).first_try.setdefault(-1, time.monotonic())
+        now = self.server.silence.now()
+        first = self.server.live(shard).first_try.setdefault(-1, now)
         head = "SELECT count(*) FROM pg_replication_slots WHERE database = current_database() AND active AND starts_with(slot_name, sm.stream(%s) || '_')"
-        if value(self.server.database.row(head, shard)) and time.monotonic() < first + seconds:
+        if value(self.server.database.row(head, shard)) and now < first + seconds:
             raise Stuck("followers have not left yet")
         self.server.live(shard).first_try.pop(-1, None)
 

@@ -7,7 +7,7 @@ import threading
 import time
 from concurrent.futures import ThreadPoolExecutor
 from dataclasses import dataclass, field
-from typing import Any, Callable, Dict, List, Optional, Sequence
+from typing import Any, Callable, Dict, List, Optional, Sequence, Tuple
 
 import psycopg
 from psycopg.conninfo import make_conninfo
@@ -15,12 +15,13 @@ from smplan.failure import Failure
 from smplan.server_http import Caller, listen
 
 from .copies import Copies
-from .database import Database, value
+from .database import Connection, Database, value
 from .decisions import decisions_of
 from .following import Following
 from .keeping import Keeping
 from .orders import Orders
 from .records import Peer, Records
+from .silence import Silence, patiently, say
 from .sources import Sources
 from .streams import Stuck
 from .whole import Whole
@@ -69,17 +70,18 @@ class Server:
         self.shards: Dict[str, Live] = {}
         self.peers: Dict[int, Peer] = {}
         self.databases: Dict[str, Database] = {}
-        self.number = 0
+        self.number, self.silence = 0, Silence(name)
+        self.own: Optional[Connection] = None
         self.sources, self.copies, self.orders, self.following = Sources(self), Copies(self), Orders(self), Following(self)
         self.keeping, self.whole = Keeping(self), Whole(self)
         routes: Dict[str, Callable[[Line], Line]] = {
             "/order": self.orders.take, "/fence": self.whole.fence, "/settle": self.whole.settle, "/restore": self.whole.restore,
             "/notice": self.whole.notice, "/base": self.whole.tell_base, "/slots": self.whole.tell_slots, "/reach": self.tell_reach}
-        self.routes = {path: answered(route) for path, route in routes.items()}
+        self.routes = {path: self.answered(route) for path, route in routes.items()}
 
     def say(self, *words: object) -> None:
         """Tells what happens, in the log."""
-        print(f"{time.time():.3f}", self.name, *words, file=sys.stderr, flush=True)
+        say(self.name, *words)
 
     def live(self, shard: str) -> Live:
         """What it has of a shard in memory."""
@@ -126,10 +128,12 @@ class Server:
                 tx.execute("INSERT INTO sm.servers VALUES (%s, %s, %s) ON CONFLICT (number) DO UPDATE SET url = excluded.url WHERE sm.servers.url <> excluded.url",
                            (it["number"], name, it["url"]))
             tx.execute("UPDATE sm.servers SET url = '' WHERE url <> '' AND NOT name = ANY(%s)", (list(told),))
+            number = told[self.name]["number"] if self.name in told else self.number
             if self.name in told:
-                self.number = told[self.name]["number"]
-                tx.execute("UPDATE sm.state SET me = %s, name = %s WHERE me IS DISTINCT FROM %s", (self.number, self.name, self.number))
-            self.peers = Records(tx).peers()
+                tx.execute("UPDATE sm.state SET me = %s, name = %s WHERE me IS DISTINCT FROM %s",
+                           (number, self.name, number))
+            peers = Records(tx).peers()
+        self.number, self.peers = number, peers
 
     def look(self) -> bool:
         """Asks the controllers for the servers, and these for their databases. Whether a controller has answered."""
@@ -176,11 +180,15 @@ class Server:
                 print(why, file=sys.stderr, flush=True)
                 os._exit(2)
             except Exception as why:  # pylint: disable=broad-exception-caught  (the next round comes)
-                words = f"{type(why).__name__} {why}".strip()
-                if words != told:
-                    self.say(words)
-                told = words
+                told = self.tell(why, told)
             time.sleep(seconds)
+
+    def tell(self, why: Exception, told: str) -> str:
+        """Tells of trouble, unless it was told before. Its words."""
+        words = f"{type(why).__name__} {why}".strip()
+        if words != told:
+            self.say(words)
+        return words
 
     def ask_for_slots(self) -> None:
         """Asks each controller, under its nonce, if it is Unknown."""
@@ -195,46 +203,69 @@ class Server:
             except (OSError, ValueError, KeyError):
                 continue  # (it is not there, does not lead, or gives none yet)
 
-    def start(self, seconds: float = 5.0) -> None:
-        """Takes the database for itself, and begins without work."""
-        self.own, until = self.database.connect(), time.monotonic() + seconds
-        while not value(self.own.execute("SELECT pg_try_advisory_lock(1936531058, 0)").fetchone()):
-            if time.monotonic() > until:
-                raise Failure(f"another smplan-pg serves the database of {self.name}")
-            time.sleep(0.1)
-        self.whole.start()
+    def start(self, tries: int = 50) -> None:
+        """Takes the database for itself, and begins without work, with the servers that are stored."""
+        own = self.database.connect()
+        try:
+            while not value(own.execute("SELECT pg_try_advisory_lock(1936531058, 0)").fetchone()):
+                tries -= 1
+                if not tries:
+                    raise Failure(f"another smplan-pg serves the database of {self.name}")
+                time.sleep(0.1)
+            self.whole.start()
+            with self.database.transaction() as tx:
+                self.peers = Records(tx).peers()
+            self.number = self.numbers.get(self.name, self.number)
+        except BaseException:
+            own.close()
+            raise
+        self.own = own
+
+    def begin(self, *works: Tuple[Callable[[], Any], float]) -> None:
+        """Begins what goes on by itself, each again after so many seconds."""
+        for work, seconds in works:
+            threading.Thread(target=self.repeat, args=(work, seconds), daemon=True).start()
+
+    def find(self) -> None:
+        """Looks until the fleet's file has told its number, however long controllers or the database are away."""
+        told = ""
+        while not self.number:
+            try:
+                if self.look() and not self.number:
+                    raise Failure(f"the fleet's file names no {self.name}")
+            except psycopg.OperationalError as why:
+                told = self.tell(why, told)
+            time.sleep(0.2)
 
     def run(self) -> None:
         """Listens at its address, that of the fleet's file unless it was told another one, for ever."""
-        self.start()
-        with self.database.transaction() as tx:
-            self.peers = Records(tx).peers()
-            self.number = self.numbers.get(self.name, 0)
-        while not self.number:
-            if not self.look():
-                time.sleep(0.2)
-            elif not self.number:
-                raise Failure(f"the fleet's file names no {self.name}")
-        for work, seconds in ((self.look, 2.0), (self.ask_for_slots, 0.5), (self.following.watch, 0.2), (self.following.listen, 0.5),
-                              (self.keeping.leave_out_the_dead, 1.0), (self.keeping.tidy, 2.0), (self.keeping.tidy_sources, 3.0), (self.keeping.drop_unread, 2.0),
-                              (self.keep_own, 1.0)):
-            threading.Thread(target=self.repeat, args=(work, seconds), daemon=True).start()
+        patiently(self.silence, self.database, self.start)
+        self.begin((self.keep_own, 1.0), (self.silence.look, 0.5))
+        self.find()
+        self.begin((self.look, 2.0), (self.ask_for_slots, 0.5), (self.following.watch, 0.2),
+                   (self.following.listen, 0.5), (self.keeping.leave_out_the_dead, 1.0), (self.keeping.tidy, 2.0),
+                   (self.keeping.tidy_sources, 3.0), (self.keeping.drop_unread, 2.0))
         listen(self.http or self.peers[self.number].url, self.routes, self.token, tls=None)
 
     def keep_own(self) -> None:
         """Takes the database again after its restart, and begins without work then."""
+        assert self.own is not None
         try:
             self.own.execute("SELECT 1")
-        except psycopg.Error:
+        except psycopg.Error as why:
             self.own.close()
+            self.silence.begin(why)
             self.start()
+        self.silence.end()
 
-
-def answered(route: Callable[[Line], Line]) -> Callable[[Line], Line]:
-    """A route whose trouble with a database is an answer, too: none, so that the message comes again."""
-    def answer(line: Line) -> Line:
-        try:
-            return route(line)
-        except (Stuck, psycopg.Error) as why:
-            raise OSError(f"{type(why).__name__} {why}".strip()) from None
-    return answer
+    def answered(self, route: Callable[[Line], Line]) -> Callable[[Line], Line]:
+        """A route whose trouble with a database is an answer, too: none, so that the message comes again. It has no
+        other one before the database is taken again."""
+        def answer(line: Line) -> Line:
+            if self.own is not None and self.own.closed:
+                raise OSError(f"the database of {self.name} is away")
+            try:
+                return route(line)
+            except (Stuck, psycopg.Error) as why:
+                raise OSError(f"{type(why).__name__} {why}".strip()) from None
+        return answer
