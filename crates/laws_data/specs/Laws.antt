@@ -18,4 +18,5 @@ EnoughHaveThem = (w : Shard) → IsShardReached w → w.needed ≤ counted w (λ
 -- If fewer replicas than are asked for are gone, the greatest of the copies that are told has all that is acknowledged.
 abbrev pub GreatestHasAll : Type 0
 GreatestHasAll = (w : Shard) (answered : ℕ → Bool) (successor : ℕ) (copy : List ListEntry) →
-    IsShardReached w → w.copies successor ≡ Some copy → IsGreatest w answered copy → gone w answered < w.needed → begins w.acknowledged copy ≡ true
+    IsShardReached w → w.copies successor ≡ Some copy → IsGreatest w answered copy → gone w answered < w.needed
+    → begins w.acknowledged copy ≡ true

@@ -92,7 +92,7 @@ pub data Event : Type 0 where
   Ends : (number : ℕ) → Event
   -- A replica becomes primary by an order, with a view of its own; the former primary has told it its copy.
   Succeeds : (server view former : ℕ) → Event
-  -- A replica that was told of no primary gets leave of the others: each has told that it has all of its writes.
+  -- The others give a replica leave that was told of no primary: each has told that it has all writes of that replica.
   Releases : (server : ℕ) (others : ℕ → Bool) → Event
   -- Without a primary a server has another copy of all that some server has, made beside the one that it had, if any.
   Takes : (server source : ℕ) → Event
@@ -162,7 +162,8 @@ MayTake w s list = ((copy : List ListEntry) × (w.copies s ≡ Some copy) × IsA
 
 -- no copy that is told is greater
 abbrev pub IsGreatest : Shard → (ℕ → Bool) → List ListEntry → Type 0
-IsGreatest w answered successor = (s : ℕ) (copy : List ListEntry) → s < w.servers → answered s ≡ true → w.copies s ≡ Some copy → IsAtLeast (told_of successor) (told_of copy)
+IsGreatest w answered successor = (s : ℕ) (copy : List ListEntry)
+    → s < w.servers → answered s ≡ true → w.copies s ≡ Some copy → IsAtLeast (told_of successor) (told_of copy)
 
 -- The rules of a choice: the successor's copy is told, and is the greatest; its view is a new one; as many replicas as
 -- are asked for have its copy; and unless the shard is named fewer than were asked for are gone.

@@ -1,4 +1,4 @@
--- What a reopening settles is the same in the numbers of its document, and the next driver opens on it.
+-- A settlement stays the same in the numbers of its document, and the next driver opens on it.
 use Rattle.std.proofs.Common.{◌≡◌, ◌≢◌, ◌≤◌, ◌<◌, ◌⊎◌, ◌&&◌, ◌||◌, ◌==◌, ℕ, zero, suc, refl, sym, ap, ap₂, ◌∙◌, inl, inr, subst, arith, rules, true≢false, zero-add, Bool, true, false, Option, Some, None, List, [], ◌∷◌, length, if◌then◌else◌, slice_get}
 use Rattle.std.specs.Prelude.{map, nat_lt, not, option_map, slice_index_or}
 use Rattle.std.specs.List.{list_any, range_with_len}
