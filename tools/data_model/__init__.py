@@ -5,6 +5,9 @@ copies from whom and who is counted, `asking` questions between replicas, `servi
 shown, `reopening` what may be lost and who is told so, `laws` what may never be seen. `plays` has a worked play for
 each rule.
 
+With `--small` a smaller form of a shard's number of copies stands in place of the full one: SMALL.md has its rules,
+`plays_small` their plays.
+
 smpland has not the lines that these rules need yet (docs/DATA.md): `driving_model` is what it does today.
 
 What it leaves out: more than five servers; a disk that goes back and does not know it; a server that was given up and

@@ -126,7 +126,7 @@ class Asking:
         if not self.may_acknowledge(host, shard, self.row(shard)) and self.rules.leave_at_cut:
             return
         self.owe(host, shard)
-        needed = max(replica.needed, self.leave_asks(replica.terms.wanted, question.others))
+        needed = self.leave_asks(replica.needed, replica.terms.wanted, question.others)
         if self.count(host, shard, replica.owed, but=frozenset({question.by})) >= needed:
             replica.left[question.by] = question.connection
             self.answered.append(Answer(question, None, gives_leave=True))
@@ -181,15 +181,18 @@ class Asking:
             return False
         own = replica.copy.told() or Told(replica.copy.view, -1)
         others = len(replica.terms.replicas - {host.number})
-        enough = max(order.terms.copies if order else replica.needed, self.leave_asks(replica.terms.wanted, others))
+        needed = order.terms.copies if order else replica.needed
+        enough = self.leave_asks(needed, replica.terms.wanted, others)
         told = [it.told for it in replica.asking.answers.values() if it.told]
         return sum(it >= own for it in told) >= enough and not host.runs(shard)
 
-    def leave_asks(self, wanted: int, others: int) -> int:
+    def leave_asks(self, needed: int, wanted: int, others: int) -> int:
         """How many copies leave asks for at others, though fewer acknowledge."""
+        if self.rules.is_small:
+            return wanted if self.rules.leave_of_wanted else 1
         if not self.rules.leave_of_all:
-            return 1
-        return min(wanted, others) if self.rules.leave_of_fewer else wanted
+            return max(needed, 1)
+        return max(needed, min(wanted, others) if self.rules.leave_of_fewer else wanted)
 
     @staticmethod
     def has_a_later_view(host: Host, shard: int) -> bool:

@@ -6,14 +6,15 @@ import multiprocessing
 import sys
 import time
 from collections import Counter
-from collections.abc import Iterator
+from collections.abc import Iterable, Iterator
 from functools import partial
 
 from driving_model.command_line import Told
 
 from .plays import PLAYS
-from .rules import Rules, SOUND, data_rule_names, sentence_of
-from .schedule import PROFILES, run_schedule
+from .plays_small import PLAYS as SMALL_PLAYS
+from .rules import NOT_SMALL, Rules, SMALL, SOUND, data_rule_names, sentence_of
+from .schedule import SMALL_PROFILES, run_schedule
 from .worked import played
 
 MODES = "modes: `sound`, all rules; `plays`, the worked plays; or rules to take away, joined by commas, among them:\n"
@@ -38,18 +39,26 @@ def run_all(seeds: range, rules: Rules, steps: int, profile: str, jobs: int) -> 
         yield from pool.imap_unordered(run, seeds, chunksize=20)
 
 
+def modes_of(names: Iterable[str]) -> str:
+    """A line for each rule."""
+    return "\n".join(f"  {name}: {sentence_of(name)}" for name in names)
+
+
 def arguments(words: list[str]) -> argparse.Namespace:
     """Reads the command line."""
-    modes = "\n".join(f"  {name}: {sentence_of(name)}" for name in data_rule_names())
+    full = data_rule_names()
+    modes = modes_of(full) + f"\nwith --small not {', '.join(sorted(NOT_SMALL))}, but:\n"
+    modes += modes_of(it for it in data_rule_names(SMALL) if it not in full)
     parser = argparse.ArgumentParser(
         prog="data_model.py", description=__doc__, formatter_class=argparse.RawDescriptionHelpFormatter,
         epilog=MODES + modes,
     )
     parser.add_argument("--mode", default="sound", help="sound (the default), plays, or rules to take away")
+    parser.add_argument("--small", action="store_true", help="the small form (tools/data_model/SMALL.md)")
     parser.add_argument("--runs", type=int, default=200, help="how many schedules (200)")
     parser.add_argument("--seed", type=int, default=0, help="the seed of the first one (0)")
     parser.add_argument("--steps", type=int, default=300, help="how many events each has before its fair end (300)")
-    profiles = ["", *PROFILES]
+    profiles = ["", *SMALL_PROFILES]
     parser.add_argument("--profile", default="", choices=profiles, help="what the schedules are about (all of them)")
     parser.add_argument("--jobs", type=int, default=1, help="how many processes (1)")
     parser.add_argument("--seconds", type=float, default=0, help="stop after SECONDS seconds")
@@ -58,11 +67,11 @@ def arguments(words: list[str]) -> argparse.Namespace:
     return parser.parse_args(words)
 
 
-def tell_plays() -> int:
+def tell_plays(is_small: bool) -> int:
     """Runs each worked play with the rule that it needs, and without it."""
-    wrong = 0
-    for worked in PLAYS:
-        sound, broken = played(worked, with_rule=True), played(worked, with_rule=False)
+    wrong, rules = 0, SMALL if is_small else SOUND
+    for worked in SMALL_PLAYS if is_small else PLAYS:
+        sound, broken = played(worked, True, rules), played(worked, False, rules)
         wrong += sound is not None or broken is None
         print(f"{worked.name}: {sound or 'no violation'}; without {worked.rule}: {broken or 'no violation'}")
     return 1 if wrong else 0
@@ -77,7 +86,8 @@ def tell_trace(told: Told, rules: Rules, options: argparse.Namespace) -> None:
 
 def tell_schedules(options: argparse.Namespace) -> int:
     """Runs schedules, and tells what came of them."""
-    rules = SOUND if options.mode == "sound" else SOUND.without(*options.mode.split(","))
+    form = SMALL if options.small else SOUND
+    rules = form if options.mode == "sound" else form.without(*options.mode.split(","))
     started, coverage, runs, events = time.monotonic(), Counter(), 0, 0
     broken: list[Told] = []
     seeds = range(options.seed, options.seed + options.runs)
@@ -91,7 +101,7 @@ def tell_schedules(options: argparse.Namespace) -> int:
         if is_late or (options.most and len(broken) >= options.most):
             break
     by_law = dict(Counter(it.law for it in broken))
-    about = f"{options.mode}, {options.profile or 'all profiles'}"
+    about = f"{options.mode}{', small' * options.small}, {options.profile or 'all profiles'}"
     print(f"{about}: {runs} schedules from seed {options.seed}, {events} events, {len(broken)} broke a law {by_law}")
     print(f"what they met: {dict(sorted(coverage.items()))}", flush=True)
     if broken and options.trace:
@@ -102,4 +112,4 @@ def tell_schedules(options: argparse.Namespace) -> int:
 def main(words: list[str] | None = None) -> int:
     """Runs the command. The status is 1 if the sound rules broke a law, or a play is not as it should be."""
     options = arguments(sys.argv[1:] if words is None else words)
-    return tell_plays() if options.mode == "plays" else tell_schedules(options)
+    return tell_plays(options.small) if options.mode == "plays" else tell_schedules(options)

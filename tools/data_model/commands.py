@@ -17,6 +17,10 @@ class Document(driving.Document):
         chosen = self.copies[shard] if shard < len(self.copies) else None
         return chosen or max(1, self.floor(shard))
 
+    def chosen(self, shard: int) -> int:
+        """How many copies the operator of the small form has asked for; 1 if that was left out."""
+        return (self.copies[shard] if shard < len(self.copies) else None) or 1
+
 
 @dataclass(frozen=True, slots=True)
 class RestoreServer(driving.RestoreServer):
@@ -44,3 +48,14 @@ class Copied:
     base: int
     shard: int
     lowered: int
+
+
+@dataclass(frozen=True, slots=True)
+class CopiedAt:
+    """In the small form: of a shard that this server serves as the primary as many replicas as are wanted have all that
+    it had when it began to, in this journal, settled last at this reopening."""
+
+    server: int
+    journal: int
+    fence: int
+    shard: int

@@ -14,7 +14,7 @@ from driving_model.messages import Message, Publication, Restore
 from driving_model.record import primary_of
 from driving_model.replies import Ignored, Outcome
 
-from .commands import Confirm, Copied, RestoreServer
+from .commands import Confirm, Copied, CopiedAt, RestoreServer
 from .messages import Lower, Order, SlotTold
 from .record import Record
 from .reopening import Replaced, Reopening
@@ -59,7 +59,7 @@ class Controller(base.Controller):
 
     def lowers(self) -> list[Lower]:
         """What primaries are told of replicas that are recorded down."""
-        if not self.is_open:
+        if not self.is_open or self.rules.is_small:
             return []
         record, found = self.record, []
         for shard in record.shards:
@@ -77,24 +77,21 @@ class Controller(base.Controller):
 
     # Commands.
 
-    def apply(self, command: Command | Copied) -> Outcome:
+    def apply(self, command: Command | Copied | CopiedAt) -> Outcome:
         """Applies one command."""
-        if not isinstance(command, Copied):
-            kinds = {RestoreServer: self.restore, Confirm: self.confirm}
-            handler = kinds.get(type(command))
-            try:
-                return handler(command) if handler else super().apply(command)
-            except Answer as answer:
-                return Outcome(answer.reply, has_changed=False)
+        kinds = {
+            RestoreServer: self.restore, Confirm: self.confirm, Copied: self.copied, CopiedAt: self.copied_at,
+        }
+        handler = kinds.get(type(command))
         try:
-            return self.copied(command)
+            return handler(command) if handler else super().apply(command)
         except Answer as answer:
             return Outcome(answer.reply, has_changed=False)
 
     def open(self, command: driving.Open) -> Outcome:
         """Opens a settled placement."""
         outcome = super().open(command)
-        self.record = Record.over(self.record)
+        self.record = Record.over(self.record, rules=self.rules)
         return outcome
 
     def begin(self, command: driving.Begin) -> Outcome:
@@ -186,13 +183,28 @@ class Controller(base.Controller):
         record.copies[shard] = record.wanted[shard]
         return Outcome(replies.Up(command.server), has_changed=True)
 
+    def copied_at(self, command: CopiedAt) -> Outcome:
+        """As many replicas as are wanted have each acknowledged write, from now on until the next reopening."""
+        if not self.is_open:
+            raise Answer(Ignored("old"))
+        record, rules, shard = self.record, self.rules, command.shard
+        is_wrong = (
+            record.copies[shard] == record.wanted[shard]
+            or (rules.copied_names_journal and command.journal != self.journal)
+            or (rules.copied_names_fence and command.fence < self.fence)
+        )
+        if is_wrong:
+            raise Answer(Ignored("old"))
+        record.copies[shard] = record.wanted[shard]
+        return Outcome(replies.Up(command.server), has_changed=True)
+
     # Epochs.
 
     def new_epoch(self, command: driving.NewEpoch) -> Outcome:
         """Opens the next epoch over the placement as it stands."""
         before = self.record
         outcome = super().new_epoch(command)
-        self.record = Record.over(self.record, before)
+        self.record = Record.over(self.record, before, rules=self.rules)
         return outcome
 
     def reopen(self, command: driving.Reopen) -> Outcome:
@@ -248,7 +260,7 @@ class Controller(base.Controller):
     def put_in_force(self, reopening: Reopening) -> None:
         """Opens the epoch of a reopening."""
         super().put_in_force(reopening)
-        self.record = Record.over(self.record, None, reopening.copies, reopening.base)
+        self.record = Record.over(self.record, None, reopening.copies, reopening.base, self.rules)
         self.ordered, self.replaced = set(), []
 
 

@@ -14,7 +14,9 @@ from driving_model.plans import CellRight, Hold
 from .commands import Document
 
 
-def random_document(dice: random.Random, least_copies: int = 1, most_shards: int = 3) -> Document:
+def random_document(
+    dice: random.Random, least_copies: int = 1, most_shards: int = 3, is_small: bool = False
+) -> Document:
     """Three to five servers and up to three shards, each with a primary. Some shard asks for so many copies at least."""
     width, height = dice.choice([3, 3, 4, 4, 5]), min(most_shards, dice.choice([1, 1, 2, 2, 3]))
     loads = tuple(dice.choice([2, 3, 4]) for _ in range(height))
@@ -24,14 +26,21 @@ def random_document(dice: random.Random, least_copies: int = 1, most_shards: int
     cells = random_cells(dice, loads, rooms, wants)
     wants = [max(cap, sum(it != ABSENT for it in row)) for cap, row in zip(caps, cells)]
     copies = tuple(dice.choice([None, None, min(2, want), max(1, want)]) for want in wants)
+    if is_small:
+        copies = tuple(dice.choice([None, 2, 2, 3]) for _ in wants)
     log = dice.choice([9, 14, 30, LONGEST_LOG, LONGEST_LOG, LONGEST_LOG])
     document = Document(
         frozenset(range(width)), rooms, loads, tuple(wants), caps, dice.choice([1, 1, 2]), cells, log=log, copies=copies
     )
-    if max(map(document.wanted, range(height))) < least_copies:
-        return random_document(dice, least_copies, most_shards)
+    if max(most_wanted(document, it, is_small) for it in range(height)) < least_copies:
+        return random_document(dice, least_copies, most_shards, is_small)
     down = replace(document, down=frozenset({dice.randrange(width)}))
     return down if dice.random() < 0.15 and opening_fault(plain(down)) is None else document
+
+
+def most_wanted(document: Document, shard: int, is_small: bool) -> int:
+    """How many copies are asked for; in the small form how many may be, while all replicas are there."""
+    return document.floor(shard) if is_small else document.wanted(shard)
 
 
 def random_cells(

@@ -60,6 +60,8 @@ class Replica:
     endings: int = 0
     # The position up to which its writes may be acknowledged, once it was asked since it started.
     owed: int | None = None
+    # What it had then (for the small form's `copied`).
+    began: int = 0
     # What replies saw that wait; whether its stream is lost, so that it has to copy anew.
     replies: list[tuple[int, ...]] = field(default_factory=list)
     has_lost_stream: bool = False

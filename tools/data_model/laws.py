@@ -117,7 +117,7 @@ def live_replicas_have_copies(sight: Sight) -> str | None:
     """No server counts as up, and as a replica of a shard that has a primary, that was restored without a copy of
     it."""
     world, controller = sight.world, sight.world.controller
-    if not controller.is_open or world.are_floors_excused:
+    if not controller.is_open or world.are_floors_excused or world.rules.is_small:
         return None
     for host in world.hosts:
         if host.number in controller.record.permits or not host.answers:
@@ -173,6 +173,10 @@ def best_copy_wins(world: World, reopening: Reopening) -> None:
         answered = [world.hosts[it] for it in sorted(reopening.targets - {MAP})]
         if shard in reopening.perhaps:
             answered = [it for it in answered if it.number in reopening.inventories]
+            if world.rules.is_small:
+                # (a copy counts as it was told)
+                survey = reopening.survey(shard)
+                answered = [it for it in answered if it.number in survey.copies and is_as_told(survey, it, shard)]
         having = [it.number for it in answered if it.has_all(shard, writes)]
         if successor is None or successor in reopening.missing or not having or world.hosts[successor].has_all(shard, writes):
             continue

@@ -39,6 +39,8 @@ class Operator(driving.Operator):
         world.coverage["reopening replaced"] += self.controller.reopening is not None
         cells = self.steady_cells() if record else world.document.cells
         document = replace(world.document, servers=frozenset(servers), cells=cells, down=down)
+        if self.rules.is_small and self.rare.random() < 0.4:
+            document = replace(document, copies=tuple(self.rare.choice([None, 2, 2, 3]) for _ in world.shards))
         world.do(Reopen(document, frozenset(gone)))
 
     def confirm(self, alters: bool = True) -> bool:
@@ -59,7 +61,8 @@ class Operator(driving.Operator):
         for number, room in enumerate(self.world.rooms):
             self.fit(rows, number, room)
         self.world.coverage["carried over"] += bool(reopening.missing)
-        chosen = tuple(self.rare.choice([None, None, None, 1]) if alters else None for _ in self.world.shards)
+        is_chosen = alters and not self.rules.is_small
+        chosen = tuple(self.rare.choice([None, None, None, 1]) if is_chosen else None for _ in self.world.shards)
         confirm = Confirm(reopening.base, tuple(map(tuple, rows)), lost, chosen)
         return self.world.do(confirm).has_changed
 

@@ -11,30 +11,42 @@ from driving_model.record import primary_of
 
 from .commands import Document
 from .messages import Terms
+from .rules import Rules, SOUND
 
 
 class Record(driving.Record):
     """The placement and the plans of one epoch. Of each shard `copies` are asked for, `wanted` by the document, and
     `lowered` is the permit, the base, or the log's place at which another server became primary, whichever lowered the
-    number last. `former` was primary before, until an order's number."""
+    number last. `former` was primary before, until an order's number.
+
+    In the small form servers ask for those that are `wanted`, and `copies` surely have each acknowledged write."""
 
     document: Document
+    is_small: bool
 
     @classmethod
     def over(
-        cls, record: driving.Record, before: Record | None = None, copies: Iterable[int] = (), base: int = 0
+        cls, record: driving.Record, before: Record | None = None, copies: Iterable[int] = (), base: int = 0,
+        rules: Rules = SOUND,
     ) -> Record:
         """A record with the numbers of the one before, of a settlement of this base, or of its document."""
         made = copy(record)
         made.__class__ = cls
-        made.wanted = [made.document.wanted(it) for it in made.shards]
-        made.copies = list(copies) or [max(1, min(made.wanted[it], made.there(it))) for it in made.shards]
+        made.is_small = rules.is_small
+        made.wanted = [wanted_of(made.document, it, made.floors[it], rules) for it in made.shards]
+        made.copies = list(copies) or [made.copies_at_opening(it, rules) for it in made.shards]
         made.lowered = [base] * len(made.cells)
         made.former: list[tuple[int, int] | None] = [None] * len(made.cells)
         if before:
             made.wanted, made.copies, made.lowered = list(before.wanted), list(before.copies), list(before.lowered)
             made.former = list(before.former)
         return made
+
+    def copies_at_opening(self, shard: int, rules: Rules) -> int:
+        """How many copies an opened document begins with."""
+        if rules.is_small:
+            return 1 if rules.kept_from_one else self.wanted[shard]
+        return max(1, min(self.wanted[shard], self.there(shard)))
 
     def copy(self) -> Record:
         """A record that can be changed beside this one."""
@@ -75,8 +87,8 @@ class Record(driving.Record):
     def terms(self, shard: int, ordered: frozenset[int] = frozenset()) -> Terms:
         """What an order or a slot says of the shard."""
         return Terms(
-            self.copies[shard], self.wanted[shard], self.lowered[shard], self.led_by(shard),
-            self.replicas(shard) | ordered, self.former[shard],
+            self.wanted[shard] if self.is_small else self.copies[shard], self.wanted[shard], self.lowered[shard],
+            self.led_by(shard), self.replicas(shard) | ordered, self.former[shard],
         )
 
     def codes(self, plan: Plan) -> list[Sequence[Instruction]]:
@@ -139,6 +151,13 @@ class Record(driving.Record):
         if any(self.begins_beside(shard, it.code) for it in plan.streams):
             return True
         return not self.replicas(shard) and len(places(self.adds(shard, it) for it in self.codes(plan))) > 1
+
+
+def wanted_of(document: Document, shard: int, floor: int, rules: Rules) -> int:
+    """How many copies are wanted of a shard whose floor is this, at present."""
+    if not rules.is_small:
+        return document.wanted(shard)
+    return max(1, min(document.chosen(shard), floor)) if rules.wanted_within_floor else document.chosen(shard)
 
 
 def places(marks: Iterable[int | bool]) -> set[int]:

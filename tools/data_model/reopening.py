@@ -14,7 +14,7 @@ from driving_model.replies import Proposal, Refused
 from .commands import Document
 from .copies import NONE, Told
 from .messages import SlotFound, SlotTold, Terms, Unknown
-from .record import Record
+from .record import Record, wanted_of
 from .rules import Rules
 
 
@@ -61,6 +61,7 @@ class Reopening(driving.Reopening):
     replaced: tuple[Replaced, ...] = ()
     idle: tuple[frozenset[int], ...] = ()
     copies: tuple[int, ...] = ()
+    wanted: tuple[int, ...] = ()
     perhaps: frozenset[int] = frozenset()
 
     @classmethod
@@ -86,7 +87,7 @@ class Reopening(driving.Reopening):
         if isinstance(found, Inventory):
             told = [copy for it in found.slots for copy in (it.copy, it.doubted)]
         else:
-            told = [*found.copies, *found.doubted]
+            told = [] if self.rules.is_small else [*found.copies, *found.doubted]
         return any(it is not None and it.view >= self.base for it in told)
 
     # Who may have acknowledged writes.
@@ -104,8 +105,9 @@ class Reopening(driving.Reopening):
 
     def firm(self, shard: int) -> set[int]:
         """The members that count as gone even if they tell that they have nothing: those that are recorded with
-        something of the shard, and those that were gone when a replaced reopening was confirmed."""
-        before = [it.gone[shard] for it in self.replaced] if self.rules.replaced_counted else []
+        something of the shard, and, in the full form, those that were gone when a replaced reopening was confirmed."""
+        is_asked = self.rules.replaced_counted and not self.rules.is_small
+        before = [it.gone[shard] for it in self.replaced] if is_asked else []
         return {it for it, cell in enumerate(self.recorded(shard)) if cell != ABSENT}.union(*before)
 
     def members_of(self, shard: int) -> set[int]:
@@ -140,11 +142,28 @@ class Reopening(driving.Reopening):
                     self.add_copies(survey, server, found.copies[shard], found.doubted[shard])
             else:
                 self.add_slot(survey, shard, server, found.slots[shard])
-        told = {it for it in survey.members if it in self.inventories}
-        survey.gone = {it for it in survey.members if it in self.lost or (it in told and it not in survey.copies)}
-        known = (*survey.row, *self.recorded(shard), *self.document.cells[shard])
-        survey.is_led = any(it not in (ABSENT, SECONDARY) for it in known)
+        survey.gone = {it for it in survey.members if self.is_gone(survey, it)}
+        survey.is_led = self.is_led(survey, shard)
         return survey
+
+    def is_led(self, survey: Survey, shard: int) -> bool:
+        """The shard gets a primary: it has a lead. In the small form the document's counts, as today, only where nobody
+        holds a replica."""
+        known = [*survey.row, *self.recorded(shard), *self.document.cells[shard]]
+        if self.rules.is_small:
+            held = [survey.row[it] for it in survey.sure | survey.silent]
+            is_held = any(it in (PRIMARY, SECONDARY) for it in held)
+            known = [*self.recorded(shard), *held, *(() if is_held else self.document.cells[shard])]
+        return any(it not in (ABSENT, SECONDARY) for it in known)
+
+    def is_gone(self, survey: Survey, server: int) -> bool:
+        """The member is lost, or tells no whole copy; in the small form also if it tells nothing."""
+        if self.rules.is_small and server not in self.lost:
+            if server in survey.silent:
+                return self.rules.silent_gone
+            if isinstance(self.inventories.get(server), Unknown):
+                return self.rules.unknown_gone
+        return server in self.lost or (server in self.inventories and server not in survey.copies)
 
     def add_slot(self, survey: Survey, shard: int, server: int, slot: SlotFound) -> None:
         """Adds what a server has told of its slot."""
@@ -196,7 +215,7 @@ class Reopening(driving.Reopening):
         survey = self.survey(shard)
         if not self.rules.asked_after or survey.primary() is not None:
             return False
-        gone = {it for it in self.may_have_served(shard) if it in self.inventories and it not in survey.copies}
+        gone = self.told_none(survey, shard)
         return bool(gone - (self.idle[shard] if self.idle else frozenset()) - self.lost)
 
     def idle_now(self, shard: int) -> frozenset[int]:
@@ -231,7 +250,7 @@ class Reopening(driving.Reopening):
             best = max(self.worth(survey, it) for it in able)
             bests = [it for it in able if self.worth(survey, it) == best]
             return bests[choice % len(bests)]
-        return primary_of(survey.row)
+        return primary_of(survey.row) if survey.is_led or not self.rules.is_small else None
 
     def keeps(self, survey: Survey) -> set[int]:
         """The servers from which a settlement takes no copy."""
@@ -260,8 +279,37 @@ class Reopening(driving.Reopening):
         return Proposal(self.base, tuple(cells), tuple(lost), self.short_floors(cells), tuple(self.missing))
 
     def is_perhaps_lost(self, survey: Survey, shard: int) -> bool:
-        """So many of those that may have acknowledged writes are gone that all that had one may be among them."""
-        return self.rules.loss_named and survey.primary() is None and len(survey.gone) >= self.least(shard)
+        """So many of those that may have acknowledged writes are gone that all that had one may be among them. In the
+        small form only if one that may have served is gone; and also if such a one has answered, since others may have
+        got writes after they told."""
+        if survey.primary() is not None:
+            return False
+        if self.rules.is_small:
+            served = self.served_and_gone(survey, shard)
+            if not served or (served - self.lost and self.rules.server_named):
+                return bool(served)
+        return self.rules.loss_named and len(survey.gone) >= self.least(shard)
+
+    def served_and_gone(self, survey: Survey, shard: int) -> frozenset[int]:
+        """Who may have served the shard, and is lost, or tells no whole copy: those that are recorded with a part in
+        its lead, or if nobody is, as secondaries; and of those that are lost or Unknown also whom a replaced settlement
+        may have made the primary, or an order where nobody has such a part. Without a record each that is lost or
+        Unknown."""
+        found = self.inventories
+        blank = self.lost | {it for it in found if isinstance(found[it], Unknown)}
+        if self.record is None:
+            return frozenset(blank - set(survey.copies))
+        recorded = self.recorded(shard)
+        served = {it for it, cell in enumerate(recorded) if cell not in (ABSENT, SECONDARY)}
+        made = {it for row in self.replaced for it, cell in enumerate(row.cells[shard]) if cell == PRIMARY}
+        if not served:
+            served = {it for it, cell in enumerate(recorded) if cell == SECONDARY}
+            made |= {it for its, it in self.ordered if its == shard}
+        return frozenset((served & (self.lost | set(found)) | made & blank) - set(survey.copies))
+
+    def told_none(self, survey: Survey, shard: int) -> frozenset[int]:
+        """Who may have served the shard, and has told no copy of it."""
+        return frozenset(it for it in self.may_have_served(shard) if it in self.inventories and it not in survey.copies)
 
     def is_bare(self, survey: Survey, shard: int, successor: int | None) -> bool:
         """The shard had a replica, and no copy is left that is known, or it gets a primary by the document alone."""
@@ -282,6 +330,8 @@ class Reopening(driving.Reopening):
         if self.rules.primary_stays and told is not None and row[told] != PRIMARY:
             return Refused("Primary", shard=shard, server=told)
         successor = primary_of(row)
+        if self.rules.is_small and successor is not None and not survey.is_led:
+            return Refused("Moved", shard=shard, server=successor)
         if survey.primary() is None and successor is not None and self.is_lower(survey, successor):
             return Refused("LowerChoice", shard=shard, server=successor)
         for server in sorted(self.keeps(survey)):
@@ -308,6 +358,19 @@ class Reopening(driving.Reopening):
 
     # How many copies are asked for, and what is settled.
 
+    def floor_of(self, shard: int, row: tuple[Cell, ...]) -> int:
+        """The shard's floor with these cells: of a shard with fewer live replicas it is as low as these are."""
+        down = self.document.down.union(self.record.permits if self.record else ())
+        live = sum(cell != ABSENT for it, cell in enumerate(row) if it not in down)
+        return min(self.document.floor(shard), live)
+
+    def kept_of(self, shard: int, row: tuple[Cell, ...], wanted: int) -> int:
+        """In the small form: how many copies surely have each acknowledged write from now on."""
+        survey = self.survey(shard)
+        went = survey.members - {it for it, cell in enumerate(row) if cell != ABSENT} if self.rules.goers_lower else ()
+        kept = self.least(shard) - len(went)
+        return max(1, min(wanted, kept) if self.rules.kept_below_wanted else kept)
+
     def copies_of(self, shard: int, row: tuple[Cell, ...]) -> int:
         """How many copies an acknowledged write has from now on. A primary that stays asks for as many as before, less
         the replicas that go; a new one for as many as were told exactly at its view and position."""
@@ -326,9 +389,14 @@ class Reopening(driving.Reopening):
 
     def confirm(self, cells: Cells, lost: frozenset[int], chosen: tuple[int | None, ...]) -> None:
         """Confirms the cells: everyone who answered the fence is sent what it has from now on."""
-        most = [self.copies_of(it, row) for it, row in enumerate(cells)]
-        wishes = (chosen[it] if it < len(chosen) else None for it in self.shards)
-        self.copies = tuple(min(it, wish or it) for it, wish in zip(most, wishes))
+        rows = list(enumerate(cells))
+        self.wanted = tuple(wanted_of(self.document, it, self.floor_of(it, row), self.rules) for it, row in rows)
+        if self.rules.is_small:
+            self.copies = tuple(self.kept_of(it, row, self.wanted[it]) for it, row in rows)
+        else:
+            most = [self.copies_of(it, row) for it, row in rows]
+            wishes = (chosen[it] if it < len(chosen) else None for it in self.shards)
+            self.copies = tuple(min(it, wish or it) for it, wish in zip(most, wishes))
         self.perhaps = lost
         self.carried, self.cells = tuple(self.missing), cells
         settles: list[Settle | SettleMap] = []
@@ -346,5 +414,6 @@ class Reopening(driving.Reopening):
         successor = primary_of(row)
         is_chosen = successor == server and self.survey(shard).primary() != server
         replicas = frozenset(it for it, cell in enumerate(row) if cell != ABSENT)
-        terms = Terms(self.copies[shard], self.document.wanted(shard), self.base, successor, replicas)
+        copies = self.wanted if self.rules.is_small else self.copies
+        terms = Terms(copies[shard], self.wanted[shard], self.base, successor, replicas)
         return SlotTold(row[server], self.document.loads[shard], terms, self.base if is_chosen else None)

@@ -5,6 +5,7 @@
 from __future__ import annotations
 
 from dataclasses import dataclass, fields, replace
+from typing import ClassVar
 
 from driving_model import rules as driving
 from driving_model.rules import rule
@@ -18,6 +19,8 @@ REPLACED = frozenset({
 @dataclass(frozen=True)
 class Rules(driving.Rules):
     """Which rules are in force."""
+
+    is_small: ClassVar[bool] = False
 
     # Whoever executes writes.
     durable_first: bool = rule("A write leaves a server, to whomever, only when it is durable there.")
@@ -146,25 +149,66 @@ class Rules(driving.Rules):
 
     def without(self, *names: str) -> Rules:
         """The same rules without these."""
-        unknown = set(names) - set(rule_names())
+        unknown = set(names) - set(rule_names(self))
         if unknown:
             raise ValueError(f"no such rules: {', '.join(sorted(unknown))}")
         return replace(self, **{name: False for name in names})
 
 
+# The rules of the full form that the small one has not: what stands in their place is in `SmallRules`, or is today's.
+NOT_SMALL = frozenset({
+    "down_lowers", "lower_numbered", "raised_by_those_that_stay", "raise_stored", "copied_named", "primary_renumbers",
+    "copied_at_rest", "copies_at_successor", "down_uncounted", "copies_left", "drops_leave_copies", "leave_of_all",
+    "leave_of_fewer", "change_by_count", "former_counts", "members_awaited", "asked_after", "unknown_data_counts",
+    "copies_kept", "empty_is_down",
+})
+
+
+@dataclass(frozen=True)
+class SmallRules(Rules):
+    """The rules of the small form (SMALL.md). A shard's number of copies is `wanted`, and changes by reopenings alone;
+    the record has of each how many surely have each acknowledged write: `kept`."""
+
+    is_small: ClassVar[bool] = True
+
+    # Servers.
+    leave_of_wanted: bool = rule("Leave asks for as many copies at others as a write.")
+    copied_of_all: bool = rule(
+        "A primary says `copied` only when as many replicas as are wanted have all that it had when it began to serve."
+    )
+    copied_names_settled: bool = rule(
+        "`copied` names the last reopening at which its server was settled, and not its base: it may be fenced above."
+    )
+    # The controller.
+    wanted_within_floor: bool = rule("No more copies are wanted than the shard's floor of live replicas.")
+    kept_from_one: bool = rule("An opening begins with 1 copy that is surely kept.")
+    kept_below_wanted: bool = rule("A reopening keeps no more copies than are wanted from then on.")
+    goers_lower: bool = rule("A reopening keeps as many copies less as replicas go by it.")
+    copied_names_journal: bool = rule("`copied` of another journal is ignored.")
+    copied_names_fence: bool = rule("`copied` of a server that was not settled at the last reopening is ignored.")
+    unknown_gone: bool = rule("An Unknown replica counts as gone.")
+    silent_gone: bool = rule("A replica that is carried over, and has told nothing, counts as gone.")
+    server_named: bool = rule(
+        "If one that may have served the shard tells no whole copy, the shard is named: others may have got writes "
+        "since they told."
+    )
+
+
 SOUND = Rules()
+SMALL = replace(SmallRules(), **{it: False for it in NOT_SMALL})
 
 
-def rule_names() -> list[str]:
+def rule_names(rules: Rules = SOUND) -> list[str]:
     """The names of all rules that are in force here."""
-    return [it.name for it in fields(Rules) if it.name not in REPLACED]
+    away = REPLACED | NOT_SMALL if rules.is_small else REPLACED
+    return [it.name for it in fields(rules) if it.name not in away]
 
 
-def data_rule_names() -> list[str]:
+def data_rule_names(rules: Rules = SOUND) -> list[str]:
     """The names of the rules for data alone."""
-    return [it for it in rule_names() if it not in {at.name for at in fields(driving.Rules)}]
+    return [it for it in rule_names(rules) if it not in {at.name for at in fields(driving.Rules)}]
 
 
 def sentence_of(name: str) -> str:
     """What a rule says."""
-    return next(it.metadata["sentence"] for it in fields(Rules) if it.name == name)
+    return next(it.metadata["sentence"] for it in fields(SmallRules) if it.name == name)

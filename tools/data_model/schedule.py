@@ -17,6 +17,7 @@ from .copies import Began, Copy
 from .fair import finish_all
 from .generator import PlanMaker, random_document
 from .host import Host
+from .messages import Order
 from .operations import Operator
 from .rules import Rules
 from .world import World
@@ -42,12 +43,20 @@ PROFILES: dict[str, dict[str, float]] = base.PROFILES | {
         "follow": 3, "ask": 3, "restart": 2, "approve": 1.5, "fault": 0.9, "epoch": 0.8, "stream_lost": 3, "read": 2,
     },
 }
+# Those of the small form: one is about how many copies are kept.
+SMALL_PROFILES = PROFILES | {
+    "kept": {
+        "fault": 1.3, "epoch": 0.6, "ask": 3, "request": 2, "finish": 3, "acknowledge": 8, "follow": 4, "plan": 0.6,
+        "approve": 0.7, "restart": 2, "work": 2, "answer": 1.5, "ask_others": 2, "seal": 2,
+    },
+}
 # The profiles whose documents have a shard of more than one copy, and those that start from copies of different views.
-SEVERAL = frozenset({"drops", "views", "old views", "old drops", "down", "one shard"})
+SEVERAL = frozenset({"drops", "views", "old views", "old drops", "down", "one shard", "kept"})
 OLD = frozenset({"old views", "old drops"})
 USUAL = (
     *base.USUAL, "data", "data", "back", "views", "drops", "down", "old views", "old drops", "swaps", "doubt", "one shard",
 )
+SMALL_USUAL = (*USUAL, "kept", "kept", "kept", "one shard", "drops", "swaps")
 
 
 def drawn_chances(dice: random.Random, profile: str) -> Chances:
@@ -56,6 +65,11 @@ def drawn_chances(dice: random.Random, profile: str) -> Chances:
     if profile in ("back", "views"):
         return replace(
             chances, new_epoch=0.02, reopen=0.3, go_on=0.95, present=0.95, replace=0.003, forget=0.02, lose=0.2
+        )
+    if profile == "kept":
+        return replace(
+            chances, new_epoch=0.03, reopen=0.25, go_on=0.9, present=0.9, replace=dice.choice([0.01, 0.06]),
+            forget=0.15, lose=0.3,
         )
     if profile == "one shard":
         return replace(
@@ -75,9 +89,10 @@ class Schedule(base.Schedule):
     def __init__(self, seed: int, rules: Rules, steps: int, profile: str = "", keeps_trace: bool = False) -> None:
         self.dice = random.Random(seed)
         self.rules, self.steps = rules, steps
-        self.profile = profile or self.dice.choice(USUAL)
-        most = 1 if self.profile == "one shard" else 3
-        document = random_document(self.dice, 2 if self.profile in SEVERAL else 1, most)
+        self.profile = profile or self.dice.choice(SMALL_USUAL if rules.is_small else USUAL)
+        most = 1 if self.profile in ("one shard", "kept") else 3
+        least = 2 if self.profile in SEVERAL else 0 if rules.is_small else 1
+        document = random_document(self.dice, least, most, rules.is_small)
         self.weights = self.drawn_weights()
         self.chances = drawn_chances(self.dice, self.profile)
         self.world = World(document, rules, seed, keeps_trace)
@@ -87,8 +102,13 @@ class Schedule(base.Schedule):
         self.restarted: list[driving.Restarted] = []
         self.begun: list[driving.Begin] = []
         self.kinds = list(WEIGHTS)
+        if self.profile == "kept":
+            self.kinds += ["fail_over", "catch_up"]
+            self.weights += [sum(self.weights) * it for it in (0.05, 0.15)]
         if self.profile in OLD:
             self.begin_with_old_views()
+        if self.profile == "kept":
+            self.begin_with_lagging_copies()
 
     def begin_with_old_views(self) -> None:
         """Copies are of different views, as after a failover: the primary has begun another one."""
@@ -105,6 +125,21 @@ class Schedule(base.Schedule):
                     self.put(host.copy(shard), draw, main, longer, older, newer)
             self.world.writes.history[shard] = list(main) if PRIMARY in row else []
 
+    def begin_with_lagging_copies(self) -> None:
+        """The service has acknowledged writes before it had a controller; secondaries may lack some."""
+        dice = random.Random(self.dice.random())
+        for shard in self.world.shards:
+            row = self.world.controller.record.cells[shard]
+            first = 9000 + 10 * shard
+            writes = [first, first + 1][:dice.choice([1, 2, 2])] if PRIMARY in row else []
+            for host in self.world.hosts:
+                if host.has_copy(shard) and writes:
+                    is_whole = row[host.number] == PRIMARY or dice.random() < 0.4
+                    keep = len(writes) if is_whole else dice.randrange(len(writes) + 1)
+                    host.copy(shard).put(writes[:keep], [Began(0, 0)], True)
+            self.world.writes.history[shard] = list(writes)
+            self.world.writes.acknowledge(shard, set(writes), 1)
+
     def put(self, copy: Copy, draw: float, main: list[int], longer: list[int], older: Began, newer: Began) -> None:
         """A copy of the primary, of the older view, of the newer one's beginning, or none."""
         if draw == 0.0:
@@ -118,7 +153,7 @@ class Schedule(base.Schedule):
 
     def drawn_weights(self) -> list[float]:
         """The weights of the kinds of events, each somewhat more or less."""
-        more = PROFILES[self.profile]
+        more = SMALL_PROFILES[self.profile]
         weights = []
         for kind, weight in WEIGHTS.items():
             often = [0, 0, 0.3, 1, 1, 2] if kind == "fault" and self.profile == "any" else [0.5, 1, 1, 2]
@@ -198,6 +233,46 @@ class Schedule(base.Schedule):
         host, shard = self.dice.choice(self.world.hosts), self.dice.randrange(len(self.world.shards))
         if host.cell(shard) == SECONDARY and host.has_copy(shard):
             host.at[shard].has_lost_stream = True
+
+    # Several events at once, for schedules that are about how many copies are kept.
+
+    def on_fail_over(self) -> None:
+        """A server is lost, or loses something; a reopening begins or goes on, as far as it comes."""
+        world = self.world
+        if self.controller.reopening is None or self.chance(0.2):
+            primaries = [it for it in world.hosts if it.cell(0) == PRIMARY and it.answers]
+            host = self.dice.choice(primaries if primaries and self.chance(0.6) else world.hosts)
+            draw = self.dice.random()
+            if host.answers and draw < 0.5 and self.may_be_lost():
+                world.lose(host, is_for_good=True)
+            elif host.answers and draw < 0.75:
+                world.lose(host, keeps_data=self.chance(0.4))
+            self.operator.reopen(is_plain=self.chance(0.6))
+        for _ in range(self.dice.choice([6, 20, 40])):
+            messages = self.controller.outgoing()
+            if self.controller.reopening is None or not messages:
+                return
+            world.deliver(self.dice.choice(messages))
+            self.go_on_reopening()
+            world.check()
+
+    def on_catch_up(self) -> None:
+        """Servers get their slots and writes, the primary says what it may, servers that were given up come back."""
+        world = self.world
+        for host in world.hosts:
+            if host.is_lost and self.chance(0.3):
+                self.come_back_as_new(host, 0)
+            if host.answers and not host.server.is_known:
+                self.ask(host)
+        sent = [it for it in self.controller.outgoing() if not isinstance(it, Order)]
+        for message in sent:
+            world.deliver(message)
+        for _ in range(self.dice.choice([2, 6])):
+            world.follow(0)
+            if self.chance(0.5):
+                self.on_request()
+            self.on_acknowledge()
+            world.check()
 
     # Restarts and faults.
 

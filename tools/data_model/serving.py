@@ -10,7 +10,7 @@ from driving_model.clients import PassedWrite, Write
 from driving_model.server import Pass, Route
 
 from .clients import Writes
-from .commands import Copied
+from .commands import Copied, CopiedAt
 from .host import Host
 from .messages import Lower
 from .rules import Rules
@@ -111,7 +111,8 @@ class Serving:
         """Before it first acknowledges since it started, or gives leave, all that it has may have been acknowledged."""
         replica = host.at[shard]
         if replica.owed is None:
-            replica.owed = host.copy(shard).position if self.rules.leave_of_earlier else 0
+            replica.began = host.copy(shard).position
+            replica.owed = replica.began if self.rules.leave_of_earlier else 0
 
     def may_acknowledge(self, host: Host, shard: int, row: list[Cell]) -> bool:
         """It is primary, or is handed the shard and has reached the cut."""
@@ -153,7 +154,9 @@ class Serving:
 
     def raise_copies(self, shard: int) -> None:
         """A primary asks for all copies again, and says so, when as many have all that is acknowledged."""
-        for host in self.hosts:
+        for host in self.hosts if self.rules.is_small else ():
+            self.say_copied_at(host, shard)
+        for host in self.hosts if not self.rules.is_small else ():
             server, replica = host.server, host.at[shard]
             if not host.answers or not server.is_known or host.cell(shard).kind is not Kind.PRIMARY or server.is_fenced:
                 continue
@@ -163,3 +166,18 @@ class Serving:
                 replica.needed, replica.raised = wanted, replica.lowered
                 self.say("server", host.number, "raises shard", shard, "to", wanted)
                 self.say_copied(host, shard)
+
+    def say_copied_at(self, host: Host, shard: int) -> None:
+        """In the small form: a primary says, whenever it is so, that as many copies as are wanted have all that it had
+        when it began to serve."""
+        server, replica, rules = host.server, host.at[shard], self.rules
+        if not host.answers or host.cell(shard).kind is not Kind.PRIMARY or replica.needed == 1:
+            return
+        self.owe(host, shard)
+        if rules.copied_of_all and self.count(host, shard, replica.began) < replica.needed:
+            return
+        settled = host.reopened if rules.copied_names_settled else server.base
+        copied, said = CopiedAt(host.number, server.journal, settled, shard), self.network.copied
+        if copied in said:
+            said.remove(copied)
+        said.append(copied)

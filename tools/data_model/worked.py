@@ -24,11 +24,11 @@ class Worked:
         return self.play.__name__
 
 
-def played(worked: Worked, with_rule: bool) -> Violation | None:
+def played(worked: Worked, with_rule: bool, rules: Rules = SOUND) -> Violation | None:
     """What a play comes to, with its rule or without it."""
     away = worked.beside if with_rule else (*worked.beside, worked.rule)
     try:
-        worked.play(SOUND.without(*away))
+        worked.play(rules.without(*away))
     except Violation as violation:
         return violation
     return None

@@ -18,7 +18,7 @@ from driving_model.server import Commit, Judgement
 from . import laws
 from .asking import Asking
 from .clients import Writes
-from .commands import Confirm, Copied, Document, RestoreServer
+from .commands import Confirm, Copied, CopiedAt, Document, RestoreServer
 from .controller import Controller, replayed
 from .following import Following
 from .host import Host, Replica
@@ -56,7 +56,7 @@ class World(Following, Asking, Serving, base.World):
     def start(self) -> None:
         """Opens the document, and restores every server, whose shards begin empty."""
         self.controller, self.writes = Controller(self.rules), Writes(len(self.loads))
-        self.network.copied: list[Copied] = []
+        self.network.copied: list[Copied | CopiedAt] = []
         self.do(plain.Open(self.document, 1, 0))
         self.map_owner.journal = 1
         self.map_owner.entries = [Entry(it) for it in self.controller.record.listed]
@@ -80,7 +80,7 @@ class World(Following, Asking, Serving, base.World):
 
     # The controller.
 
-    def do(self, command: Command | Copied) -> Outcome:
+    def do(self, command: Command | Copied | CopiedAt) -> Outcome:
         """Applies a command, looks at the laws on what it may break, and sends what goes out."""
         reopening = self.controller.reopening
         down = self.recorded_down()
@@ -112,6 +112,8 @@ class World(Following, Asking, Serving, base.World):
     def confirmed(self, reopening: Reopening) -> None:
         """A settlement was confirmed: what it may lose was named before."""
         self.perhaps[reopening.base] = reopening.perhaps
+        for shard in self.shards if self.rules.is_small else ():
+            self.writes.promise_less(shard, 0 if shard in reopening.perhaps else reopening.copies[shard])
         laws.best_copy_wins(self, reopening)
         for shard, row in enumerate(reopening.cells):
             survey, successor = reopening.survey(shard), primary_of(row)
@@ -352,7 +354,9 @@ class World(Following, Asking, Serving, base.World):
         is_bare = cell != ABSENT and not copy.is_whole and not copy.is_doubted
         replica.came_bare = isinstance(message, Restore) and is_bare
         if cell == ABSENT:
-            laws.last_copy_stays(self, host, shard)
+            # (in the small form what is set aside counts as kept)
+            if not self.rules.is_small or not self.rules.set_aside:
+                laws.last_copy_stays(self, host, shard)
             self.take_away(host, shard)
         elif cell.kind is Kind.PRIMARY:
             self.become_primary(host, shard, told.view, message)
@@ -379,5 +383,9 @@ class World(Following, Asking, Serving, base.World):
             copy.begin_empty(view or 0)
         history[shard] = list(copy.writes)
         if isinstance(message, Settle) and shard in self.perhaps.get(message.base, ()):
-            self.writes.give_up(shard, copy.writes)
+            if self.rules.is_small:
+                # (what the new primary has stays acknowledged)
+                self.writes.keep(shard, copy.writes)
+            else:
+                self.writes.give_up(shard, copy.writes)
             self.coverage["a named loss taken"] += 1
