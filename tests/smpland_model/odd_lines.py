@@ -27,7 +27,7 @@ MEMBERS = {
     "audit": "server place slots", "failed": "plan_number stream number answer",
 }
 # Those of entries of lists.
-SLOT = "entry_shard cell entry_party? handover? last? load? cut? position? reached?"
+SLOT = "entry_shard cell entry_party? handover? last? load? cut? position? view? reached?"
 CHOICE, CHOSEN = "shard chosen", "server role"
 MOVE = "shard from to"
 # How members are written that stand here under names of their own, since they are something else elsewhere.
@@ -50,7 +50,8 @@ VALUES: dict[str, list[Any]] = {
     "server": SERVERS, "party": SERVERS, "shard": SHARDS, "from": SERVERS, "to": ["v1", *SERVERS],
     "why": ["disk", "é" * 2_048, "é" * 2_049, 7, None], "answer": ["old", "not_ready", "Old", "", 7, None],
     "entry_shard": SHARDS, "cell": CELLS, "entry_party": SERVERS, "handover": EXACT, "last": EXACT, "load": SMALL,
-    "cut": EXACT, "position": EXACT, "reached": [True, False, 0, None], "role": ["primary", "secondary", "absent", 7],
+    "cut": EXACT, "position": EXACT, "view": EXACT, "reached": [True, False, 0, None],
+    "role": ["primary", "secondary", "absent", 7],
 }
 
 

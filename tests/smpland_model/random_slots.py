@@ -111,6 +111,7 @@ class Slots:
         slot: Json = {"shard": shard} | held.json
         if is_asked or self.chance(0.3):
             slot["position"] = dice.choice([0, 1, 1, 2, 3, 2**53 - 1])
+            slot |= dice.choice([{}, *({"view": it} for it in (0, 1, 1, 2, 3, 2**53 - 1))])
             slot["reached"] = self.chance(0.5)
         if self.chance(0.3):
             slot["last"] = self.session.controller.base + dice.choice([0, 1, 2, 7, 90])

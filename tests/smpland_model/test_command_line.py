@@ -9,8 +9,12 @@ import unittest
 from pathlib import Path
 
 from smpland_model.command_line import pieces
+from smplan.control import ASKING
 
 TOOL = Path(__file__).resolve().parents[2] / "tools" / "smpland_model.py"
+
+# The words of the lines that change something.
+CHANGING = {"open", "begin", "answered", "approve", "restarted", "restore", "new_epoch", "reopen", "fenced", "confirm", "settled"}
 
 
 class CommandLine(unittest.TestCase):
@@ -27,6 +31,12 @@ class CommandLine(unittest.TestCase):
         self.assertEqual(self.said(b""), [])
         self.assertEqual(self.said(b'{"do":"hello"}'), ["hello"])
         self.assertEqual(self.said(b'{"do":"hello"}\n\n[]\n{"do":"orders"}'), ["hello", "bad", "bad", "orders"])
+
+    def test_a_client_knows_what_asks(self) -> None:
+        """A word that changes nothing is one of the client's, which it need not store."""
+        done = subprocess.run([sys.executable, str(TOOL), "-"], input=b'{"do":"x"}', stdout=subprocess.PIPE, check=True)
+        words = json.loads(done.stdout)["bad"]["text"].partition(" has to be one of ")[2].split()
+        self.assertEqual(ASKING, set(words) - CHANGING)
 
     def test_a_reply_comes_before_the_next_line(self) -> None:
         """A client may wait for each reply."""

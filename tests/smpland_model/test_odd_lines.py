@@ -22,7 +22,7 @@ PLACES = {
     "TooMany": "$.slots $.lost $.why $.moves",
     "Number": """
         $.id $.base $.place $.permit $.number $.plan $.epoch
-        $.slots[].handover $.slots[].last $.slots[].load $.slots[].cut $.slots[].position
+        $.slots[].handover $.slots[].last $.slots[].load $.slots[].cut $.slots[].position $.slots[].view
     """,
 }
 

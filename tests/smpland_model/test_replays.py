@@ -12,7 +12,7 @@ from random_lines import as_bytes, sessions, spoilt
 
 Json = dict[str, Any]
 SEEDS = range(500, 512)
-SPOILT = 5_000
+SPOILT = 10_000
 QUESTIONS = [b'{"do":"state"}', b'{"do":"orders"}', b'{"do":"hello"}', b'{"do":"since","place":0}']
 WORDS = {
     "opened", "begun", "moved", "approved", "ended", "up", "restore", "fence", "waiting", "proposal", "settle",

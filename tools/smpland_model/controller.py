@@ -241,7 +241,17 @@ class NamedController(Controller):
             raise Answer(refused)
         if refused.kind == "OtherServer":
             raise refuse("OtherServer", server=self.server_name(refused.server))
-        raise Refusal(words.reported(self.denied(refused)))
+        raise Refusal(self.with_down(words.reported(self.denied(refused)), command.server))
+
+    def with_down(self, told: words.Json, server: int | None) -> words.Json:
+        """Returns a refusal. If the server is down, or too many are, it has who is, and for whom; null if that was not
+        given, or is forgotten."""
+        if told["kind"] not in ("AlreadyDown", "GlobalCap"):
+            return told
+        names = {it.reply.permit: by for by, it in self.approved.items()}
+        down = [server] if told["kind"] == "AlreadyDown" else sorted(self.record.permits)
+        members = {"down": [self.server_name(it) for it in down], "by": [names.get(self.record.permits[it]) for it in down]}
+        return {it: told[it] for it in told if it != "text"} | members | {"text": told["text"]}
 
     def denied(self, why: replies.Refused) -> str:
         """Returns the words of a report for a restart that is denied."""

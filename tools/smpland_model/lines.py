@@ -114,7 +114,7 @@ EXACT, SMALL = up_to(MOST_EXACT), up_to(MOST_NUMBER)
 SLOT = [
     one("shard", name), one("cell", word(*CELLS)), maybe("party", or_null(name)), maybe("handover", EXACT),
     maybe("last", EXACT), maybe("load", up_to(MOST_LOAD)), maybe("cut", or_null(EXACT)), maybe("position", EXACT),
-    maybe("reached", flag),
+    maybe("view", EXACT), maybe("reached", flag),
 ]
 # What a slot has to tell beside its shard, by its cell; with what a fence asks, and without.
 HANDED = ("party", "handover")

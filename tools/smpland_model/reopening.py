@@ -20,10 +20,19 @@ from smpland_model.numbering import Numbering
 
 Json = words.Json
 HANDED = (Kind.PREPARED, Kind.FORWARDING)
-ABSENT_SLOT = SlotFound(ABSENT, 0, False)
 
-# A claim to a shard, and of equal claims the position of its writes.
-Standing = tuple[int, int]
+# A claim to a shard, and of equal claims the view of its copy's list, and its position.
+Standing = tuple[int, int, int]
+
+
+@dataclass(frozen=True, slots=True)
+class SlotOfLine(SlotFound):
+    """What a line tells of a shard: the view of its copy's list, too."""
+
+    view: int = 0
+
+
+ABSENT_SLOT = SlotOfLine(ABSENT, 0, False)
 
 
 def claim(cell: Cell, has_reached_cut: bool) -> int:
@@ -66,7 +75,7 @@ class NamedReopening(Reopening):
         row = cells[shard] if shard < len(cells) else []
         return row[server] if server < len(row) else ABSENT
 
-    def told(self, shard: int, server: int) -> SlotFound | None:
+    def told(self, shard: int, server: int) -> SlotOfLine | None:
         """Returns what a server has told of a shard, if it has its slots."""
         found = self.inventories.get(server)
         if not isinstance(found, Inventory):
@@ -82,9 +91,9 @@ class NamedReopening(Reopening):
     def standing(self, shard: int, server: int) -> Standing:
         """Returns how well a server may inherit a shard."""
         if self.is_silent(server):
-            return claim(self.recorded(shard, server), False), 0
+            return claim(self.recorded(shard, server), False), 0, 0
         slot = self.told(shard, server)
-        return (claim(slot.cell, slot.has_reached_cut), slot.position) if slot else (0, 0)
+        return (claim(slot.cell, slot.has_reached_cut), slot.view, slot.position) if slot else (0, 0, 0)
 
     def documented(self, shard: int, server: int) -> Cell:
         """Returns what the document has of a shard at a server that is Unknown."""

@@ -7,7 +7,7 @@ from typing import Any
 from driving_model import commands, replies
 from driving_model.cells import Cell, Kind, PRIMARY, SECONDARY
 from driving_model.controller import Answer
-from driving_model.messages import Inventory, SlotFound, Unknown
+from driving_model.messages import Inventory, Unknown
 from driving_model.replies import Outcome
 from smpland_model import lines, words
 from smpland_model.asking import Asking
@@ -15,6 +15,7 @@ from smpland_model.controller import Beginning, NamedController, Refusal, Reopen
 from smpland_model.history import History
 from smpland_model.lines import BadLine, Known
 from smpland_model.messages import Writer, hexadecimal
+from smpland_model.reopening import ABSENT_SLOT, SlotOfLine
 from smplan.faults import Fault, FaultKind
 from smplan.model import Document, document_of, plan_of
 from smplan.reading import Names
@@ -211,7 +212,7 @@ class Session:
         if "unknown" in command:
             return Told(Unknown(int(command["unknown"], 16)))
         numbers = self.controller.numbering.shard_numbers
-        found = [SlotFound(Cell(Kind.ABSENT), 0, False)] * len(numbers)
+        found = [ABSENT_SLOT] * len(numbers)
         strays = []
         for slot in command["slots"]:
             if slot["shard"] in numbers:
@@ -258,12 +259,12 @@ def names_of(document: Document | None) -> Names:
     return Names({name: "" for name in document.servers}, {name: "" for name in document.shards})
 
 
-def slot_found(slot: Json) -> SlotFound:
+def slot_found(slot: Json) -> SlotOfLine:
     """Returns what a server tells of a shard."""
     kind = Kind(slot["cell"])
     in_handover = kind in (Kind.PREPARED, Kind.FORWARDING)
     cell = Cell(kind, slot["party"], slot["handover"]) if in_handover else Cell(kind)
-    return SlotFound(cell, slot.get("position", 0), slot.get("reached", False))
+    return SlotOfLine(cell, slot.get("position", 0), slot.get("reached", False), slot.get("view", 0))
 
 
 def identified(identity: Any, reply: Json) -> Json:

@@ -8,8 +8,8 @@ mod Kept
 mod Remaining
 mod Within
 mod Permits
-mod Restarts
-mod Counted
+mod FloorRules
+mod PermitEnds
 mod Served
 mod Ordered
 mod OrderedRuns

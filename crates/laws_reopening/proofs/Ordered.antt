@@ -21,7 +21,7 @@ use Rattle.laws_reopening.proofs.Effects.{At, Becomes, Heeds, Loses, Obeys, Reco
 use Rattle.laws_reopening.proofs.Standing.{fence_cases, fence_none, map_some, named, taking}
 use Rattle.laws_reopening.proofs.Followed.{all_of_one, all_to_each, plain_more, IsPlain}
 use Rattle.laws_reopening.proofs.Permits.{event_so}
-use Rattle.laws_reopening.proofs.Counted.{number_grows}
+use Rattle.laws_reopening.proofs.PermitEnds.{number_grows}
 use Rattle.laws_reopening.proofs.Served.{IsAct, IsServedBy, acts_or, told_of}
 
 -- an order for this cell, under this number

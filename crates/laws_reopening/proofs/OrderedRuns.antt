@@ -30,7 +30,7 @@ use Rattle.laws_reopening.proofs.Followed.{fences_are}
 use Rattle.laws_reopening.proofs.Numbers.{low_orders, top}
 use Rattle.laws_reopening.proofs.Watched.{watched_begun}
 use Rattle.laws_reopening.proofs.Within.{fleet_on, opening_reached, within_laws, within_next}
-use Rattle.laws_reopening.proofs.Counted.{IsAbove, above_run}
+use Rattle.laws_reopening.proofs.PermitEnds.{IsAbove, above_run}
 use Rattle.laws_reopening.proofs.Ordered.{IsClosed, IsLate, IsMade, IsShut, IsSound, closed_next, open_next, served_next, shut_next, sound_next}
 
 -- ---- a reopening begins

@@ -1,10 +1,11 @@
 pub mod Floors
 pub mod FloorsBegun
 pub mod FloorsPlays
-pub mod Restarts
+pub mod FloorRules
 pub mod Renumbering
 pub mod Service
 pub mod ServiceLaws
+pub mod PermitLaws
 pub mod OrderLaws
 pub mod Late
 pub mod Adopting

@@ -1,11 +1,10 @@
 -- The laws of the service over all its epochs.
-use Rattle.std.specs.Prelude.{◌≡◌, ◌≤◌, Some, ℕ, ◌+◌, Bool, false, List, [], ◌∷◌}
-use Rattle.sm_placement.specs.Sums.{bit}
-use Rattle.laws_network.specs.FleetLaws.{ExecutesAtOneServer, FleetIsSafe, IsFleetReached, MapIsRight, NoLetterIsRefused, SomeFleetCanGoOn, ends_restart}
+use Rattle.std.specs.Prelude.{◌≡◌, Some}
+use Rattle.laws_network.specs.FleetLaws.{ExecutesAtOneServer, FleetIsSafe, IsFleetReached, MapIsRight, NoLetterIsRefused, SomeFleetCanGoOn}
 use Rattle.laws_network.specs.ReopeningLaws.{ExecutesSafely, IsSettlingReached, LoadsFit, RefusesNone, ShownExecutes}
 use Rattle.laws_reopening.specs.Floors.{FloorsStay}
 use Rattle.laws_reopening.specs.FloorsBegun.{FloorsRemain}
-use Rattle.laws_reopening.specs.Service.{AllServiceFit, AllTook, Fleet, Goes, IsRenumberedAs, MayOpen, Renumbering, Reopens, Runs, Service, ServiceEvent, Settlement, Settling, Setup, service_comes}
+use Rattle.laws_reopening.specs.Service.{AllTook, Fleet, IsRenumberedAs, MayOpen, Renumbering, Reopens, Runs, Service, Settlement, Settling, Setup}
 
 -- The laws of one epoch hold wherever events of the fleet lead from an opening, and those of a reopening wherever events lead from its beginning.
 -- The service is always at one of these: so all of them hold of it.
@@ -41,19 +40,3 @@ abbrev pub CanOpen : Service → Type 0
 CanOpen (Runs setup f) = Unit {0}
 CanOpen (Reopens setup f x) = (s new : Settlement) (n : Renumbering) → x.reopening.settlement ≡ Some s → AllTook x.reopening → IsRenumberedAs n s new →
     (g : Fleet) × MayOpen setup f x n new g
-
--- ---- permits
-
--- the event ends a restart by this permit: only a controller that runs plans ends restarts
-abbrev pub ends_by : ℕ → Service → ServiceEvent → Bool
-ends_by permit (Runs setup f) (Goes e) = ends_restart permit f e
-ends_by permit _ _ = false
-
--- how many restarts end by this permit along a list of events
-abbrev pub ended_by : ℕ → List ServiceEvent → Service → ℕ
-ended_by permit [] p = 0
-ended_by permit (e ∷ es) p = bit (ends_by permit p e) + ended_by permit es (service_comes p e)
-
--- a permit ends at most one restart, over all epochs and reopenings
-abbrev pub PermitEndsOnce : Service → Type 0
-PermitEndsOnce p = (es : List ServiceEvent) (permit : ℕ) → AllServiceFit es p → ended_by permit es p ≤ 1

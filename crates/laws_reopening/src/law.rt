@@ -4,9 +4,10 @@ ghost use Rattle.laws_network.specs.ReopeningLaws.{EachSettling};
 ghost use Rattle.laws_reopening.specs.Floors.{FloorsStay};
 ghost use Rattle.laws_reopening.specs.FloorsBegun.{FloorsRemain};
 ghost use Rattle.laws_reopening.specs.OrderLaws.{OldOrdersRest, OrderActsOnce};
-ghost use Rattle.laws_reopening.specs.Restarts.{RulesKeepFloors};
+ghost use Rattle.laws_reopening.specs.FloorRules.{RulesKeepFloors};
 ghost use Rattle.laws_reopening.specs.Service.{EachService};
-ghost use Rattle.laws_reopening.specs.ServiceLaws.{CanOpen, IsWithinLaws, PermitEndsOnce, ServiceIsSafe};
+ghost use Rattle.laws_reopening.specs.PermitLaws.{PermitEndsOnce};
+ghost use Rattle.laws_reopening.specs.ServiceLaws.{CanOpen, IsWithinLaws, ServiceIsSafe};
 
 use crate::in_force::{fleet_is_there_as, fleet_opens_as};
 use laws_network::{

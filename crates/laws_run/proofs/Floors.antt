@@ -8,7 +8,7 @@ use Rattle.laws_network.specs.Words.{Begin}
 use Rattle.laws_network.specs.Controller.{Answered, Ended, JournalEntry, Made, Opened, Restored, Stored, is_permitted}
 use Rattle.laws_network.specs.Fleet.{End, Fleet, FleetEvent, Forget, controller, fleet_comes, fleet_run, has_lost, written}
 use Rattle.laws_network.specs.FleetLaws.{EachFleet, FleetIsReached}
-use Rattle.laws_reopening.specs.Restarts.{AllFollowRules, AreLostDown, FollowsRules, HasFloors, RulesKeepFloors}
+use Rattle.laws_reopening.specs.FloorRules.{AllFollowRules, AreLostDown, FollowsRules, HasFloors, RulesKeepFloors}
 use Rattle.sm_driver.specs.Driver.{DriverModel}
 use Rattle.laws_driver.specs.Control.{ApproveRestart, BeginPlan, Command, EndRestart, IsAnswerEntry, OpenEpoch, RestoreServer, TakeAnswer, Writes, free_steps}
 use Rattle.laws_driver.specs.Driven.{Driven, Takes, TellsTruth, TurnFits, WritesNothing, driver_setup, with_entries}

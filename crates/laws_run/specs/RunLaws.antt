@@ -2,7 +2,7 @@
 use Rattle.std.specs.Prelude.{◌≡◌, ◌<◌, ℕ, true, Some, None, List, [], ◌∷◌, length}
 use Rattle.laws_network.specs.Fleet.{Fleet, Forget, controller}
 use Rattle.laws_network.specs.FleetLaws.{HasAskedUnder}
-use Rattle.laws_reopening.specs.Restarts.{AreLostDown, HasFloors}
+use Rattle.laws_reopening.specs.FloorRules.{AreLostDown, HasFloors}
 use Rattle.laws_driver.specs.Control.{Command, DriverModel, JournalEntry}
 use Rattle.laws_driver.specs.Driven.{driver_setup}
 use Rattle.laws_driver.specs.DrivenLaws.{IsDrivenSafely, IsFleetDriven}

@@ -9,7 +9,8 @@ use Rattle.laws_driver.specs.Driven.{IsDrivenReached}
 use Rattle.laws_driver.specs.DrivenLaws.{IsDrivenSafely}
 use Rattle.laws_reopening.specs.OrderLaws.{OldOrdersRest, OrderActsOnce}
 use Rattle.laws_reopening.specs.Service.{IsServiceReached, Reopens as ServiceReopens, Runs, Service}
-use Rattle.laws_reopening.specs.ServiceLaws.{PermitEndsOnce, ServiceIsSafe}
+use Rattle.laws_reopening.specs.PermitLaws.{PermitEndsOnce}
+use Rattle.laws_reopening.specs.ServiceLaws.{ServiceIsSafe}
 use Rattle.laws_service.specs.Controlled.{AllTook, AreGivenUp, AreLow, Controlled, Driven, DriverModel, Drives, Fleet, IsControlledReached, IsControllerOf, IsJustOpened, IsRenumberedAs, ControlledFits, OngoingReopening, Opens, Renumbering, Reopen, Reopens, Settlement, Settles, Settling, World, base, controller, driver_setup, entered, epoch_base, net_reopening, no_reopening, permits_as, record_of, recorded_place, settling_of}
 
 -- ---- the relation of a driver to its service

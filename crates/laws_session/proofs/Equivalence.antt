@@ -56,19 +56,19 @@ drivers_along (Some d) None q x y = absurd x
 -- ---- reopenings
 
 ongoing_itself : (x : OngoingReopening) → AreOngoingAlike x x
-ongoing_itself x = record { reopening = refl; positions = refl; rest = record { left_out = refl; setup = refl; place = refl; shards = refl } }
+ongoing_itself x = record { reopening = refl; copies = refl; rest = record { left_out = refl; setup = refl; place = refl; shards = refl } }
 
 ongoing_back : (x y : OngoingReopening) → AreOngoingAlike x y → AreOngoingAlike y x
 ongoing_back x y a = record {
   reopening = sym a.reopening;
-  positions = sym a.positions;
+  copies = sym a.copies;
   rest = record { left_out = sym a.rest.left_out; setup = sym a.rest.setup; place = sym a.rest.place; shards = sym a.rest.shards };
 }
 
 ongoing_along : (x y z : OngoingReopening) → AreOngoingAlike x y → AreOngoingAlike y z → AreOngoingAlike x z
 ongoing_along x y z a b = record {
   reopening = b.reopening ∙ a.reopening;
-  positions = b.positions ∙ a.positions;
+  copies = b.copies ∙ a.copies;
   rest = record {
     left_out = b.rest.left_out ∙ a.rest.left_out;
     setup = b.rest.setup ∙ a.rest.setup;

@@ -86,7 +86,7 @@ fresh_alike m n a b p q x y lost gone new next numbered setup place before names
         ∙ ap₂ (λ (e : ℕ) (r : Reopening). entered (Reopen (epoch_base e) (length next.numbering.servers) (says_lost (members_under next.numbering next.document.config gone))) r) epoch before
         ∙ ap₂ (λ (s : Setup) (ms : List Membership). entered (Reopen (epoch_base new.epoch) (length s.servers) (says_lost ms)) x) numbering members
         ∙ sym one.reopening;
-    positions = also.recorded.positions ∙ sym fresh.recorded.positions;
+    copies = also.recorded.copies ∙ sym fresh.recorded.copies;
     rest = record {
       left_out = two.left_out ∙ ap is_left_out members ∙ sym one.left_out;
       setup = also.recorded.setup ∙ setup ∙ sym fresh.recorded.setup;

@@ -1,4 +1,4 @@
--- What is proposed and chosen is the same of reopenings that are alike.
+-- Reopenings that are alike propose and choose the same.
 use Rattle.std.proofs.Common.{◌≡◌, ◌∙◌, ℕ, Bool, true, false, List, [], ◌∷◌, Option, Some, None, ap, ap₂, map, option_map, refl, sym}
 use Rattle.std.specs.Prelude.{◌&&◌, ◌||◌, ◌==◌, if◌then◌else◌, is_none, is_some, length, nat_lt, not, slice_get, slice_index_or}
 use Rattle.std.specs.List.{list_any}
@@ -16,6 +16,7 @@ use Rattle.sm_plan_text.specs.Documents.{DocumentModel}
 use Rattle.sm_plan_text.specs.Reading.{rows_of}
 use Rattle.laws_network.specs.Reopening.{Reopening, Server, is_asked}
 use Rattle.laws_network.specs.ReopeningLaws.{claim_of, is_carried}
+use Rattle.sm_copies.specs.declared.order.ToldCopy.{ToldCopy}
 use Rattle.sm_reopening.specs.declared.ongoing.OngoingReopening.{OngoingReopening}
 use Rattle.sm_reopening.specs.declared.party.FoundSlot.{FoundSlot}
 use Rattle.sm_reopening.specs.declared.survivors.Standing.{Standing}
@@ -44,7 +45,7 @@ module _ (x y : OngoingReopening) (is : AreOngoingAlike x y) where
   past_same = ap₂ (λ (c : Setup) (p : Place). opened (sizes_of c) p 0) is.rest.setup is.rest.place
 
   slot_same : (s v : ℕ) → told_slot y s v ≡ told_slot x s v
-  slot_same s v = ap₂ (λ (r : Reopening) (f : ℕ → ℕ → ℕ). inventory_slot (r.told (Server v)) (f s v) s) is.reopening is.positions
+  slot_same s v = ap₂ (λ (r : Reopening) (f : ℕ → ℕ → ToldCopy). inventory_slot (r.told (Server v)) (f s v) s) is.reopening is.copies
 
   carried_same : (v : ℕ) → is_carried (net_reopening y) (past_state y) v ≡ is_carried (net_reopening x) (past_state x) v
   carried_same v = ap₂ (λ (r : Reopening) (w : State). is_carried r w v) is.reopening past_same
@@ -64,7 +65,7 @@ module _ (x y : OngoingReopening) (is : AreOngoingAlike x y) where
 
   standing_same : (s v : ℕ) → standing_of y s v ≡ standing_of x s v
   standing_same s v =
-      ap₃ (λ (r : Reopening) (w : State) (f : ℕ → ℕ → ℕ). record { claim = claim_of r w s v; position = f s v }) is.reopening past_same is.positions
+      ap₃ (λ (r : Reopening) (w : State) (f : ℕ → ℕ → ToldCopy). record { claim = claim_of r w s v; copy = f s v }) is.reopening past_same is.copies
 
   best_same : (s u : ℕ) → is_best y s u ≡ is_best x s u
   best_same s u =

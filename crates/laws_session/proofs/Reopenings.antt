@@ -17,7 +17,8 @@ use Rattle.sm_plan_text.specs.Documents.{DocumentModel}
 use Rattle.sm_plan_text.specs.Reading.{rows_of}
 use Rattle.sm_plan_text.specs.declared.document.Document.{Document}
 use Rattle.laws_network.specs.Reopening.{Confirm, Entries, Inventory, MapOwner, Party, Reopening, Server, Settlement, Slots, Told, Took, Unknown, entered}
-use Rattle.sm_reopening.specs.Ongoing.{net_reopening, told_positions}
+use Rattle.sm_copies.specs.declared.order.ToldCopy.{ToldCopy}
+use Rattle.sm_reopening.specs.Ongoing.{net_reopening, told_copies}
 use Rattle.sm_reopening.specs.Proposal.{is_the}
 use Rattle.sm_reopening.specs.Settles.{settled_of}
 use Rattle.sm_reopening.specs.States.{no_slot}
@@ -37,7 +38,7 @@ use Rattle.smpland_reopening.specs.Reopening.{IsUnder, ReopeningModel}
 use Rattle.smpland_reopening.specs.Settled.{RolesGiven, place_by, setup_met}
 use Rattle.smpland_reopening.proofs.Frames.{told_framed, took_framed}
 use Rattle.smpland_reopening_lines.specs.Slots.{IsCellOf, IsPartyOf, IsSlotOf, IsToldByRow, last_with, is_row_of, party_number}
-use Rattle.smpland_reopening_lines.specs.Taken.{ConfirmsAt, IsInventoryOf, IsToldAs, KeepsPositions, ListsSlots, TakesFenced, TakesSettledBy, choice_made, choice_said, party_named}
+use Rattle.smpland_reopening_lines.specs.Taken.{ConfirmsAt, IsInventoryOf, IsToldAs, KeepsCopies, ListsSlots, TakesFenced, TakesSettledBy, choice_made, choice_said, party_named}
 use Rattle.laws_session.specs.Alike.{AreReopeningsAlike}
 use Rattle.laws_session.specs.Replays.{EachReopeningAlike, IsSameName, IsSameTold, ReopeningsGoAlike}
 use Rattle.laws_session.proofs.Commands.{one_value}
@@ -82,7 +83,7 @@ one_cell numbering row a b x y =
 -- what a row tells of two slots
 record AreSameSlots (a b : FoundSlot) : Type 0 where
   pub cell : b.cell ≡ a.cell
-  pub position : b.position ≡ a.position
+  pub copy : b.copy ≡ a.copy
   pub reached : b.reached ≡ a.reached
 
 -- the same by the value of a row
@@ -98,11 +99,11 @@ one_slot : (numbering : Setup) (row : Option Data) (a b : FoundSlot) → IsToldB
 one_slot numbering None a b x y =
     record {
       cell = ap (λ (s : FoundSlot). s.cell) (y ∙ sym x);
-      position = ap (λ (s : FoundSlot). s.position) (y ∙ sym x);
+      copy = ap (λ (s : FoundSlot). s.copy) (y ∙ sym x);
       reached = ap (λ (s : FoundSlot). s.reached) (y ∙ sym x);
     }
 one_slot numbering (Some row) a b x y =
-    record { cell = one_cell numbering row a.cell b.cell x.cell y.cell; position = y.position ∙ sym x.position; reached = y.reached ∙ sym x.reached }
+    record { cell = one_cell numbering row a.cell b.cell x.cell y.cell; copy = y.copy ∙ sym x.copy; reached = y.reached ∙ sym x.reached }
 
 -- ---- rows
 
@@ -142,16 +143,16 @@ same_rows numbering s (x ∷ xs) (y ∷ ys) is =
     ∙ sym (first_row numbering s x xs)
 
 -- rows of the same values list the same slots
-slots_alike : (numbering : Setup) (rows others : List Tree) (cells cells2 : ℕ → Cell) (reached reached2 : ℕ → Bool) (f g : ℕ → ℕ) → items_view others ≡ items_view rows →
+slots_alike : (numbering : Setup) (rows others : List Tree) (cells cells2 : ℕ → Cell) (reached reached2 : ℕ → Bool) (f g : ℕ → ToldCopy) → items_view others ≡ items_view rows →
     ListsSlots numbering rows (Slots cells reached) f → ListsSlots numbering others (Slots cells2 reached2) g → (s : ℕ) →
-    AreSameSlots (record { cell = cells s; position = f s; reached = reached s }) (record { cell = cells2 s; position = g s; reached = reached2 s })
+    AreSameSlots (record { cell = cells s; copy = f s; reached = reached s }) (record { cell = cells2 s; copy = g s; reached = reached2 s })
 slots_alike numbering rows others cells cells2 reached reached2 f g same x y s =
     one_slot numbering (option_map view (last_with (is_row_of numbering s) rows)) _ _ (by_value numbering _ _ (x s))
-    (subst (λ (row : Option Data). IsToldBy numbering row (record { cell = cells2 s; position = g s; reached = reached2 s })) (same_rows numbering s rows others same)
+    (subst (λ (row : Option Data). IsToldBy numbering row (record { cell = cells2 s; copy = g s; reached = reached2 s })) (same_rows numbering s rows others same)
     (by_value numbering _ _ (y s)))
 
 -- rows of the same values list one inventory
-one_list : (numbering : Setup) (rows others : List Tree) (i j : Inventory) (f g : ℕ → ℕ) → items_view others ≡ items_view rows → ListsSlots numbering rows i f →
+one_list : (numbering : Setup) (rows others : List Tree) (i j : Inventory) (f g : ℕ → ToldCopy) → items_view others ≡ items_view rows → ListsSlots numbering rows i f →
     ListsSlots numbering others j g → j ≡ i
 one_list numbering rows others (Slots cells reached) (Slots cells2 reached2) f g same x y =
     let slots = slots_alike numbering rows others cells cells2 reached reached2 f g same x y in
@@ -162,49 +163,49 @@ one_list numbering rows others (Unknown nonce) j f g same x y = absurd x
 one_list numbering rows others Entries j f g same x y = absurd x
 
 -- so do lines that tell the same
-one_inventory : (numbering : Setup) (t u : InventoryText) (i j : Inventory) (f g : ℕ → ℕ) → IsSameTold t u → IsToldAs numbering t i f → IsToldAs numbering u j g → j ≡ i
+one_inventory : (numbering : Setup) (t u : InventoryText) (i j : Inventory) (f g : ℕ → ToldCopy) → IsSameTold t u → IsToldAs numbering t i f → IsToldAs numbering u j g → j ≡ i
 one_inventory numbering (told.Unknown nonce) (told.Unknown other) i j f g same x y = y ∙ ap (λ n. Unknown n) same ∙ sym x
 one_inventory numbering (told.Slots rows) (told.Slots others) i j f g same x y = one_list numbering rows.now others.now i j f g same x y
 one_inventory numbering told.Map told.Map i j f g same x y = one_list numbering [] [] i j f g refl x y
 one_inventory numbering _ _ i j f g same x y = absurd same
 
--- and the same positions
-one_positions : (numbering : Setup) (t u : InventoryText) (cells : ℕ → Cell) (reached : ℕ → Bool) (f g : ℕ → ℕ) → IsSameTold t u → IsToldAs numbering t (Slots cells reached) f →
+-- and the same copies
+one_copies : (numbering : Setup) (t u : InventoryText) (cells : ℕ → Cell) (reached : ℕ → Bool) (f g : ℕ → ToldCopy) → IsSameTold t u → IsToldAs numbering t (Slots cells reached) f →
     IsToldAs numbering u (Slots cells reached) g → (s : ℕ) → g s ≡ f s
-one_positions numbering (told.Unknown nonce) u cells reached f g same x y s = absurd (let z = x in cc)
-one_positions numbering (told.Slots rows) (told.Slots others) cells reached f g same x y s =
-    (slots_alike numbering rows.now others.now cells cells reached reached f g same x y s).position
-one_positions numbering told.Map told.Map cells reached f g same x y s = (slots_alike numbering [] [] cells cells reached reached f g refl x y s).position
-one_positions numbering _ _ cells reached f g same x y s = absurd same
+one_copies numbering (told.Unknown nonce) u cells reached f g same x y s = absurd (let z = x in cc)
+one_copies numbering (told.Slots rows) (told.Slots others) cells reached f g same x y s =
+    (slots_alike numbering rows.now others.now cells cells reached reached f g same x y s).copy
+one_copies numbering told.Map told.Map cells reached f g same x y s = (slots_alike numbering [] [] cells cells reached reached f g refl x y s).copy
+one_copies numbering _ _ cells reached f g same x y s = absurd same
 
 told_alike : (party : Party) (t u : InventoryText) (i j : Inventory) (new next : ReopeningModel) → next.numbering ≡ new.numbering → IsSameTold t u → IsInventoryOf party t i new →
     IsInventoryOf party u j next → j ≡ i
 told_alike (Server v) t u i j new next same tells x y =
-    one_inventory new.numbering t u i j (λ s. told_positions new.ongoing s v) (λ s. told_positions next.ongoing s v) tells x
-    (subst (λ (rows : Setup). IsToldAs rows u j (λ s. told_positions next.ongoing s v)) same y)
+    one_inventory new.numbering t u i j (λ s. told_copies new.ongoing s v) (λ s. told_copies next.ongoing s v) tells x
+    (subst (λ (rows : Setup). IsToldAs rows u j (λ s. told_copies next.ongoing s v)) same y)
 told_alike MapOwner t u i j new next same tells x y = y ∙ sym x
 
--- what becomes of positions is the same
-positions_alike : (r s new next : ReopeningModel) → AreReopeningsAlike r s → (party : Party) (t u : InventoryText) (i : Inventory) → next.numbering ≡ new.numbering →
+-- what becomes of copies is the same
+copies_alike : (r s new next : ReopeningModel) → AreReopeningsAlike r s → (party : Party) (t u : InventoryText) (i : Inventory) → next.numbering ≡ new.numbering →
     IsSameTold t u → IsInventoryOf party t i new → IsInventoryOf party u i next →
-    KeepsPositions party i (told_positions r.ongoing) (told_positions new.ongoing) → KeepsPositions party i (told_positions s.ongoing) (told_positions next.ongoing) →
-    (k v : ℕ) → told_positions next.ongoing k v ≡ told_positions new.ongoing k v
-positions_alike r s new next is party t u i same tells x y one two k v = by_party party x y one two
+    KeepsCopies party i (told_copies r.ongoing) (told_copies new.ongoing) → KeepsCopies party i (told_copies s.ongoing) (told_copies next.ongoing) →
+    (k v : ℕ) → told_copies next.ongoing k v ≡ told_copies new.ongoing k v
+copies_alike r s new next is party t u i same tells x y one two k v = by_party party x y one two
   where
-    stays : (p : Party) → p ≢ Server v → KeepsPositions p i (told_positions r.ongoing) (told_positions new.ongoing) →
-        KeepsPositions p i (told_positions s.ongoing) (told_positions next.ongoing) → told_positions next.ongoing k v ≡ told_positions new.ongoing k v
-    stays p apart one two = two.others k v apart ∙ ap (λ (f : ℕ → ℕ → ℕ). f k v) is.ongoing.positions ∙ sym (one.others k v apart)
+    stays : (p : Party) → p ≢ Server v → KeepsCopies p i (told_copies r.ongoing) (told_copies new.ongoing) →
+        KeepsCopies p i (told_copies s.ongoing) (told_copies next.ongoing) → told_copies next.ongoing k v ≡ told_copies new.ongoing k v
+    stays p apart one two = two.others k v apart ∙ ap (λ (f : ℕ → ℕ → ToldCopy). f k v) is.ongoing.copies ∙ sym (one.others k v apart)
 
     by_inventory : (j : Inventory) → IsInventoryOf (Server v) t j new → IsInventoryOf (Server v) u j next →
-        KeepsPositions (Server v) j (told_positions r.ongoing) (told_positions new.ongoing) →
-        KeepsPositions (Server v) j (told_positions s.ongoing) (told_positions next.ongoing) → told_positions next.ongoing k v ≡ told_positions new.ongoing k v
+        KeepsCopies (Server v) j (told_copies r.ongoing) (told_copies new.ongoing) →
+        KeepsCopies (Server v) j (told_copies s.ongoing) (told_copies next.ongoing) → told_copies next.ongoing k v ≡ told_copies new.ongoing k v
     by_inventory (Unknown nonce) x y one two = two.unknown k v nonce refl refl ∙ sym (one.unknown k v nonce refl refl)
     by_inventory (Slots cells reached) x y one two =
-        one_positions new.numbering t u cells reached (λ z. told_positions new.ongoing z v) (λ z. told_positions next.ongoing z v) tells x
-        (subst (λ (rows : Setup). IsToldAs rows u (Slots cells reached) (λ z. told_positions next.ongoing z v)) same y) k
+        one_copies new.numbering t u cells reached (λ z. told_copies new.ongoing z v) (λ z. told_copies next.ongoing z v) tells x
+        (subst (λ (rows : Setup). IsToldAs rows u (Slots cells reached) (λ z. told_copies next.ongoing z v)) same y) k
     by_inventory Entries x y one two = absurd (no_entries t x)
       where
-        no_entries : (z : InventoryText) → IsToldAs new.numbering z Entries (λ z. told_positions new.ongoing z v) → ⊥
+        no_entries : (z : InventoryText) → IsToldAs new.numbering z Entries (λ z. told_copies new.ongoing z v) → ⊥
         no_entries (told.Unknown nonce) x = absurd (let e = x in cc)
         no_entries (told.Slots rows) x = x
         no_entries told.Map x = x
@@ -212,13 +213,13 @@ positions_alike r s new next is party t u i same tells x y one two k v = by_part
     one_server : (a b : ℕ) → Server a ≡ Server b → b ≡ a
     one_server a b e = cc
 
-    by_party : (p : Party) → IsInventoryOf p t i new → IsInventoryOf p u i next → KeepsPositions p i (told_positions r.ongoing) (told_positions new.ongoing) →
-        KeepsPositions p i (told_positions s.ongoing) (told_positions next.ongoing) → told_positions next.ongoing k v ≡ told_positions new.ongoing k v
+    by_party : (p : Party) → IsInventoryOf p t i new → IsInventoryOf p u i next → KeepsCopies p i (told_copies r.ongoing) (told_copies new.ongoing) →
+        KeepsCopies p i (told_copies s.ongoing) (told_copies next.ongoing) → told_copies next.ongoing k v ≡ told_copies new.ongoing k v
     by_party MapOwner x y one two = stays MapOwner (λ (e : MapOwner ≡ Server v). absurd (let z = e in cc)) one two
     by_party (Server w) x y one two = elim (cases_eq v w) [
       | inl e ↦ by_inventory i (subst (λ n. IsInventoryOf (Server n) t i new) (sym e) x) (subst (λ n. IsInventoryOf (Server n) u i next) (sym e) y)
-          (subst (λ n. KeepsPositions (Server n) i (told_positions r.ongoing) (told_positions new.ongoing)) (sym e) one)
-          (subst (λ n. KeepsPositions (Server n) i (told_positions s.ongoing) (told_positions next.ongoing)) (sym e) two)
+          (subst (λ n. KeepsCopies (Server n) i (told_copies r.ongoing) (told_copies new.ongoing)) (sym e) one)
+          (subst (λ n. KeepsCopies (Server n) i (told_copies s.ongoing) (told_copies next.ongoing)) (sym e) two)
       | inr e ↦ stays (Server w) (λ (z : Server w ≡ Server v). e (one_server w v z)) one two
     ]
 
@@ -230,13 +231,13 @@ roles_stay : (old new : ReopeningModel) → new.documented ≡ old.documented �
 roles_stay old new documented servers = ap₂ (λ (n : ℕ) (d : Roles). grid_of n None d.list.items) servers documented
 
 stay_alike : (r s new next : ReopeningModel) → AreReopeningsAlike r s → IsUnder r new → IsUnder s next → net_reopening next.ongoing ≡ net_reopening new.ongoing →
-    told_positions next.ongoing ≡ told_positions new.ongoing → (net_reopening new.ongoing).servers ≡ (net_reopening r.ongoing).servers →
+    told_copies next.ongoing ≡ told_copies new.ongoing → (net_reopening new.ongoing).servers ≡ (net_reopening r.ongoing).servers →
     (net_reopening next.ongoing).servers ≡ (net_reopening s.ongoing).servers → option_map settled_of next.next ≡ option_map settled_of new.next →
     AreReopeningsAlike new next
-stay_alike r s new next is x y same positions one two kept = record {
+stay_alike r s new next is x y same copies one two kept = record {
   ongoing = record {
     reopening = same;
-    positions = positions;
+    copies = copies;
     rest = record {
       left_out = y.same.left_out ∙ is.ongoing.rest.left_out ∙ sym x.same.left_out;
       setup = y.same.setup ∙ is.ongoing.rest.setup ∙ sym x.same.setup;
@@ -287,9 +288,9 @@ fenced_alike r s is server other base t u new next name tells (p, named, (i, tol
     ∙ ap (λ (z : Inventory). entered (Told p base z) (net_reopening s.ongoing)) told_same
     ∙ ap (λ (z : Reopening). entered (Told p base i) z) is.ongoing.reopening
     ∙ sym x.taken)
-    (fun_ext (λ k. fun_ext (λ v. positions_alike r s new next is p t u i numbers tells told_i
-    (subst₂ (λ (z : Party) (m : Inventory). IsInventoryOf z u m next) party told_same told_j) x.positions
-    (subst₂ (λ (z : Party) (m : Inventory). KeepsPositions z m (told_positions s.ongoing) (told_positions next.ongoing)) party told_same y.positions) k v)))
+    (fun_ext (λ k. fun_ext (λ v. copies_alike r s new next is p t u i numbers tells told_i
+    (subst₂ (λ (z : Party) (m : Inventory). IsInventoryOf z u m next) party told_same told_j) x.copies
+    (subst₂ (λ (z : Party) (m : Inventory). KeepsCopies z m (told_copies s.ongoing) (told_copies next.ongoing)) party told_same y.copies) k v)))
     (ap (λ (z : Reopening). z.servers) x.taken ∙ (told_framed p base i (net_reopening r.ongoing)).servers)
     (ap (λ (z : Reopening). z.servers) y.taken ∙ (told_framed q base j (net_reopening s.ongoing)).servers)
     (next_stays r s new next is x.next y.next)
@@ -304,7 +305,7 @@ settled_alike r s is server other base new next name (p, named, x) (q, also, y) 
     ∙ ap (λ (z : Party). entered (Took z base) (net_reopening s.ongoing)) party
     ∙ ap (λ (z : Reopening). entered (Took p base) z) is.ongoing.reopening
     ∙ sym x.taken)
-    (y.positions ∙ is.ongoing.positions ∙ sym x.positions)
+    (y.copies ∙ is.ongoing.copies ∙ sym x.copies)
     (ap (λ (z : Reopening). z.servers) x.taken ∙ (took_framed p base (net_reopening r.ongoing)).servers)
     (ap (λ (z : Reopening). z.servers) y.taken ∙ (took_framed q base (net_reopening s.ongoing)).servers)
     (next_stays r s new next is x.next y.next)
@@ -323,7 +324,7 @@ pub confirmed_alike : (r s : ReopeningModel) → AreReopeningsAlike r s → (bas
 confirmed_alike r s is base cells lost others more new next values (at, names, x, (said, read, made)) (at2, names2, y, (said2, read2, made2)) =
     stay_alike r s new next is x.under y.under
     (y.taken ∙ ap₂ (λ (z : Settlement) (n : Reopening). entered (Confirm z) n) settlement is.ongoing.reopening ∙ sym x.taken)
-    (y.positions ∙ is.ongoing.positions ∙ sym x.positions)
+    (y.copies ∙ is.ongoing.copies ∙ sym x.copies)
     (ap (λ (z : Reopening). z.servers) x.taken)
     (ap (λ (z : Reopening). z.servers) y.taken)
     (ap (option_map settled_of) y.kept.kept ∙ ap₂ kept_of kept_setup kept_place ∙ sym (ap (option_map settled_of) x.kept.kept))

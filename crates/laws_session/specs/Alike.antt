@@ -3,7 +3,7 @@ use Rattle.std.specs.Prelude.{◌≡◌, Option, Some, None, option_map}
 use Rattle.sm_plan_text.specs.Reading.{rows_of}
 use Rattle.sm_driver.specs.Alike.{AreAlike}
 use Rattle.sm_driver.specs.Driver.{DriverModel}
-use Rattle.sm_reopening.specs.Ongoing.{IsSameButTold, net_reopening, told_positions}
+use Rattle.sm_reopening.specs.Ongoing.{IsSameButTold, net_reopening, told_copies}
 use Rattle.sm_reopening.specs.Settles.{settled_of}
 use Rattle.sm_reopening.specs.declared.ongoing.OngoingReopening.{OngoingReopening}
 use Rattle.smpland_reopening.specs.Proposal.{documented_roles}
@@ -17,10 +17,10 @@ AreDriversAlike None None = Unit {0}
 AreDriversAlike (Some d) (Some e) = AreAlike d e
 AreDriversAlike _ _ = ⊥
 
--- To the laws of the network both reopenings are one. The same positions were told, the same is recorded, and the same servers are left out.
+-- To the laws of the network both reopenings are one. The same copies were told, the same is recorded, and the same servers are left out.
 pub record AreOngoingAlike (x y : OngoingReopening) : Type 0 where
   pub reopening : net_reopening y ≡ net_reopening x
-  pub positions : told_positions y ≡ told_positions x
+  pub copies : told_copies y ≡ told_copies x
   pub rest : IsSameButTold x y
 
 -- So they are with what they are under: journal, epoch, rows of the document, numbers, roles and permits. Once a settlement is confirmed, the next

@@ -21,7 +21,7 @@ use Rattle.sm_reopening.specs.declared.party.Inventory.TheVariants as told
 use Rattle.sm_reopening.specs.declared.party.Membership.TheVariants.{Member}
 use Rattle.sm_reopening.specs.declared.state.ServerState.{ServerState}
 use Rattle.sm_reopening.specs.States.{FitsShards, fits_told, fresh_state, is_gone, is_leaving, net_inventory, no_slot, slot_in, state_by}
-use Rattle.sm_reopening.specs.Ongoing.{first_awaited, is_waited_for, is_complete, left_out_of, may_carry, told_positions, past_state, recorded_place, recorded_setup, net_reopening, shards_of, inventory_slot, told_slot}
+use Rattle.sm_reopening.specs.Ongoing.{first_awaited, is_waited_for, is_complete, left_out_of, may_carry, told_copies, past_state, recorded_place, recorded_setup, net_reopening, shards_of, inventory_slot, told_slot}
 use Rattle.sm_reopening.specs.Survivors.{standing_of, stands_above}
 use Rattle.sm_reopening.specs.Faults.{IsFairAt, IsFairCell, IsFairSlot, IsTimely, KeepsSlot, MayConfirm, is_appointed, is_barred}
 use Rattle.sm_reopening.proofs.Standings.{below_claim}
@@ -42,7 +42,7 @@ not_carried x v l = ap (λ b. (b && not ((net_reopening x).lost v)) && (is_none 
 pub nothing_beyond : (x : OngoingReopening) (k v : ℕ) (slot : FoundSlot) → FitsShards x.shards x.servers.items → x.shards ≤ k → told_slot x k v ≡ Some slot → slot.cell ≡ Absent
 nothing_beyond x k v slot fits l e = go (state_by x.servers.items v).told (fits v) e
   where
-    go : (t : Option Told) → fits_told x.shards t ≡ true → inventory_slot (option_map net_inventory t) (told_positions x k v) k ≡ Some slot → slot.cell ≡ Absent
+    go : (t : Option Told) → fits_told x.shards t ≡ true → inventory_slot (option_map net_inventory t) (told_copies x k v) k ≡ Some slot → slot.cell ≡ Absent
     go (Some (told.Slots slots)) f s =
         let small : length slots.items ≤ x.shards = leb-true (length slots.items) x.shards f in
         let past : slot_in slots.items k ≡ no_slot = get_or_past slots.items k no_slot (omega arith) in
@@ -79,7 +79,7 @@ fair_everywhere x s ready fair k v = elim (cases_lt v (length x.servers.items)) 
   ]
   | inr past ↦
       let next : s.place.cells k v ≡ Absent = ready.placement.no_server k v (omega (arith, ready.servers)) in
-      let none : told_slot x k v ≡ None = ap (λ t. inventory_slot t (told_positions x k v) k) (none_told x v past) in (
+      let none : told_slot x k v ≡ None = ap (λ t. inventory_slot t (told_copies x k v) k) (none_told x v past) in (
         record {
           lost = λ e. next;
           carried = λ e. absurd (let z = not_carried x v past in cc);
@@ -125,12 +125,12 @@ may_confirm x s ready timely fair =
         servers = ready.servers;
         map = complete.0;
         answered = λ v asked. elim (told v asked) [ inl t ↦ inl t | inr m ↦ inr (and_parts (is_carried (net_reopening x) (past_state x) v) (not (left_out_of x v)) m).0 ];
-        kept = λ k v cells reached e. ((fair k v).1.kept (record { cell = cells k; position = told_positions x k v; reached = reached k }) (ap (λ t. inventory_slot t (told_positions x k v) k) e)).0;
+        kept = λ k v cells reached e. ((fair k v).1.kept (record { cell = cells k; copy = told_copies x k v; reached = reached k }) (ap (λ t. inventory_slot t (told_copies x k v) k) e)).0;
         carried = λ k v e. (fair k v).0.carried e;
         down = timely.down;
         lost = λ k v e. (fair k v).0.lost e;
         claims = λ k u v e. below_claim (standing_of x k u) (standing_of x k v) ((fair k v).0.best e u);
-        handed = λ k v cells reached e h. (fair k v).1.handed (record { cell = cells k; position = told_positions x k v; reached = reached k }) (ap (λ t. inventory_slot t (told_positions x k v) k) e) h;
+        handed = λ k v cells reached e h. (fair k v).1.handed (record { cell = cells k; copy = told_copies x k v; reached = reached k }) (ap (λ t. inventory_slot t (told_copies x k v) k) e) h;
       };
       best = λ k u v e. (fair k v).0.best e u;
       told = λ v left asked. elim (told v asked) [
@@ -177,10 +177,10 @@ is_fair x s may k v = (
   },
 )
   where
-    kept_by : (slot : FoundSlot) (o : Option Inventory) → (net_reopening x).told (Server v) ≡ o → inventory_slot o (told_positions x k v) k ≡ Some slot → Keeps slot.cell (s.place.cells k v)
+    kept_by : (slot : FoundSlot) (o : Option Inventory) → (net_reopening x).told (Server v) ≡ o → inventory_slot o (told_copies x k v) k ≡ Some slot → Keeps slot.cell (s.place.cells k v)
     kept_by slot (Some (Slots cells reached)) e t = subst (λ c. Keeps c (s.place.cells k v)) (cc) (may.allowed.kept k v cells reached e)
     kept_by slot _ e t = absurd (cc)
 
-    handed_by : (slot : FoundSlot) (o : Option Inventory) → (net_reopening x).told (Server v) ≡ o → inventory_slot o (told_positions x k v) k ≡ Some slot → is_handing slot.cell ≡ true → (u : ℕ) × (s.place.cells k u ≡ Primary)
+    handed_by : (slot : FoundSlot) (o : Option Inventory) → (net_reopening x).told (Server v) ≡ o → inventory_slot o (told_copies x k v) k ≡ Some slot → is_handing slot.cell ≡ true → (u : ℕ) × (s.place.cells k u ≡ Primary)
     handed_by slot (Some (Slots cells reached)) e t h = may.allowed.handed k v cells reached e (subst (λ c. is_handing c ≡ true) (cc) h)
     handed_by slot _ e t h = absurd (cc)

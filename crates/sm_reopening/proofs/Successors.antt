@@ -5,22 +5,23 @@ use Rattle.std.specs.List.{range_with_len}
 use Rattle.std.proofs.lemmas.Bool.{and_from, cases_Bool, cases_eq, cases_lt, lt-ltb}
 use Rattle.laws_network.specs.Reopening.{Inventory, Server}
 use Rattle.laws_network.specs.ReopeningLaws.{claim, claim_told}
+use Rattle.sm_copies.specs.Order.{is_greater}
 use Rattle.sm_reopening.specs.declared.ongoing.OngoingReopening.{OngoingReopening}
 use Rattle.sm_reopening.specs.declared.survivors.Standing.{Standing}
 use Rattle.sm_reopening.specs.Ongoing.{recorded_place, net_reopening}
 use Rattle.sm_reopening.specs.Survivors.{HasNoSurvivor, IsSuccessorOf, successor_of, is_best, standing_of, stands_above}
-use Rattle.sm_reopening.proofs.Standings.{above_all, above_means, below_claim, not_above, not_above_itself, still_below}
+use Rattle.sm_reopening.proofs.Standings.{above_all, above_means, below_claim, not_above, not_above_itself, not_greater, still_below}
 use Rattle.std.proofs.lemmas.List.{get_or_past}
 use Rattle.sm_placement.specs.Opening.{first_below}
 use Rattle.sm_placement.proofs.Searches.{cases_Option, find_filter, first_listed, first_none, first_none_from}
 use Rattle.sm_reopening.specs.declared.party.Membership.TheVariants.{Member}
 use Rattle.sm_reopening.specs.declared.state.ServerState.{ServerState}
-use Rattle.sm_reopening.specs.States.{fresh_state, told_position}
+use Rattle.sm_reopening.specs.States.{fresh_state, no_copy, told_copy}
 use Rattle.sm_reopening.proofs.Confirming.{none_told, not_carried}
 
 -- Among the servers below i this one inherits, and has this standing. If none does, it is lower than any with a claim.
 pub record IsBestBelow (x : OngoingReopening) (s i : ℕ) (successor : Option ℕ) (top : Standing) : Type 0 where
-  pub nobody : successor ≡ None → top.position ≡ 18446744073709551615
+  pub nobody : successor ≡ None → top.copy ≡ record { view = 18446744073709551615; position = 18446744073709551615 }
   pub nothing : successor ≡ None → top.claim ≡ 0
   pub known : (u : ℕ) → successor ≡ Some u → u < i
   pub claims : (u : ℕ) → successor ≡ Some u → 0 < top.claim
@@ -29,9 +30,10 @@ pub record IsBestBelow (x : OngoingReopening) (s i : ℕ) (successor : Option �
   pub first : (u k : ℕ) → successor ≡ Some u → k < u → stands_above top (standing_of x s k) ≡ true
 
 -- one more server, which stands above
-pub better_next : (x : OngoingReopening) (s i : ℕ) (successor : Option ℕ) (best new : Standing) → new ≡ standing_of x s i → new.position ≤ 18446744073709551615 →
+pub better_next : (x : OngoingReopening) (s i : ℕ) (successor : Option ℕ) (best new : Standing) → new ≡ standing_of x s i →
+    new.copy.view ≤ 18446744073709551615 → new.copy.position ≤ 18446744073709551615 →
     IsBestBelow x s i successor best → stands_above new best ≡ true → IsBestBelow x s (i + 1) (Some i) new
-better_next x s i successor best new e small b above = record {
+better_next x s i successor best new e view position b above = record {
   nobody = λ n. absurd (cc);
   nothing = λ n. absurd (cc);
   known = λ u d. let same : i ≡ u = cc in omega arith;
@@ -45,7 +47,12 @@ better_next x s i successor best new e small b above = record {
 }
   where
     has_claim : (o : Option ℕ) → successor ≡ o → 0 < new.claim
-    has_claim None h = let a = b.nobody h in let n = b.nothing h in elim (above_means new best above) [ inl l ↦ omega arith | inr m ↦ let p = m.1 in absurd (omega arith) ]
+    has_claim None h = let a = b.nobody h in let n = b.nothing h in elim (above_means new best above) [
+      | inl l ↦ omega arith
+      | inr m ↦
+          let less : is_greater new.copy best.copy ≡ false = ap (is_greater new.copy) a ∙ not_greater new.copy _ view position in
+          absurd (let z = sym less ∙ m.1 in cc)
+    ]
     has_claim (Some u) h = let a = b.claims u h in elim (above_means new best above) [ inl l ↦ omega arith | inr m ↦ let p = m.0 in omega arith ]
 
 -- one more server, which does not
@@ -101,8 +108,9 @@ none_better x s v none u = elim (cases_lt u (length x.servers.items)) [
   | inl l ↦ first_none (length x.servers.items) (λ w. stands_above (standing_of x s w) (standing_of x s v)) none u l
   | inr l ↦
       let claim = no_claim_past x s u l in
-      let position : (standing_of x s u).position ≡ 0 = ap (λ (t : ServerState). told_position t.told s) (get_or_past x.servers.items u (fresh_state Member) l) in
-      not_above (standing_of x s u) (standing_of x s v) (omega arith) (λ q. omega arith)
+      let copy : (standing_of x s u).copy ≡ no_copy = ap (λ (t : ServerState). told_copy t.told s) (get_or_past x.servers.items u (fresh_state Member) l) in
+      not_above (standing_of x s u) (standing_of x s v) (omega arith)
+      (λ q. ap (λ c. is_greater c (standing_of x s v).copy) copy ∙ not_greater no_copy (standing_of x s v).copy (omega arith) (omega arith))
 ]
 
 -- one server inherits at most

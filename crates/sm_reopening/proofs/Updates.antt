@@ -12,7 +12,7 @@ use Rattle.sm_reopening.specs.declared.party.Membership.{Membership}
 use Rattle.sm_reopening.specs.declared.party.Membership.TheVariants.{Member}
 use Rattle.sm_reopening.specs.declared.state.ServerState.{ServerState}
 use Rattle.sm_reopening.specs.declared.state.Confirmed.{Confirmed}
-use Rattle.sm_reopening.specs.States.{AreNextStates, FitsShards, next_state, fits_told, fresh_state, is_gone, is_leaving, is_left_out, says_lost, left_out_by, net_inventory, no_positions, position_by, promised_by, reopening_by, settled_by, settlement_by, state_by, told_by, told_position}
+use Rattle.sm_reopening.specs.States.{AreNextStates, FitsShards, next_state, fits_told, fresh_state, is_gone, is_leaving, is_left_out, says_lost, left_out_by, net_inventory, no_copies, copy_by, promised_by, reopening_by, settled_by, settlement_by, state_by, told_by, told_copy}
 
 -- the server that has changed
 pub state_here : (xs : List ServerState) (i : ℕ) (y : ServerState) → i < length xs → state_by (set xs i y) i ≡ y
@@ -103,12 +103,12 @@ promised_still xs c i y l e d =
     let f : ServerState → Bool = λ s. s.promised || (is_some c && is_some (option_map net_inventory s.told)) in
     same_of_all f xs i y l (ap (λ b. b || (is_some c && is_some (option_map net_inventory y.told))) e ∙ ap (λ (t : Option Told). (state_by xs i).promised || (is_some c && is_some (option_map net_inventory t))) d)
 
--- the positions once a server has told
-pub position_put : (xs : List ServerState) (i : ℕ) (y : ServerState) (s v : ℕ) → i < length xs →
-    position_by (set xs i y) s v ≡ (if v == i then told_position y.told s else position_by xs s v)
-position_put xs i y s v l = elim (cases_eq v i) [
-  | inl d ↦ ap (λ k. told_position (state_by (set xs i y) k).told s) d ∙ ap (λ (t : ServerState). told_position t.told s) (state_here xs i y l) ∙ ap (λ (b : Bool). if b then told_position y.told s else position_by xs s v) (sym (eq-eqb v i d))
-  | inr d ↦ ap (λ (t : ServerState). told_position t.told s) (state_apart xs i y v d) ∙ ap (λ (b : Bool). if b then told_position y.told s else position_by xs s v) (sym (ne_eqb v i d))
+-- the copies once a server has told
+pub copy_put : (xs : List ServerState) (i : ℕ) (y : ServerState) (s v : ℕ) → i < length xs →
+    copy_by (set xs i y) s v ≡ (if v == i then told_copy y.told s else copy_by xs s v)
+copy_put xs i y s v l = elim (cases_eq v i) [
+  | inl d ↦ ap (λ k. told_copy (state_by (set xs i y) k).told s) d ∙ ap (λ (t : ServerState). told_copy t.told s) (state_here xs i y l) ∙ ap (λ (b : Bool). if b then told_copy y.told s else copy_by xs s v) (sym (eq-eqb v i d))
+  | inr d ↦ ap (λ (t : ServerState). told_copy t.told s) (state_apart xs i y v d) ∙ ap (λ (b : Bool). if b then told_copy y.told s else copy_by xs s v) (sym (ne_eqb v i d))
 ]
 
 -- no inventory has become too long
@@ -151,9 +151,9 @@ settled_reopening b xs mt ms c i y l em et es ep =
 pub left_out_same : (xs : List ServerState) (i : ℕ) (y : ServerState) → i < length xs → y.membership ≡ (state_by xs i).membership → left_out_by (set xs i y) ≡ left_out_by xs
 left_out_same xs i y l e = same_of_all (λ (s : ServerState). is_leaving s.membership) xs i y l (ap is_leaving e)
 
--- positions stay unless a server tells
-pub position_same : (xs : List ServerState) (i : ℕ) (y : ServerState) → i < length xs → y.told ≡ (state_by xs i).told → position_by (set xs i y) ≡ position_by xs
-position_same xs i y l e = fun_ext (λ s. same_of_all (λ (t : ServerState). told_position t.told s) xs i y l (ap (λ (o : Option Told). told_position o s) e))
+-- copies stay unless a server tells
+pub copy_same : (xs : List ServerState) (i : ℕ) (y : ServerState) → i < length xs → y.told ≡ (state_by xs i).told → copy_by (set xs i y) ≡ copy_by xs
+copy_same xs i y l e = fun_ext (λ s. same_of_all (λ (t : ServerState). told_copy t.told s) xs i y l (ap (λ (o : Option Told). told_copy o s) e))
 
 -- who has told is one of the servers
 pub told_is_known : (xs : List ServerState) (mt : Bool) (v : ℕ) → is_some (told_by xs mt (Server v)) ≡ true → v < length xs
@@ -185,9 +185,9 @@ fresh_reopening b n ms l =
     settled (Server v) = ap (λ (s : ServerState). s.settled) (fresh_at ms v)
     settled MapOwner = refl
 
--- no position is known
-pub fresh_positions : (ms : List Membership) → position_by (map fresh_state ms) ≡ no_positions
-fresh_positions ms = fun_ext (λ s. fun_ext (λ v. ap (λ (t : ServerState). told_position t.told s) (fresh_at ms v)))
+-- no copy is known
+pub fresh_copies : (ms : List Membership) → copy_by (map fresh_state ms) ≡ no_copies
+fresh_copies ms = fun_ext (λ s. fun_ext (λ v. ap (λ (t : ServerState). told_copy t.told s) (fresh_at ms v)))
 
 -- who the document leaves out
 pub fresh_left_out : (ms : List Membership) → left_out_by (map fresh_state ms) ≡ is_left_out ms
@@ -237,9 +237,9 @@ next_reopening b ms xs r l known =
     or_none true = refl
     or_none false = refl
 
--- no position is known there
-pub next_positions : (ms : List Membership) (p : ℕ → Bool) (xs : List ServerState) → AreNextStates ms p xs → position_by xs ≡ no_positions
-next_positions ms p xs known = fun_ext (λ s. fun_ext (λ v. ap (λ (t : ServerState). told_position t.told s) (known.1 v)))
+-- no copy is known there
+pub next_copies : (ms : List Membership) (p : ℕ → Bool) (xs : List ServerState) → AreNextStates ms p xs → copy_by xs ≡ no_copies
+next_copies ms p xs known = fun_ext (λ s. fun_ext (λ v. ap (λ (t : ServerState). told_copy t.told s) (known.1 v)))
 
 -- who the document leaves out
 pub next_left_out : (ms : List Membership) (p : ℕ → Bool) (xs : List ServerState) → AreNextStates ms p xs → left_out_by xs ≡ is_left_out ms

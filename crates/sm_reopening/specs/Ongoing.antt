@@ -5,20 +5,21 @@ use Rattle.sm_placement.specs.Opening.{first_below}
 use Rattle.sm_placement.specs.Place.{Place}
 use Rattle.sm_placement.specs.Setup.{Setup, sizes_of}
 use Rattle.sm_protocol.specs.State.{State, opened}
+use Rattle.sm_copies.specs.declared.order.ToldCopy.{ToldCopy}
 use Rattle.laws_network.specs.Reopening.{Inventory, MapOwner, Party, Reopening, Server, Slots, is_asked, is_first}
 use Rattle.laws_network.specs.ReopeningLaws.{is_carried}
 use Rattle.sm_reopening.specs.declared.ongoing.OngoingReopening.{OngoingReopening}
 use Rattle.sm_reopening.specs.declared.party.FoundSlot.{FoundSlot}
 use Rattle.sm_reopening.specs.declared.party.Inventory.{Inventory as Told}
-use Rattle.sm_reopening.specs.States.{left_out_by, position_by, reopening_by, told_position}
+use Rattle.sm_reopening.specs.States.{left_out_by, copy_by, reopening_by, told_copy}
 
 -- the reopening of which the network's laws speak
 abbrev pub net_reopening : OngoingReopening → Reopening
 net_reopening x = reopening_by x.base x.servers.items x.map_told x.map_settled x.confirmed
 
--- by shard and server, the position that was told
-abbrev pub told_positions : OngoingReopening → ℕ → ℕ → ℕ
-told_positions x = position_by x.servers.items
+-- by shard and server, the copy that was told
+abbrev pub told_copies : OngoingReopening → ℕ → ℕ → ToldCopy
+told_copies x = copy_by x.servers.items
 
 -- who is left out of the document
 abbrev pub left_out_of : OngoingReopening → ℕ → Bool
@@ -63,23 +64,23 @@ first_awaited x = first_below (net_reopening x).servers (is_waited_for x)
 abbrev pub is_complete : OngoingReopening → Bool
 is_complete x = is_some ((net_reopening x).told MapOwner) && is_none (first_awaited x)
 
--- what an inventory tells of a shard, if it has slots
-abbrev pub inventory_slot : Option Inventory → ℕ → ℕ → Option FoundSlot
-inventory_slot (Some (Slots cells reached)) position s = Some (record { cell = cells s; position = position; reached = reached s })
-inventory_slot _ position s = None
+-- what an inventory tells of a shard, if it has slots, with this copy
+abbrev pub inventory_slot : Option Inventory → ToldCopy → ℕ → Option FoundSlot
+inventory_slot (Some (Slots cells reached)) copy s = Some (record { cell = cells s; copy = copy; reached = reached s })
+inventory_slot _ copy s = None
 
 -- what a server has told of a shard, unless it is Unknown
 abbrev pub told_slot : OngoingReopening → ℕ → ℕ → Option FoundSlot
-told_slot x s v = inventory_slot ((net_reopening x).told (Server v)) (told_positions x s v) s
+told_slot x s v = inventory_slot ((net_reopening x).told (Server v)) (told_copies x s v) s
 
--- the positions with what a server has told
-abbrev pub put_position : (ℕ → ℕ → ℕ) → ℕ → Told → ℕ → ℕ → ℕ
-put_position f v inventory s u = if u == v then told_position (Some inventory) s else f s u
+-- the copies with what a server has told
+abbrev pub put_copy : (ℕ → ℕ → ToldCopy) → ℕ → Told → ℕ → ℕ → ToldCopy
+put_copy f v inventory s u = if u == v then told_copy (Some inventory) s else f s u
 
--- the positions once a server has told what it has, if that counts
-abbrev pub position_after : OngoingReopening → ℕ → ℕ → Told → ℕ → ℕ → ℕ
-position_after x v base inventory =
-    if is_first (net_reopening x) (Server v) base then put_position (told_positions x) v inventory else told_positions x
+-- the copies once a server has told what it has, if that counts
+abbrev pub copies_after : OngoingReopening → ℕ → ℕ → Told → ℕ → ℕ → ToldCopy
+copies_after x v base inventory =
+    if is_first (net_reopening x) (Server v) base then put_copy (told_copies x) v inventory else told_copies x
 
 -- nothing has changed but what was told
 pub record IsSameButTold (old new : OngoingReopening) : Type 0 where

@@ -64,7 +64,7 @@ abbrev pub is_documented : OngoingReopening → Documented → ℕ → Bool
 is_documented x d s = is_some (first_below (net_reopening x).servers (λ v. is_primary_role (d s v)))
 
 -- The shard gets a primary: it has a lead; or nobody holds a replica, and the document has a primary for it. Between secondaries without a lead no
--- reopening chooses, since their positions may be of different primaries: a plan's change does.
+-- reopening chooses, since they may tell no views: a plan's change asks each.
 abbrev pub is_led : OngoingReopening → Documented → ℕ → Bool
 is_led x d s = has_known_lead x s || (not (is_held x s) && is_documented x d s)
 

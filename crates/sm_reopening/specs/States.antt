@@ -2,6 +2,7 @@
 -- `next_state` and `AreNextStates` are internal: you need not read them for the public contracts.
 use Rattle.std.specs.Prelude.{◌≡◌, ℕ, ◌&&◌, ◌||◌, Bool, true, false, Option, Some, None, List, length, is_some, nat_le, option_map, slice_index_or, if◌then◌else◌}
 use Rattle.sm_server.specs.declared.call.Cell.TheVariants.{Absent}
+use Rattle.sm_copies.specs.declared.order.ToldCopy.{ToldCopy}
 use Rattle.sm_placement.specs.Layout.{place_of}
 use Rattle.laws_network.specs.Reopening.{Inventory, MapOwner, Party, Reopening, Server, Settlement, Slots, Unknown, Entries}
 use Rattle.sm_reopening.specs.declared.party.FoundSlot.{FoundSlot}
@@ -14,9 +15,13 @@ use Rattle.sm_reopening.specs.declared.state.Confirmed.{Confirmed}
 
 -- ---- what is told
 
+-- the copy of a server that has none, or tells of none
+abbrev pub no_copy : ToldCopy
+no_copy = record { view = 0; position = 0 }
+
 -- a server has nothing of a shard of which it tells nothing
 abbrev pub no_slot : FoundSlot
-no_slot = record { cell = Absent; position = 0; reached = false }
+no_slot = record { cell = Absent; copy = no_copy; reached = false }
 
 -- what is told of a shard
 abbrev pub slot_in : List FoundSlot → ℕ → FoundSlot
@@ -27,14 +32,14 @@ abbrev pub net_inventory : Told → Inventory
 net_inventory (told.Slots slots) = Slots (λ s. (slot_in slots.items s).cell) (λ s. (slot_in slots.items s).reached)
 net_inventory (told.Unknown nonce) = Unknown nonce
 
--- the position that is told of a shard
-abbrev pub told_position : Option Told → ℕ → ℕ
-told_position (Some (told.Slots slots)) s = (slot_in slots.items s).position
-told_position _ s = 0
+-- the copy that is told of a shard
+abbrev pub told_copy : Option Told → ℕ → ToldCopy
+told_copy (Some (told.Slots slots)) s = (slot_in slots.items s).copy
+told_copy _ s = no_copy
 
--- no position is told yet
-abbrev pub no_positions : ℕ → ℕ → ℕ
-no_positions s v = 0
+-- no copy is told yet
+abbrev pub no_copies : ℕ → ℕ → ToldCopy
+no_copies s v = no_copy
 
 -- ---- who takes part
 
@@ -104,9 +109,9 @@ reopening_by base xs map_told map_settled confirmed = record {
   promised = promised_by xs confirmed;
 }
 
--- the positions that were told
-abbrev pub position_by : List ServerState → ℕ → ℕ → ℕ
-position_by xs s v = told_position (state_by xs v).told s
+-- the copies that were told
+abbrev pub copy_by : List ServerState → ℕ → ℕ → ToldCopy
+copy_by xs s v = told_copy (state_by xs v).told s
 
 -- who is left out
 abbrev pub left_out_by : List ServerState → ℕ → Bool

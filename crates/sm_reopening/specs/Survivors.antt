@@ -1,25 +1,26 @@
 -- The successors of a shard: the survivors, by what they told or are recorded to have.
 -- `slot_claim` is internal: you need not read it for the public contracts.
 use Rattle.std.specs.Prelude.{◌≡◌, ◌<◌, ℕ, ◌&&◌, ◌||◌, ◌==◌, Bool, true, false, Option, Some, None, is_none, nat_lt}
+use Rattle.sm_copies.specs.Order.{is_greater}
 use Rattle.sm_placement.specs.Opening.{first_below}
 use Rattle.laws_network.specs.ReopeningLaws.{claim, claim_of}
 use Rattle.sm_reopening.specs.declared.ongoing.OngoingReopening.{OngoingReopening}
 use Rattle.sm_reopening.specs.declared.survivors.Standing.{Standing}
-use Rattle.sm_reopening.specs.Ongoing.{told_positions, past_state, net_reopening}
+use Rattle.sm_reopening.specs.Ongoing.{told_copies, past_state, net_reopening}
 use Rattle.sm_reopening.specs.declared.party.FoundSlot.{FoundSlot}
 
--- The first stands above the second: it has a better claim, or an equal one with more of the shard's writes.
+-- The first stands above the second: it has a better claim, or an equal one with the greater copy.
 abbrev pub stands_above : Standing → Standing → Bool
-stands_above a b = nat_lt b.claim a.claim || ((a.claim == b.claim) && nat_lt b.position a.position)
+stands_above a b = nat_lt b.claim a.claim || ((a.claim == b.claim) && is_greater a.copy b.copy)
 
 -- the claim that what was told of a shard gives
 abbrev pub slot_claim : Option FoundSlot → ℕ
 slot_claim (Some slot) = claim slot.cell slot.reached
 slot_claim None = 0
 
--- The standing of a server for a shard. If it is carried over, no position is known.
+-- The standing of a server for a shard. If it is carried over, no copy is known.
 abbrev pub standing_of : OngoingReopening → ℕ → ℕ → Standing
-standing_of x s v = record { claim = claim_of (net_reopening x) (past_state x) s v; position = told_positions x s v }
+standing_of x s v = record { claim = claim_of (net_reopening x) (past_state x) s v; copy = told_copies x s v }
 
 -- The server inherits the shard: it has a claim, nobody stands above it, and it is the lowest of those that stand as high.
 pub record IsSuccessorOf (x : OngoingReopening) (s u : ℕ) : Type 0 where

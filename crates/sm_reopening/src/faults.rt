@@ -7,7 +7,7 @@ ghost use Rattle.sm_placement.specs.Opening.{first_below, is_handing};
 ghost use Rattle.sm_placement.specs.Setup.{sizes_of};
 ghost use Rattle.laws_network.specs.Reopening.{Confirm, entered};
 ghost use Rattle.laws_network.specs.ReopeningLaws.{Keeps, is_carried};
-ghost use Rattle.sm_reopening.specs.Ongoing.{IsSameButTold, told_positions, past_state, recorded_place, net_reopening, shards_of};
+ghost use Rattle.sm_reopening.specs.Ongoing.{IsSameButTold, told_copies, past_state, recorded_place, net_reopening, shards_of};
 ghost use Rattle.sm_reopening.specs.Faults.{IsFairAt, IsFairCell, IsFairSlot, IsFaultOf, IsTimely, KeepsSlot, MayConfirm};
 ghost use Rattle.sm_reopening.specs.Faults.{is_appointed, is_barred, is_carried_up, is_stranger, moved_fault};
 ghost use Rattle.sm_reopening.specs.Survivors.{standing_of, stands_above};
@@ -357,7 +357,7 @@ impl OngoingReopening {
         requires shards { length settlement.setup.shards ≤ shards_of self.old }
         ensures may { OnOk result (MayConfirm self.old (record { setup = settlement.setup; place = place_of settlement; room = log_room })) }
         ensures reopening { OnOk result ((net_reopening self.new) ≡ entered (Confirm (record { setup = settlement.setup; place = place_of settlement; room = log_room })) (net_reopening self.old)) }
-        ensures positions { told_positions self.new ≡ told_positions self.old }
+        ensures copies { told_copies self.new ≡ told_copies self.old }
         ensures same { IsSameButTold self.old self.new }
         ensures back { IfErr result (λ e. e.0 ≡ settlement) }
         ensures fault { IfErr result (λ e. IsFaultOf self.old (record { setup = settlement.setup; place = place_of settlement; room = log_room }) e.1) }

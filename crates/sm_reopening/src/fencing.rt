@@ -4,7 +4,7 @@ ghost use Rattle.sm_placement.specs.Opening.{first_below};
 ghost use Rattle.laws_network.specs.Reopening.{Entries, MapOwner, Server, Told, entered, is_asked, is_first, put_party};
 ghost use Rattle.laws_network.specs.ReopeningLaws.{is_carried};
 ghost use Rattle.sm_reopening.specs.States.{fits_told, net_inventory};
-ghost use Rattle.sm_reopening.specs.Ongoing.{IsSameButTold, first_awaited, is_waited_for, is_complete, left_out_of, may_carry, position_after, told_positions, put_position, past_state, recorded_place, net_reopening, shards_of};
+ghost use Rattle.sm_reopening.specs.Ongoing.{IsSameButTold, first_awaited, is_waited_for, is_complete, left_out_of, may_carry, copies_after, told_copies, put_copy, past_state, recorded_place, net_reopening, shards_of};
 
 use crate::ongoing::OngoingReopening;
 use crate::party::{Inventory, Membership};
@@ -141,7 +141,7 @@ impl OngoingReopening {
         requires open { is_some (net_reopening self.old).settlement ≡ false }
         requires fits { fits_told (shards_of self.old) (Some inventory) ≡ true }
         ensures reopening { net_reopening self.new ≡ record (net_reopening self.old) { told = put_party (net_reopening self.old).told (Server server) (Some (net_inventory inventory)) } }
-        ensures positions { told_positions self.new ≡ put_position (told_positions self.old) server inventory }
+        ensures copies { told_copies self.new ≡ put_copy (told_copies self.old) server inventory }
         ensures same { IsSameButTold self.old self.new }
     {
         self.servers[server.number() as usize].told = Some(inventory);
@@ -154,7 +154,7 @@ impl OngoingReopening {
         ensures complete { (result ≡ FencedEffect.Complete) → (is_complete self.new ≡ true) }
         ensures waiting { (result ≡ FencedEffect.Waiting) → (is_complete self.new ≡ false) }
         ensures reopening { (net_reopening self.new) ≡ entered (Told (Server server) base (net_inventory inventory)) (net_reopening self.old) }
-        ensures positions { told_positions self.new ≡ position_after self.old server base inventory }
+        ensures copies { told_copies self.new ≡ copies_after self.old server base inventory }
         ensures same { IsSameButTold self.old self.new }
     {
         if !self.is_first(server, base) {
@@ -170,7 +170,7 @@ impl OngoingReopening {
         ensures complete { (result ≡ FencedEffect.Complete) → (is_complete self.new ≡ true) }
         ensures waiting { (result ≡ FencedEffect.Waiting) → (is_complete self.new ≡ false) }
         ensures reopening { (net_reopening self.new) ≡ entered (Told MapOwner base Entries) (net_reopening self.old) }
-        ensures positions { told_positions self.new ≡ told_positions self.old }
+        ensures copies { told_copies self.new ≡ told_copies self.old }
         ensures same { IsSameButTold self.old self.new }
     {
         if base != self.base || self.confirmed.is_some() || self.map_told {

@@ -170,7 +170,7 @@ impl OngoingReopening {
         None
     }
 
-    /// Whether no server is left that has all of a shard, of which there was one.
+    /// Whether some server had something of a shard, and none is left that has all of it.
     fn is_bare(&self, documented: &[Option<Role>], shard: ShardId) -> bool
         ensures { result ≡ is_bare self.now (grid_of (net_reopening self.now).servers None documented.now) shard }
     {

@@ -31,8 +31,8 @@ impl OngoingReopening {
     ghost use Rattle.sm_placement.specs.Layout.{place_of};
     ghost use Rattle.laws_network.specs.Reopening.{Reopen, entered};
     ghost use Rattle.laws_network.specs.ReopeningLaws.{no_reopening};
-    ghost use Rattle.sm_reopening.specs.States.{AreNextStates, is_left_out, says_lost, no_positions};
-    ghost use Rattle.sm_reopening.specs.Ongoing.{left_out_of, told_positions, recorded_place, recorded_setup, net_reopening, shards_of};
+    ghost use Rattle.sm_reopening.specs.States.{AreNextStates, is_left_out, says_lost, no_copies};
+    ghost use Rattle.sm_reopening.specs.Ongoing.{left_out_of, told_copies, recorded_place, recorded_setup, net_reopening, shards_of};
 
     /// Begins a reopening over what is recorded: a placement, with the servers that are down. Its fences are to be sent.
     pub fn begin(
@@ -46,7 +46,7 @@ impl OngoingReopening {
         requires few { length members.now ≤ 65536 }
         requires shards { length placement.now.setup.shards ≤ shards }
         ensures reopening { IfOk result (λ o. net_reopening o ≡ entered (Reopen base (length members.now) (says_lost members.now)) (no_reopening (length placement.now.setup.servers))) }
-        ensures positions { IfOk result (λ o. told_positions o ≡ no_positions) }
+        ensures copies { IfOk result (λ o. told_copies o ≡ no_copies) }
         ensures left_out { IfOk result (λ o. left_out_of o ≡ is_left_out members.now) }
         ensures setup { IfOk result (λ o. recorded_setup o ≡ placement.now.setup) }
         ensures place { IfOk result (λ o. recorded_place o ≡ place_of placement.now) }
@@ -125,7 +125,7 @@ impl OngoingReopening {
         requires few { length members.now ≤ 65536 }
         requires shards { length (recorded_setup self.now).shards ≤ shards }
         ensures reopening { IfOk result (λ o. net_reopening o ≡ entered (Reopen base (length members.now) (says_lost members.now)) (net_reopening self.now)) }
-        ensures positions { IfOk result (λ o. told_positions o ≡ no_positions) }
+        ensures copies { IfOk result (λ o. told_copies o ≡ no_copies) }
         ensures left_out { IfOk result (λ o. left_out_of o ≡ is_left_out members.now) }
         ensures setup { IfOk result (λ o. recorded_setup o ≡ recorded_setup self.now) }
         ensures place { IfOk result (λ o. recorded_place o ≡ recorded_place self.now) }

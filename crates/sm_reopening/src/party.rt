@@ -1,4 +1,5 @@
 //! The parties of a reopening, and what each tells.
+use sm_copies::ToldCopy;
 use sm_server::{Cell, ServerId};
 
 /// A party that is fenced and settled.
@@ -20,14 +21,36 @@ pub enum Membership {
     Lost,
 }
 
+/// The copy of a server that has none, or tells of none.
+pub(crate) const NO_COPY: ToldCopy = ToldCopy {
+    view: 0,
+    position: 0,
+};
+
 /// A server's account of one shard.
 #[derive(Clone, Copy, Debug, PartialEq, Eq)]
 pub struct FoundSlot {
     pub cell: Cell,
-    /// The position up to which the server has the shard's writes.
-    pub position: u64,
+    /// How far the server has the shard's writes.
+    pub copy: ToldCopy,
     /// A prepared server has all writes up to the cut of its handover.
     pub reached: bool,
+}
+
+impl FoundSlot {
+    ghost use Rattle.std.specs.Prelude.{◌≡◌};
+    ghost use Rattle.sm_reopening.specs.States.{no_slot};
+
+    /// The account of a server that has nothing of the shard.
+    pub const fn absent() -> FoundSlot
+        ensures { result ≡ no_slot }
+    {
+        FoundSlot {
+            cell: Cell::Absent,
+            copy: NO_COPY,
+            reached: false,
+        }
+    }
 }
 
 /// A server's account once it is fenced.

@@ -2,7 +2,7 @@
 ghost use Rattle.std.specs.Prelude.{◌≡◌, ◌↔◌, ◌⊎◌, ◌&&◌, true, false, is_some, option_map};
 ghost use Rattle.laws_network.specs.Reopening.{Server, Took, entered, put_party};
 ghost use Rattle.laws_network.specs.ReopeningLaws.{AllTook};
-ghost use Rattle.sm_reopening.specs.Ongoing.{IsSameButTold, told_positions, net_reopening};
+ghost use Rattle.sm_reopening.specs.Ongoing.{IsSameButTold, told_copies, net_reopening};
 ghost use Rattle.sm_reopening.specs.Settles.{first_unsettled, is_due_settle, is_unsettled, net_party, nonce_of, settle_messages, settle_sent, settled_of, what_settles};
 
 use crate::ongoing::OngoingReopening;
@@ -154,7 +154,7 @@ impl OngoingReopening {
     fn mark(&mut self, party: &Party)
         requires known { is_some ((net_reopening self.old).told (net_party party.now)) ≡ true }
         ensures reopening { (net_reopening self.new) ≡ record (net_reopening self.old) { settled = put_party (net_reopening self.old).settled (net_party party.now) true } }
-        ensures positions { told_positions self.new ≡ told_positions self.old }
+        ensures copies { told_copies self.new ≡ told_copies self.old }
         ensures same { IsSameButTold self.old self.new }
     {
         match party {
@@ -191,7 +191,7 @@ impl OngoingReopening {
         ensures waiting { result ≡ SettledEffect.Waiting → AllTook (net_reopening self.new) → ⊥ }
         ensures unchanged { result ≡ SettledEffect.Old → self.new ≡ self.old }
         ensures reopening { (result ≡ SettledEffect.Old) ⊎ ((net_reopening self.new) ≡ entered (Took (net_party party) base) (net_reopening self.old)) }
-        ensures positions { told_positions self.new ≡ told_positions self.old }
+        ensures copies { told_copies self.new ≡ told_copies self.old }
         ensures same { IsSameButTold self.old self.new }
     {
         if !self.is_due(&party, base) {

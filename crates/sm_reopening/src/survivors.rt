@@ -1,29 +1,40 @@
 //! Survivors: who inherits a shard.
 ghost use Rattle.std.specs.Prelude.{◌≡◌, ◌<◌, ◌^◌, ◌↔◌, IfSome};
 ghost use Rattle.laws_network.specs.ReopeningLaws.{claim};
+ghost use Rattle.sm_copies.specs.Order.{is_greater};
 ghost use Rattle.sm_reopening.specs.States.{slot_in};
-ghost use Rattle.sm_reopening.specs.Ongoing.{told_positions, recorded_place, told_slot};
+ghost use Rattle.sm_reopening.specs.Ongoing.{told_copies, recorded_place, told_slot};
 ghost use Rattle.sm_reopening.specs.Survivors.{HasNoSurvivor, IsSuccessorOf, slot_claim, standing_of, stands_above};
 
 use crate::ongoing::OngoingReopening;
-use crate::party::{FoundSlot, Inventory};
+use crate::party::{FoundSlot, Inventory, NO_COPY};
+use sm_copies::{ToldCopy, compare};
 use sm_server::{Cell, ServerId, ShardId};
+use std::cmp::Ordering;
 
 /// The claim of a server to inherit a shard.
 #[derive(Clone, Copy, Debug, PartialEq, Eq)]
 pub struct Standing {
     /// The rank of its claim, 0 for none.
     pub claim: u8,
-    /// The position up to which it has the shard's writes, which decides between equal claims.
-    pub position: u64,
+    /// Its copy of the shard, which decides between equal claims.
+    pub copy: ToldCopy,
+}
+
+/// Whether the first copy is greater.
+fn is_greater(one: &ToldCopy, other: &ToldCopy) -> bool
+    ensures { result ≡ is_greater one.now other.now }
+{
+    compare(one, other) == Ordering::Greater
 }
 
 impl Standing {
-    /// Returns whether this one stands above another one.
+    /// Whether this one stands above another one.
     pub(crate) fn is_above(&self, other: &Standing) -> bool
         ensures { result ≡ stands_above self.now other.now }
     {
-        self.claim > other.claim || (self.claim == other.claim && self.position > other.position)
+        self.claim > other.claim
+            || (self.claim == other.claim && is_greater(&self.copy, &other.copy))
     }
 }
 
@@ -46,11 +57,7 @@ fn slot_in(slots: &[FoundSlot], shard: ShardId) -> FoundSlot
 {
     match slots.get(shard.number() as usize) {
         Some(slot) => *slot,
-        None => FoundSlot {
-            cell: Cell::Absent,
-            position: 0,
-            reached: false,
-        },
+        None => FoundSlot::absent(),
     }
 }
 
@@ -87,20 +94,21 @@ impl OngoingReopening {
         self.past.cell(shard, server)
     }
 
-    /// Returns how far a server has told that it has the writes of a shard.
-    fn position(&self, shard: ShardId, server: ServerId) -> u64
-        ensures { result ≡ told_positions self.now shard server }
+    /// The copy of a shard that a server has told.
+    fn told_copy(&self, shard: ShardId, server: ServerId) -> ToldCopy
+        ensures { result ≡ told_copies self.now shard server }
     {
         match self.slot(shard, server) {
-            Some(slot) => slot.position,
-            None => 0,
+            Some(slot) => slot.copy,
+            None => NO_COPY,
         }
     }
 
-    /// Returns how well a server may inherit a shard.
+    /// How well a server may inherit a shard.
     pub fn standing(&self, shard: ShardId, server: ServerId) -> Standing
         ensures standing { result ≡ standing_of self.now shard server }
-        ensures small { result.position < 2 ^ 64 }
+        ensures view { result.copy.view < 2 ^ 64 }
+        ensures position { result.copy.position < 2 ^ 64 }
     {
         let claim = if self.is_carried(server) {
             claim(&self.recorded_cell(shard, server), false)
@@ -109,7 +117,7 @@ impl OngoingReopening {
         };
         Standing {
             claim,
-            position: self.position(shard, server),
+            copy: self.told_copy(shard, server),
         }
     }
 
@@ -121,7 +129,10 @@ impl OngoingReopening {
         let mut successor = None;
         let mut best = Standing {
             claim: 0,
-            position: u64::MAX,
+            copy: ToldCopy {
+                view: u64::MAX,
+                position: u64::MAX,
+            },
         };
         for number in 0..self.server_count() {
             let server = ServerId::new(number);

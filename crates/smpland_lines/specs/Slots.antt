@@ -41,6 +41,7 @@ pub record TellsSlot (row : Data) (slot : SlotText) : Type 0 where
   pub load : slot.load ≡ whole_at at.Load row
   pub cut : slot.cut ≡ whole_at at.Cut row
   pub position : slot.position ≡ whole_at at.Position row
+  pub view : slot.view ≡ whole_at at.View row
   pub reached : slot.reached ≡ truth_at at.Reached row
 
 -- the slots are what the rows tell, one for each, in their order
@@ -95,3 +96,4 @@ pub record IsSlotFor (needs : SlotNeeds) (slot : SlotText) : Type 0 where
   pub last_most : IfSome slot.last (λ number. number ≤ MOST_EXACT)
   pub cut_most : IfSome slot.cut (λ number. number ≤ MOST_EXACT)
   pub position_most : IfSome slot.position (λ number. number ≤ MOST_EXACT)
+  pub view_most : IfSome slot.view (λ number. number ≤ MOST_EXACT)

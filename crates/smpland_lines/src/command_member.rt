@@ -36,16 +36,17 @@ pub enum CommandMember {
     Load,
     Cut,
     Position,
+    View,
     Reached,
     State,
 }
 
 /// The members as they are written, in their order.
-const TEXTS: [&str; 35] = [
+const TEXTS: [&str; 36] = [
     "command", "do", "id", "document", "journal", "epoch", "plan", "name", "stream", "number",
     "server", "shard", "moves", "from", "to", "by", "permit", "nonce", "lost", "why", "base",
     "slots", "unknown", "cells", "place", "answer", "cell", "party", "handover", "last", "load",
-    "cut", "position", "reached", "state",
+    "cut", "position", "view", "reached", "state",
 ];
 
 impl CommandMember {

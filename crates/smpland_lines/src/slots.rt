@@ -46,6 +46,7 @@ pub struct SlotText<'a> {
     pub load: Option<u32>,
     pub cut: Option<u64>,
     pub position: Option<u64>,
+    pub view: Option<u64>,
     pub reached: Option<bool>,
 }
 
@@ -94,6 +95,7 @@ const NAMES: &[CommandMember] = &[
     CommandMember::Load,
     CommandMember::Cut,
     CommandMember::Position,
+    CommandMember::View,
     CommandMember::Reached,
 ];
 
@@ -167,6 +169,7 @@ fn read_slot<'a>(
     let cut = reader.number_unless_null(Row::Maybe(CommandMember::Cut), MOST_EXACT);
     let position = Row::needed_if(needs.position(cell), CommandMember::Position);
     let position = reader.number(position, MOST_EXACT);
+    let view = reader.number(Row::Maybe(CommandMember::View), MOST_EXACT);
     let reached = Row::needed_if(needs.reached(cell), CommandMember::Reached);
     let reached = reader.flag(reached);
     match shard {
@@ -179,6 +182,7 @@ fn read_slot<'a>(
             load,
             cut,
             position,
+            view,
             reached,
         }),
         None => Err(reader.fault()),

@@ -67,7 +67,7 @@ live_same test n live is fails =
 
 -- ---- floors
 
--- a cap that lets so many be away
+-- a cap raised to those who are away is the greater of both
 pub capped : (cap away other : ℕ) → other ≡ (if nat_lt cap away then away else cap) → other ≡ max cap away
 capped cap away other is = elim (cases_lt cap away) [
   | inl l ↦ is ∙ ap (λ (t : Bool). if t then away else cap) (lt-ltb cap away l) ∙ larger l

@@ -10,8 +10,8 @@ use Rattle.sm_placement.specs.Setup.{IsSetup, Setup, names_of_servers, names_of_
 use Rattle.laws_network.specs.Reopening.{Reopen, Reopening, entered}
 use Rattle.sm_reopening.specs.declared.ongoing.OngoingReopening.{OngoingReopening}
 use Rattle.sm_reopening.specs.declared.party.Membership.{Membership}
-use Rattle.sm_reopening.specs.States.{is_left_out, no_positions, says_lost}
-use Rattle.sm_reopening.specs.Ongoing.{left_out_of, net_reopening, recorded_place, recorded_setup, shards_of, told_positions}
+use Rattle.sm_reopening.specs.States.{is_left_out, no_copies, says_lost}
+use Rattle.sm_reopening.specs.Ongoing.{left_out_of, net_reopening, recorded_place, recorded_setup, shards_of, told_copies}
 use Rattle.sm_reopening.specs.Proposal.{is_the}
 use Rattle.sm_driver.specs.Orders.{epoch_base}
 use Rattle.smpland_reopening.specs.declared.beginning.Begun.{Begun}
@@ -64,16 +64,16 @@ pub record NumbersUnder (numbered : Setup) (r : ReopeningModel) : Type 0 where
   pub shards : AreNumbered (names_of_shards r.numbering) r.shards (names_of_shards r.document.config)
   pub roles : documented_roles r ≡ roles_by r.numbering r.shards r.servers r.document.cells.items
 
--- this is recorded of the epoch before, there are so many numbers of shards, and no position is told yet
+-- this is recorded of the epoch before, there are so many numbers of shards, and no copy is told yet
 pub record HasRecorded (before : Setup) (p : Place) (n : ℕ) (o : OngoingReopening) : Type 0 where
   pub setup : recorded_setup o ≡ before
   pub place : recorded_place o ≡ p
   pub shards : shards_of o ≡ n
-  pub positions : told_positions o ≡ no_positions
+  pub copies : told_copies o ≡ no_copies
 
 -- ---- on the way
 
--- what is numbered is so under the document, and the roles are those of its cells
+-- the numbers are those under the document, and the roles are those of its cells
 pub record IsNumberedGround (numbered document : Setup) (cells : List NamedCell) (g : Ground) : Type 0 where
   pub numbering : g.numbering ≡ numbered_under numbered document
   pub apart : IsSetup g.numbering

@@ -1,4 +1,4 @@
--- What a confirmation settles: by the reopening, and by what an operator has chosen.
+-- What a confirmation settles, by the reopening and an operator's choice.
 use Rattle.std.specs.Prelude.{◌≡◌, ◌&&◌, ◌||◌, ℕ, Bool, List, Some, length, map, nat_lt, not, slice_get, slice_index_or}
 use Rattle.std.specs.List.{list_any}
 use Rattle.sm_placement.specs.Layout.{PlacementModel}

@@ -1,4 +1,4 @@
--- The placement that roles give: each primary is listed, and each floor is one that is met.
+-- The placement of some roles: the map lists each primary, and each floor is met.
 use Rattle.std.specs.Prelude.{◌≡◌, ◌&&◌, ◌-◌, ◌==◌, ℕ, Bool, List, Option, None, if◌then◌else◌, is_some, length, map, max, nat_lt, not, slice_index_or}
 use Rattle.std.specs.List.{filter, list_any, range_with_len}
 use Rattle.sm_server.specs.declared.call.Role.{Role}
@@ -22,11 +22,11 @@ roles_within shards servers roles s v = if nat_lt s shards && nat_lt v servers t
 abbrev pub live_by : ℕ → RolesGiven → (ℕ → Bool) → ℕ → ℕ
 live_by servers roles down s = count_below servers (λ v. not (down v) && is_some (roles s v))
 
--- a shard, its floor no higher than so many live replicas
+-- a shard whose floor is lowered to so many live replicas, if it is higher
 abbrev pub shard_with_live : ShardRow → ℕ → ShardRow
 shard_with_live row live = record row { cap = max row.cap (row.want - live) }
 
--- the shard with a number, its floor no higher than its live replicas
+-- the shard with a number, its floor lowered to its live replicas
 abbrev pub shard_met : Setup → RolesGiven → (ℕ → Bool) → ℕ → ShardRow
 shard_met config roles down s =
     shard_with_live (slice_index_or config.shards s no_shard) (live_by (length config.servers) roles down s)

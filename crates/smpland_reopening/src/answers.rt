@@ -3,7 +3,7 @@ ghost use Rattle.std.specs.Prelude.{◌≡◌, ◌↔◌, ◌⊎◌, IfOk, OnOk,
 ghost use Rattle.laws_network.specs.Reopening.{Entries, MapOwner, Server, Told, Took, entered, is_first};
 ghost use Rattle.laws_network.specs.ReopeningLaws.{AllTook};
 ghost use Rattle.sm_reopening.specs.States.{fits_told, net_inventory};
-ghost use Rattle.sm_reopening.specs.Ongoing.{net_reopening, position_after, shards_of, told_positions};
+ghost use Rattle.sm_reopening.specs.Ongoing.{net_reopening, copies_after, shards_of, told_copies};
 ghost use Rattle.sm_reopening.specs.Settles.{is_due_settle, net_party, settle_messages, settle_sent, settled_of};
 ghost use Rattle.sm_reopening.specs.Settles.{what_settles};
 ghost use Rattle.smpland_reopening.specs.Reopening.{IsUnder};
@@ -64,8 +64,8 @@ impl DocumentReopening {
         ensures unchanged { IfOk result (λ effect. effect ≡ FencedEffect.Old → self.new ≡ self.old) }
         ensures reopening { OnOk result (net_reopening self.new.ongoing
             ≡ entered (Told (Server server) base (net_inventory inventory)) (net_reopening self.old.ongoing)) }
-        ensures positions { OnOk result (told_positions self.new.ongoing
-            ≡ position_after self.old.ongoing server base inventory) }
+        ensures copies { OnOk result (told_copies self.new.ongoing
+            ≡ copies_after self.old.ongoing server base inventory) }
         ensures under { OnOk result (IsUnder self.old self.new) }
         ensures next { OnOk result (self.new.next ≡ self.old.next) }
     {
@@ -83,7 +83,7 @@ impl DocumentReopening {
             (is_first (net_reopening self.old.ongoing) (Server server) base ≡ false) }
         ensures reopening { net_reopening self.new.ongoing
             ≡ entered (Told (Server server) base (net_inventory inventory)) (net_reopening self.old.ongoing) }
-        ensures positions { told_positions self.new.ongoing ≡ position_after self.old.ongoing server base inventory }
+        ensures copies { told_copies self.new.ongoing ≡ copies_after self.old.ongoing server base inventory }
         ensures under { IsUnder self.old self.new }
         ensures next { self.new.next ≡ self.old.next }
     {
@@ -96,7 +96,7 @@ impl DocumentReopening {
         ensures unchanged { result ≡ FencedEffect.Old → self.new ≡ self.old }
         ensures reopening { net_reopening self.new.ongoing
             ≡ entered (Told MapOwner base Entries) (net_reopening self.old.ongoing) }
-        ensures positions { told_positions self.new.ongoing ≡ told_positions self.old.ongoing }
+        ensures copies { told_copies self.new.ongoing ≡ told_copies self.old.ongoing }
         ensures under { IsUnder self.old self.new }
         ensures next { self.new.next ≡ self.old.next }
     {
@@ -144,7 +144,7 @@ impl DocumentReopening {
         ensures reopening { (result ≡ SettledEffect.Old)
             ⊎ (net_reopening self.new.ongoing ≡ entered (Took (net_party party) base)
             (net_reopening self.old.ongoing)) }
-        ensures positions { told_positions self.new.ongoing ≡ told_positions self.old.ongoing }
+        ensures copies { told_copies self.new.ongoing ≡ told_copies self.old.ongoing }
         ensures under { IsUnder self.old self.new }
         ensures next { self.new.next ≡ self.old.next }
     {

@@ -7,7 +7,7 @@ ghost use Rattle.sm_placement.specs.Lead.{IsSettled};
 ghost use Rattle.sm_placement.specs.Setup.{names_of_servers, names_of_shards, sizes_of};
 ghost use Rattle.laws_network.specs.Reopening.{Confirm, Server, Settlement, entered, is_asked};
 ghost use Rattle.sm_reopening.specs.Faults.{MayConfirm};
-ghost use Rattle.sm_reopening.specs.Ongoing.{left_out_of, net_reopening, told_positions};
+ghost use Rattle.sm_reopening.specs.Ongoing.{left_out_of, net_reopening, told_copies};
 ghost use Rattle.sm_reopening.specs.Proposal.{is_the};
 ghost use Rattle.smpland_reopening.specs.Chosen.{IsAsChosen, chosen_role};
 ghost use Rattle.smpland_reopening.specs.Confirmed.{KeepsChosen, SettlesChosen, down_in_order, is_down_next};
@@ -225,7 +225,7 @@ impl DocumentReopening {
             × IsAsChosen self.old chosen.now s.place × SettlesChosen self.old chosen.now s) }
         ensures kept { OnOk result (KeepsChosen self.old self.new chosen.now) }
         ensures named { OnOk result (NamesLost self.old named.now) }
-        ensures positions { OnOk result (told_positions self.new.ongoing ≡ told_positions self.old.ongoing) }
+        ensures copies { OnOk result (told_copies self.new.ongoing ≡ told_copies self.old.ongoing) }
         ensures under { OnOk result (IsUnder self.old self.new) }
         ensures unchanged { OnErr result (self.new ≡ self.old) }
     {
@@ -268,7 +268,7 @@ impl DocumentReopening {
             × (net_reopening self.new.ongoing ≡ entered (Confirm s) (net_reopening self.old.ongoing))
             × (s.place ≡ place_of settlement) × (s.setup ≡ settlement.setup) × (s.room ≡ self.old.document.log)) }
         ensures next { OnOk result (self.new.next ≡ Some next) }
-        ensures positions { OnOk result (told_positions self.new.ongoing ≡ told_positions self.old.ongoing) }
+        ensures copies { OnOk result (told_copies self.new.ongoing ≡ told_copies self.old.ongoing) }
         ensures under { OnOk result (IsUnder self.old self.new) }
         ensures unchanged { OnErr result (self.new ≡ self.old) }
     {

@@ -8,7 +8,7 @@ use Rattle.sm_server.specs.Cell.{is_absent}
 use Rattle.laws_network.specs.Reopening.{Inventory, Reopening, Server, Slots}
 use Rattle.laws_network.specs.ReopeningLaws.{Keeps}
 use Rattle.sm_reopening.specs.declared.party.FoundSlot.{FoundSlot}
-use Rattle.sm_reopening.specs.Ongoing.{inventory_slot, net_reopening, told_positions}
+use Rattle.sm_reopening.specs.Ongoing.{inventory_slot, net_reopening, told_copies}
 use Rattle.smpland_reopening.specs.Reopening.{ReopeningModel}
 use Rattle.smpland_reopening.specs.Roles.{cell_by_role, role_by_cell}
 use Rattle.smpland_reopening.specs.Told.{has_told_of}
@@ -27,7 +27,7 @@ kept_is (cell.Forwarding to number) settled kept = elim kept [ inl e ↦ rw e re
 told_is : (r : ReopeningModel) (v s : ℕ) (cells : ℕ → Cell) (reached : ℕ → Bool) → (net_reopening r.ongoing).told (Server v) ≡ Some (Slots cells reached) →
     has_told_of r v s ≡ not (is_absent (cells s))
 told_is r v s cells reached told =
-    ap (λ (o : Option Inventory). option_map_or (λ (slot : FoundSlot). not (is_absent slot.cell)) (inventory_slot o (told_positions r.ongoing s v) s) false) told
+    ap (λ (o : Option Inventory). option_map_or (λ (slot : FoundSlot). not (is_absent slot.cell)) (inventory_slot o (told_copies r.ongoing s v) s) false) told
 
 -- so who does as its settle says has what was confirmed
 pub settles_bring_all : SettlesBringAll

@@ -1,5 +1,5 @@
 -- Slots as rows tell them, one after the other.
-use Rattle.std.proofs.Common.{◌≡◌, ◌∙◌, ◌⊎◌, ◌↔◌, ◌+◌, ◌<◌, ◌++◌, ◌∷◌, [], ℕ, Bool, true, false, List, Option, Some, None, ap, get_or, inl, inr, length, refl, subst, sym, take}
+use Rattle.std.proofs.Common.{◌≡◌, ◌∙◌, ◌⊎◌, ◌↔◌, ◌+◌, ◌<◌, ◌++◌, ◌∷◌, [], ℕ, Bool, true, false, List, Option, Some, None, ap, ap₂, get_or, inl, inr, length, refl, subst, sym, take}
 use Rattle.std.specs.Prelude.{option_and_then, unwrap_or, if◌then◌else◌, All, is_some}
 use Rattle.std.specs.Option.{option_map_or, option_or}
 use Rattle.std.proofs.lemmas.Bool.{eq-eqb, ne_eqb}
@@ -11,14 +11,15 @@ use Rattle.json_tree.specs.declared.tree.Tree.{Tree}
 use Rattle.sm_placement.specs.Setup.{Setup, shard_named}
 use Rattle.sm_reopening.specs.Proposal.{is_the}
 use Rattle.laws_network.specs.Reopening.{Entries, Inventory, MapOwner, Server, Slots, Unknown, entered, is_first, Told as ToldAt}
-use Rattle.sm_reopening.specs.Ongoing.{net_reopening, position_after, put_position, told_positions}
+use Rattle.sm_reopening.specs.Ongoing.{net_reopening, copies_after, put_copy, told_copies}
 use Rattle.sm_reopening.specs.declared.ongoing.OngoingReopening.{OngoingReopening}
 use Rattle.sm_reopening.specs.declared.fencing.FencedEffect.{FencedEffect}
 use Rattle.sm_reopening.specs.declared.fencing.FencedEffect.TheVariants as effects
 use Rattle.smpland_reopening.specs.Reopening.{IsUnder, ReopeningModel}
 use Rattle.smpland_lines.specs.declared.command.InventoryText.{InventoryText}
 use Rattle.smpland_lines.specs.declared.command.InventoryText.TheVariants as text
-use Rattle.sm_reopening.specs.States.{net_inventory, no_slot, slot_in, told_position}
+use Rattle.sm_copies.specs.declared.order.ToldCopy.{ToldCopy}
+use Rattle.sm_reopening.specs.States.{net_inventory, no_copy, no_slot, slot_in, told_copy}
 use Rattle.sm_reopening.specs.declared.party.Inventory.{Inventory as Told}
 use Rattle.sm_reopening.specs.declared.party.Inventory.TheVariants as told
 use Rattle.sm_reopening.specs.declared.party.FoundSlot.{FoundSlot}
@@ -33,7 +34,7 @@ use Rattle.smpland_lines.specs.declared.slots.SlotNeeds.{SlotNeeds}
 use Rattle.smpland_lines.specs.declared.slots.SlotNeeds.TheVariants as needs
 use Rattle.smpland_lines.specs.declared.slots.SlotText.{SlotText}
 use Rattle.smpland_reopening_lines.specs.Slots.{AreSlotsOf, IsCellOf, IsPartyOf, IsSlotOf, IsToldByRow, cell_by, cell_told, is_row_of, is_text_of, last_with, party_told, slot_by, slot_told}
-use Rattle.smpland_reopening_lines.specs.Taken.{IsToldAs, KeepsPositions, ListsSlots, TakesToldBy}
+use Rattle.smpland_reopening_lines.specs.Taken.{IsToldAs, KeepsCopies, ListsSlots, TakesToldBy}
 use Rattle.smpland_reopening_lines.specs.Told.{HasEachSlot}
 
 -- ---- the last of a list's items
@@ -88,7 +89,7 @@ number_is None asked same there = absurd (let z = there in cc)
 slot_is : (numbering : Setup) (row : Data) (slot : SlotText) → TellsSlot row slot → IsSlotFor needs.Fence slot → IsSlotOf numbering row (slot_told numbering slot)
 slot_is numbering row slot tells needed = record {
   cell = cell_is slot.cell refl;
-  position = ap (λ o. unwrap_or o 0) tells.position;
+  copy = ap₂ (λ o p. record { view = unwrap_or o 0; position = unwrap_or p 0 }) tells.view tells.position;
   reached = ap (λ o. unwrap_or o false) tells.reached;
 }
   where
@@ -154,25 +155,25 @@ slots_are numbering rows slots tell needed s =
 -- so an inventory that has them is what the rows tell
 pub lists_told : (numbering found : Setup) (rows : List Tree) (slots items : List SlotText) (inventory : Told) → found ≡ numbering → items ≡ slots →
     TellSlots rows slots → All (IsSlotFor needs.Fence) slots → HasEachSlot (slot_by found items) inventory →
-    ListsSlots numbering rows (net_inventory inventory) (told_position (Some inventory))
+    ListsSlots numbering rows (net_inventory inventory) (told_copy (Some inventory))
 lists_told numbering found rows slots items inventory same is tell needed has =
     by_kind inventory (rw (same, is) at has)
   where
-    by_kind : (i : Told) → HasEachSlot (slot_by numbering slots) i → ListsSlots numbering rows (net_inventory i) (told_position (Some i))
+    by_kind : (i : Told) → HasEachSlot (slot_by numbering slots) i → ListsSlots numbering rows (net_inventory i) (told_copy (Some i))
     by_kind (told.Slots found) has = λ s.
         subst (λ slot. IsToldByRow numbering (last_with (is_row_of numbering s) rows) slot) (sym (has s)) (slots_are numbering rows slots tell needed s)
     by_kind (told.Unknown nonce) has = absurd has
 
 -- ---- what a server has told once it is taken
 
--- what is told stays so under the same names, at the same positions
-told_still : (numbering named : Setup) (told : InventoryText) (inventory : Inventory) (p q : ℕ → ℕ) → named ≡ numbering → ((s : ℕ) → q s ≡ p s) →
+-- what is told stays so under the same names, with the same copies
+told_still : (numbering named : Setup) (told : InventoryText) (inventory : Inventory) (p q : ℕ → ToldCopy) → named ≡ numbering → ((s : ℕ) → q s ≡ p s) →
     IsToldAs numbering told inventory p → IsToldAs named told inventory q
 told_still numbering named told inventory p q names same is = rw names (by_text told is)
   where
     listed : (rows : List Tree) (i : Inventory) → ListsSlots numbering rows i p → ListsSlots numbering rows i q
     listed rows (Slots cells reached) is = λ s.
-        subst (λ n. IsToldByRow numbering (last_with (is_row_of numbering s) rows) (record { cell = cells s; position = n; reached = reached s })) (sym (same s)) (is s)
+        subst (λ n. IsToldByRow numbering (last_with (is_row_of numbering s) rows) (record { cell = cells s; copy = n; reached = reached s })) (sym (same s)) (is s)
     listed rows (Unknown nonce) is = absurd is
     listed rows Entries is = absurd is
 
@@ -181,38 +182,38 @@ told_still numbering named told inventory p q names same is = rw names (by_text 
     by_text (text.Slots rows) is = listed rows.now inventory is
     by_text text.Map is = listed [] inventory is
 
--- the positions of a server that has told are those of its inventory
-position_is : (x y : OngoingReopening) (v base : ℕ) (inventory : Told) → is_first (net_reopening x) (Server v) base ≡ true →
-    told_positions y ≡ position_after x v base inventory → (s : ℕ) → told_positions y s v ≡ told_position (Some inventory) s
-position_is x y v base inventory first after s =
-    ap (λ (f : ℕ → ℕ → ℕ). f s v) after
-    ∙ ap (λ b. (if b then put_position (told_positions x) v inventory else told_positions x) s v) first
-    ∙ ap (λ b. if b then told_position (Some inventory) s else told_positions x s v) (eq-eqb v v refl)
+-- the copies of a server that has told are those of its inventory
+copy_is : (x y : OngoingReopening) (v base : ℕ) (inventory : Told) → is_first (net_reopening x) (Server v) base ≡ true →
+    told_copies y ≡ copies_after x v base inventory → (s : ℕ) → told_copies y s v ≡ told_copy (Some inventory) s
+copy_is x y v base inventory first after s =
+    ap (λ (f : ℕ → ℕ → ToldCopy). f s v) after
+    ∙ ap (λ b. (if b then put_copy (told_copies x) v inventory else told_copies x) s v) first
+    ∙ ap (λ b. if b then told_copy (Some inventory) s else told_copies x s v) (eq-eqb v v refl)
 
 -- those of all other parties stay, and a server that is Unknown tells none
 pub told_keeps : (x y : OngoingReopening) (v base : ℕ) (inventory : Told) → is_first (net_reopening x) (Server v) base ≡ true →
-    told_positions y ≡ position_after x v base inventory → KeepsPositions (Server v) (net_inventory inventory) (told_positions x) (told_positions y)
+    told_copies y ≡ copies_after x v base inventory → KeepsCopies (Server v) (net_inventory inventory) (told_copies x) (told_copies y)
 told_keeps x y v base inventory first after = record {
   others = λ s u apart.
-      ap (λ (f : ℕ → ℕ → ℕ). f s u) after
-      ∙ ap (λ b. (if b then put_position (told_positions x) v inventory else told_positions x) s u) first
-      ∙ ap (λ b. if b then told_position (Some inventory) s else told_positions x s u) (ne_eqb u v (λ e. apart (ap Server (sym e))));
+      ap (λ (f : ℕ → ℕ → ToldCopy). f s u) after
+      ∙ ap (λ b. (if b then put_copy (told_copies x) v inventory else told_copies x) s u) first
+      ∙ ap (λ b. if b then told_copy (Some inventory) s else told_copies x s u) (ne_eqb u v (λ e. apart (ap Server (sym e))));
   unknown = λ s u nonce same is.
       let e : u ≡ v = one_server v u same in
-      ap (λ w. told_positions y s w) e ∙ position_is x y v base inventory first after s ∙ none s nonce inventory is;
+      ap (λ w. told_copies y s w) e ∙ copy_is x y v base inventory first after s ∙ none s nonce inventory is;
 }
   where
     one_server : (a b : ℕ) → Server a ≡ Server b → b ≡ a
     one_server a b is = cc
 
-    none : (s nonce : ℕ) (i : Told) → net_inventory i ≡ Unknown nonce → told_position (Some i) s ≡ 0
+    none : (s nonce : ℕ) (i : Told) → net_inventory i ≡ Unknown nonce → told_copy (Some i) s ≡ no_copy
     none s nonce (told.Unknown n) is = refl
     none s nonce (told.Slots slots) is = absurd (let z = is in cc)
 
 -- so it is with the map's owner
-pub map_keeps : (inventory : Inventory) (old new : ℕ → ℕ → ℕ) → new ≡ old → KeepsPositions MapOwner inventory old new
+pub map_keeps : (inventory : Inventory) (old new : ℕ → ℕ → ToldCopy) → new ≡ old → KeepsCopies MapOwner inventory old new
 map_keeps inventory old new is = record {
-  others = λ s v apart. ap (λ (f : ℕ → ℕ → ℕ). f s v) is;
+  others = λ s v apart. ap (λ (f : ℕ → ℕ → ToldCopy). f s v) is;
   unknown = λ s v nonce same told. absurd (let z = same in cc);
 }
 
@@ -224,16 +225,16 @@ not_old effect (inr is) old = absurd (let e : effects.Complete ≡ effects.Old =
 -- a server has told what its line tells, for the first time
 pub takes_told : (told : InventoryText) (v base : ℕ) (inventory : Told) (old new : ReopeningModel)
     (effect : FencedEffect) →
-    IsToldAs old.numbering told (net_inventory inventory) (told_position (Some inventory)) →
+    IsToldAs old.numbering told (net_inventory inventory) (told_copy (Some inventory)) →
     ((effect ≡ effects.Old) ↔ (is_first (net_reopening old.ongoing) (Server v) base ≡ false)) → (effect ≡ effects.Old → ⊥) →
     net_reopening new.ongoing ≡ entered (ToldAt (Server v) base (net_inventory inventory)) (net_reopening old.ongoing) →
-    told_positions new.ongoing ≡ position_after old.ongoing v base inventory → IsUnder old new → new.next ≡ old.next → TakesToldBy (Server v) base told old new
-takes_told told v base inventory old new effect is first counts taken positions under next =
+    told_copies new.ongoing ≡ copies_after old.ongoing v base inventory → IsUnder old new → new.next ≡ old.next → TakesToldBy (Server v) base told old new
+takes_told told v base inventory old new effect is first counts taken copies under next =
     let once = first_time (is_first (net_reopening old.ongoing) (Server v) base) (λ f. counts (first.1 f)) in (
       net_inventory inventory,
-      told_still old.numbering new.numbering told (net_inventory inventory) (told_position (Some inventory)) (λ s. told_positions new.ongoing s v) under.numbering
-          (position_is old.ongoing new.ongoing v base inventory once positions) is,
-      record { first = once; taken = taken; positions = told_keeps old.ongoing new.ongoing v base inventory once positions; under = under; next = next },
+      told_still old.numbering new.numbering told (net_inventory inventory) (told_copy (Some inventory)) (λ s. told_copies new.ongoing s v) under.numbering
+          (copy_is old.ongoing new.ongoing v base inventory once copies) is,
+      record { first = once; taken = taken; copies = told_keeps old.ongoing new.ongoing v base inventory once copies; under = under; next = next },
     )
   where
     first_time : (b : Bool) → (b ≡ false → ⊥) → b ≡ true

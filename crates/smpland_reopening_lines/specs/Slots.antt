@@ -1,5 +1,5 @@
 -- The slots that a server tells at a fence: what rows tell, by the names that have numbers.
--- `party_told`, `cell_by`, `cell_told`, `slot_told`, `is_text_of` and `slot_by` are internal: you need not read them for the public contracts.
+-- `party_told`, `cell_by`, `cell_told`, `copy_said`, `slot_told`, `is_text_of` and `slot_by` are internal: you need not read them for the public contracts.
 use Rattle.std.specs.Prelude.{◌≡◌, ℕ, Bool, List, [], ◌∷◌, Option, Some, None, false, option_and_then, unwrap_or, if◌then◌else◌}
 use Rattle.std.specs.Option.{option_map_or, option_or}
 use Rattle.serde_json.specs.Data.{Data}
@@ -7,6 +7,7 @@ use Rattle.json_tree.specs.View.{view}
 use Rattle.json_tree.specs.declared.tree.Tree.{Tree}
 use Rattle.sm_server.specs.declared.call.Cell.{Cell}
 use Rattle.sm_server.specs.declared.call.Cell.TheVariants as cell
+use Rattle.sm_copies.specs.declared.order.ToldCopy.{ToldCopy}
 use Rattle.sm_placement.specs.Setup.{Setup, server_named, shard_named}
 use Rattle.sm_reopening.specs.Proposal.{is_the}
 use Rattle.sm_reopening.specs.States.{no_slot}
@@ -44,10 +45,14 @@ IsCellOf numbering row (cell.Prepared from number) =
 IsCellOf numbering row (cell.Forwarding to number) =
     (text_at at.Cell row ≡ Some (cell_word kind.Forwarding)) × IsPartyOf numbering row to × (whole_at at.Handover row ≡ Some number)
 
--- the slot is the one that a row tells: its cell, the position, and whether the cut is reached
+-- the copy that a row tells: what it leaves out is 0
+abbrev pub copy_in : Data → ToldCopy
+copy_in row = record { view = unwrap_or (whole_at at.View row) 0; position = unwrap_or (whole_at at.Position row) 0 }
+
+-- the slot is the one that a row tells: its cell, the copy, and whether the cut is reached
 pub record IsSlotOf (numbering : Setup) (row : Data) (slot : FoundSlot) : Type 0 where
   pub cell : IsCellOf numbering row slot.cell
-  pub position : slot.position ≡ unwrap_or (whole_at at.Position row) 0
+  pub copy : slot.copy ≡ copy_in row
   pub reached : slot.reached ≡ unwrap_or (truth_at at.Reached row) false
 
 -- ---- all rows, and the slots of all shards
@@ -90,10 +95,14 @@ cell_by kind.Forwarding party number = cell.Forwarding party number
 abbrev pub cell_told : Setup → SlotText → Cell
 cell_told numbering slot = cell_by slot.cell (party_told numbering slot.party) (unwrap_or slot.handover 0)
 
+-- the copy that a slot tells
+abbrev pub copy_said : SlotText → ToldCopy
+copy_said slot = record { view = unwrap_or slot.view 0; position = unwrap_or slot.position 0 }
+
 -- what a slot tells
 abbrev pub slot_told : Setup → SlotText → FoundSlot
 slot_told numbering slot =
-    record { cell = cell_told numbering slot; position = unwrap_or slot.position 0; reached = unwrap_or slot.reached false }
+    record { cell = cell_told numbering slot; copy = copy_said slot; reached = unwrap_or slot.reached false }
 
 -- a slot names the shard with this number
 abbrev pub is_text_of : Setup → ℕ → SlotText → Bool

@@ -5,8 +5,10 @@ use Rattle.json_tree.specs.declared.tree.Tree.{Tree}
 use Rattle.sm_server.specs.declared.call.Role.{Role}
 use Rattle.sm_placement.specs.Setup.{Setup, server_named, shard_named}
 use Rattle.laws_network.specs.Reopening.{Confirm, Entries, Inventory, MapOwner, Party, Server, Settlement, Slots, Told, Took, Unknown, entered, is_first}
+use Rattle.sm_copies.specs.declared.order.ToldCopy.{ToldCopy}
 use Rattle.sm_reopening.specs.Faults.{MayConfirm}
-use Rattle.sm_reopening.specs.Ongoing.{net_reopening, told_positions}
+use Rattle.sm_reopening.specs.Ongoing.{net_reopening, told_copies}
+use Rattle.sm_reopening.specs.States.{no_copy}
 use Rattle.sm_reopening.specs.Settles.{is_due_settle}
 use Rattle.json_tree.specs.View.{items_view, view}
 use Rattle.serde_json.specs.Find.{as_str}
@@ -21,16 +23,16 @@ use Rattle.smpland_lines.specs.declared.command.InventoryText.{InventoryText}
 use Rattle.smpland_lines.specs.declared.command.InventoryText.TheVariants as told
 use Rattle.smpland_reopening_lines.specs.Slots.{AreSlotsOf}
 
--- The positions of all other parties stay, and a server that is Unknown tells none.
-pub record KeepsPositions (party : Party) (inventory : Inventory) (old new : ℕ → ℕ → ℕ) : Type 0 where
+-- The copies of all other parties stay, and a server that is Unknown tells none.
+pub record KeepsCopies (party : Party) (inventory : Inventory) (old new : ℕ → ℕ → ToldCopy) : Type 0 where
   pub others : (s v : ℕ) → party ≢ Server v → new s v ≡ old s v
-  pub unknown : (s v nonce : ℕ) → party ≡ Server v → inventory ≡ Unknown nonce → new s v ≡ 0
+  pub unknown : (s v nonce : ℕ) → party ≡ Server v → inventory ≡ Unknown nonce → new s v ≡ no_copy
 
 -- A party has told what it has, for the first time at the fence with this base.
 pub record TakesToldOf (party : Party) (base : ℕ) (inventory : Inventory) (old new : ReopeningModel) : Type 0 where
   pub first : is_first (net_reopening old.ongoing) party base ≡ true
   pub taken : net_reopening new.ongoing ≡ entered (Told party base inventory) (net_reopening old.ongoing)
-  pub positions : KeepsPositions party inventory (told_positions old.ongoing) (told_positions new.ongoing)
+  pub copies : KeepsCopies party inventory (told_copies old.ongoing) (told_copies new.ongoing)
   pub under : IsUnder old new
   pub next : new.next ≡ old.next
 
@@ -46,14 +48,14 @@ pub record TakesConfirm (old new : ReopeningModel) : Type 0 where
   pub settles : SettlesChosen old chosen settlement
   pub taken : net_reopening new.ongoing ≡ entered (Confirm settlement) (net_reopening old.ongoing)
   pub kept : KeepsChosen old new chosen
-  pub positions : told_positions new.ongoing ≡ told_positions old.ongoing
+  pub copies : told_copies new.ongoing ≡ told_copies old.ongoing
   pub under : IsUnder old new
 
 -- A party has taken its settle with this base, and has said so for the first time.
 pub record TakesSettledOf (party : Party) (base : ℕ) (old new : ReopeningModel) : Type 0 where
   pub due : is_due_settle (net_reopening old.ongoing) party base ≡ true
   pub taken : net_reopening new.ongoing ≡ entered (Took party base) (net_reopening old.ongoing)
-  pub positions : told_positions new.ongoing ≡ told_positions old.ongoing
+  pub copies : told_copies new.ongoing ≡ told_copies old.ongoing
   pub under : IsUnder old new
   pub next : new.next ≡ old.next
 
@@ -68,22 +70,22 @@ abbrev pub party_named : Setup → Option (Bor (List ℕ)) → Option Party
 party_named numbering (Some name) = option_map Server (server_named numbering name.now)
 party_named numbering None = Some MapOwner
 
--- an inventory, with the positions of its slots, is of the slots that rows tell
-abbrev pub ListsSlots : Setup → List Tree → Inventory → (ℕ → ℕ) → Type 0
-ListsSlots numbering rows (Slots cells reached) positions =
-    AreSlotsOf numbering rows (λ s. record { cell = cells s; position = positions s; reached = reached s })
-ListsSlots numbering rows (Unknown _) positions = ⊥
-ListsSlots numbering rows Entries positions = ⊥
+-- an inventory, with the copies of its slots, is of the slots that rows tell
+abbrev pub ListsSlots : Setup → List Tree → Inventory → (ℕ → ToldCopy) → Type 0
+ListsSlots numbering rows (Slots cells reached) copies =
+    AreSlotsOf numbering rows (λ s. record { cell = cells s; copy = copies s; reached = reached s })
+ListsSlots numbering rows (Unknown _) copies = ⊥
+ListsSlots numbering rows Entries copies = ⊥
 
 -- the inventory of a server is what a line tells: slots, or the nonce under which it asks for them
-abbrev pub IsToldAs : Setup → InventoryText → Inventory → (ℕ → ℕ) → Type 0
-IsToldAs numbering (told.Unknown nonce) inventory positions = inventory ≡ Unknown nonce
-IsToldAs numbering (told.Slots rows) inventory positions = ListsSlots numbering rows.now inventory positions
-IsToldAs numbering told.Map inventory positions = ListsSlots numbering [] inventory positions
+abbrev pub IsToldAs : Setup → InventoryText → Inventory → (ℕ → ToldCopy) → Type 0
+IsToldAs numbering (told.Unknown nonce) inventory copies = inventory ≡ Unknown nonce
+IsToldAs numbering (told.Slots rows) inventory copies = ListsSlots numbering rows.now inventory copies
+IsToldAs numbering told.Map inventory copies = ListsSlots numbering [] inventory copies
 
 -- that of the map's owner is the map
 abbrev pub IsInventoryOf : Party → InventoryText → Inventory → ReopeningModel → Type 0
-IsInventoryOf (Server v) told inventory new = IsToldAs new.numbering told inventory (λ s. told_positions new.ongoing s v)
+IsInventoryOf (Server v) told inventory new = IsToldAs new.numbering told inventory (λ s. told_copies new.ongoing s v)
 IsInventoryOf MapOwner told inventory new = inventory ≡ Entries
 
 -- a party has told what a line tells, by the names that have numbers

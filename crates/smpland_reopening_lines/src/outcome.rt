@@ -8,7 +8,7 @@ ghost use Rattle.smpland_reopening_lines.specs.Proposals.{TellsAwaited};
 
 use crate::proposed::{write_proposal, write_waiting};
 use crate::refused::refuse_confirm;
-use crate::sent::write_settles;
+use crate::settles::write_settles;
 use smpland_lines::{BadLine, Writer, write_bad, write_text};
 use smpland_reopening::{ConfirmRefusal, DocumentReopening};
 use std::alloc::{AllocError, Global};

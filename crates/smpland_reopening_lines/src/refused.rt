@@ -2,7 +2,7 @@
 ghost use Rattle.std.specs.Prelude.{OnOk};
 ghost use Rattle.smpland_lines.specs.Refusals.{TellsRefused};
 
-use crate::sent::party_name;
+use crate::fences::party_name;
 use sm_placement::{Config, OpenFault};
 use sm_reopening::{ConfirmFault, Party};
 use sm_server::{ServerId, ShardId};

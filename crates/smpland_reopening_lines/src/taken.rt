@@ -5,7 +5,7 @@ ghost use Rattle.json_tree.specs.declared.tree.Tree.{Tree};
 ghost use Rattle.smpland_lines.specs.Choices.{AreChoicesSaid};
 ghost use Rattle.smpland_lines.specs.declared.command.InventoryText.{InventoryText};
 ghost use Rattle.laws_network.specs.Reopening.{MapOwner, Server};
-ghost use Rattle.sm_reopening.specs.States.{fits_told, net_inventory, told_position};
+ghost use Rattle.sm_reopening.specs.States.{fits_told, net_inventory, told_copy};
 ghost use Rattle.sm_reopening.specs.Ongoing.{net_reopening, shards_of};
 ghost use Rattle.sm_reopening.specs.Settles.{net_party};
 ghost use Rattle.smpland_reopening_lines.specs.Outcomes.{DoesConfirm, DoesFenced, DoesFencedOf, DoesSettled};
@@ -47,7 +47,7 @@ fn read_told<'a>(
     ensures fits { IfOk result (λ read. IfOk read (λ t.
         fits_told (shards_of reopening.now.ongoing) (Some t.inventory) ≡ true)) }
     ensures said { IfOk result (λ read. IfOk read (λ t.
-        IsToldAs reopening.now.numbering told.entry (net_inventory t.inventory) (told_position (Some t.inventory)))) }
+        IsToldAs reopening.now.numbering told.entry (net_inventory t.inventory) (told_copy (Some t.inventory)))) }
 {
     let numbering = reopening.numbering();
     match told {

@@ -2,9 +2,10 @@
 ghost use Rattle.std.specs.Prelude.{◌≡◌, ◌==◌, ◌<◌, ℕ, IfOk, OnOk, Some, if◌then◌else◌, length, true};
 ghost use Rattle.laws_network.specs.Reopening.{Unknown};
 ghost use Rattle.sm_reopening.specs.States.{fits_told, net_inventory, no_slot, slot_in};
-ghost use Rattle.smpland_reopening_lines.specs.Slots.{cell_told, is_text_of, party_told, slot_by, slot_told};
+ghost use Rattle.smpland_reopening_lines.specs.Slots.{cell_told, copy_said, is_text_of, party_told, slot_by, slot_told};
 ghost use Rattle.smpland_reopening_lines.specs.Told.{HasEachSlot};
 
+use sm_copies::ToldCopy;
 use sm_placement::Config;
 use sm_reopening::{FoundSlot, Inventory};
 use sm_server::{Cell, ServerId, ShardId};
@@ -52,25 +53,38 @@ fn cell_told(numbering: &Config, slot: &SlotText<'_>) -> Cell
     }
 }
 
-/// Returns what a slot tells.
+/// The copy that a slot tells.
+fn copy_said(slot: &SlotText<'_>) -> ToldCopy
+    ensures { result ≡ copy_said slot.now }
+{
+    ToldCopy {
+        view: slot.view.unwrap_or(0),
+        position: slot.position.unwrap_or(0),
+    }
+}
+
+/// What a slot tells.
 fn slot_told(numbering: &Config, slot: &SlotText<'_>) -> FoundSlot
     ensures { result ≡ slot_told numbering.now slot.now }
 {
     FoundSlot {
         cell: cell_told(numbering, slot),
-        position: slot.position.unwrap_or(0),
+        copy: copy_said(slot),
         reached: slot.reached.unwrap_or(false),
     }
 }
 
-/// Returns nothing of each shard.
+/// Nothing of each shard.
 fn no_slots(alloc: Global, numbering: &Config) -> Result<Vec<FoundSlot>, AllocError>
     ensures count { IfOk result (λ slots. length slots.items ≡ length numbering.now.shards) }
     ensures nothing { IfOk result (λ slots. (s : ℕ) → slot_in slots.items s ≡ no_slot) }
 {
     let nothing = FoundSlot {
         cell: Cell::Absent,
-        position: 0,
+        copy: ToldCopy {
+            view: 0,
+            position: 0,
+        },
         reached: false,
     };
     vec![in alloc; nothing; numbering.shard_count() as usize]

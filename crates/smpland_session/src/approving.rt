@@ -38,7 +38,7 @@ fn name_permit(
     ensures { opened.new.driver ≡ opened.old.driver }
 {
     let name = server_name(opened.driver.machine().config(), server);
-    let given = opened.permits.push(name, permit)?;
+    let given = opened.permits.push(name, permit, by)?;
     opened.approvals.insert(by, given)
 }
 
@@ -66,6 +66,6 @@ pub fn approve(
             name_permit(opened, server, permit, by)?;
             Ok(DriverOutcome::Approved { server, permit })
         }
-        Err(why) => Ok(DriverOutcome::Declined(Decline::Denied(why))),
+        Err(why) => Ok(DriverOutcome::Declined(Decline::Denied { server, why })),
     }
 }

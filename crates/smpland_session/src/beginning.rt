@@ -78,24 +78,30 @@ fn not_said(
     }
 }
 
+/// A plan as a line brings it, under its name.
+#[derive(Clone, Copy)]
+struct NamedPlan<'t, 'a> {
+    value: &'t Tree<'a>,
+    name: &'t str,
+}
+
 /// What comes of a begin under a name under which a plan has begun before.
 fn begun_before(
     opened: &JournalState,
     at: CommandContext,
     alloc: Global,
-    value: &Tree<'_>,
-    name: &str,
+    said: NamedPlan<'_, '_>,
     plan: BegunPlan,
 ) -> Result<DriverOutcome, AllocError>
-    requires { value_of opened.now.plans name.now ≡ Some plan }
-    ensures { IfOk result (λ outcome.
-        BeginOutcome (view value.now) name.now at.is_reopening opened.now outcome opened.now) }
+    requires { value_of opened.now.plans said.name.now ≡ Some plan }
+    ensures { IfOk result (λ outcome. BeginOutcome (view said.entry.value.now) said.entry.name.now at.is_reopening
+        opened.now outcome opened.now) }
 {
     let goes_on = !at.is_reopening;
     let Some(kept) = kept_plan(opened, plan) else {
         return Ok(DriverOutcome::BegunBefore { plan, goes_on });
     };
-    match not_said(opened, alloc, value, name, kept)? {
+    match not_said(opened, alloc, said.value, said.name, kept)? {
         Some(why) => Ok(DriverOutcome::Declined(why)),
         None => Ok(DriverOutcome::BegunBefore { plan, goes_on }),
     }
@@ -178,7 +184,7 @@ pub fn begin(
 {
     // Whoever begins the same plan again under its name is told so.
     if let Some(plan) = opened.plans.get(name) {
-        return begun_before(opened, at, alloc, value, name, plan);
+        return begun_before(opened, at, alloc, NamedPlan { value, name }, plan);
     }
     if at.is_reopening {
         return Ok(DriverOutcome::Declined(Decline::Reopening));

@@ -14,7 +14,7 @@ use sm_task_controller::Denied;
 use sm_verifier::Fault;
 use smpland_lines::{
     BadLine, CommandMember, Field, LinePart, Writer, refuse, refuse_begin, refuse_check,
-    refuse_restart, shard_name, write_bad, write_text,
+    shard_name, write_bad, write_text,
 };
 use smpland_state::{GivenAt, JournalState};
 use std::alloc::{AllocError, Global};
@@ -53,8 +53,8 @@ pub enum Decline {
     OtherPlan(String),
     /// No server has the name.
     UnknownServer,
-    /// The restart is not approved.
-    Denied(Denied),
+    /// The restart of the server is not approved.
+    Denied { server: ServerId, why: Denied },
     /// Another server's restart was approved under this name.
     OtherServer(GivenAt),
     /// The server was not settled at or above the fence.
@@ -162,7 +162,7 @@ impl Decline {
                 let bad = BadLine::UnknownName(LinePart::Line, CommandMember::Server);
                 tell_bad(writer, alloc, bad)
             }
-            Decline::Denied(why) => refuse_restart(writer, alloc, config, *why),
+            Decline::Denied { server, why } => opened.write_denied(alloc, writer, *server, why),
             Decline::OtherServer(at) => refuse_other(opened, alloc, writer, *at),
             Decline::Unsettled(server) => {
                 let server = Field::Name("server", opened.name_of(*server));

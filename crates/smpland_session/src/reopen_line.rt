@@ -23,6 +23,13 @@ struct NextEpoch {
     epoch: u32,
 }
 
+/// What a reopening begins with beside its document: the servers that are lost, and the epoch that it opens.
+#[derive(Clone, Copy)]
+struct ReopeningStart<'l, 'n> {
+    lost: &'l [&'n str],
+    next: NextEpoch,
+}
+
 /// The line that asks for a reopening.
 #[derive(Clone, Copy)]
 pub(crate) struct ReopenLine<'t, 'a> {
@@ -128,20 +135,21 @@ fn begun_under(
     under_way: &Option<UnderWay>,
     alloc: Global,
     document: Document,
-    lost: &[&str],
-    next: NextEpoch,
+    start: ReopeningStart<'_, '_>,
 ) -> Result<DocumentReopening, (Document, ReopenFault)>
-    requires replaced { IfSome under_way.now (λ u. next.epoch ≡ u.reopening.epoch + 1) }
-    requires recorded { under_way.now ≡ None → IfSome opened.now (λ o. next.epoch ≡ o.driver.epoch + 1) }
-    ensures begun { IfOk result (λ r.
-        BeginsReopening (map (λ name. name.now) lost.now) (driver_of opened.now) (reopening_under_way under_way.now) (Some r)) }
+    requires replaced { IfSome under_way.now (λ u. start.next.epoch ≡ u.reopening.epoch + 1) }
+    requires recorded { under_way.now ≡ None → IfSome opened.now (λ o. start.next.epoch ≡ o.driver.epoch + 1) }
+    ensures begun { IfOk result (λ r. BeginsReopening (map (λ name. name.now) start.entry.lost.now)
+        (driver_of opened.now) (reopening_under_way under_way.now) (Some r)) }
     ensures under { IfOk result (λ r. r.document ≡ document) }
     ensures named { under_way.now ≡ None → opened.now ≡ None
-        → IfOk result (λ r. (r.journal ≡ next.journal) × (r.epoch ≡ next.epoch)) }
+        → IfOk result (λ r. (r.journal ≡ start.entry.next.journal) × (r.epoch ≡ start.entry.next.epoch)) }
 {
     match under_way {
-        Some(current) => current.reopening.replace(alloc, document, lost, next.epoch),
-        None => begun_over(opened, alloc, document, lost, next),
+        Some(current) => current
+            .reopening
+            .replace(alloc, document, start.lost, start.next.epoch),
+        None => begun_over(opened, alloc, document, start.lost, start.next),
     }
 }
 
@@ -167,7 +175,11 @@ fn begun_by(
     if let Some(name) = unknown_lost(opened, under_way, lost.as_slice()) {
         return Err(NotBegun::UnknownLost(String::from_str(alloc, name)?));
     }
-    match begun_under(opened, under_way, alloc, document, lost.as_slice(), next) {
+    let start = ReopeningStart {
+        lost: lost.as_slice(),
+        next,
+    };
+    match begun_under(opened, under_way, alloc, document, start) {
         Ok(reopening) => Ok(reopening),
         Err((document, ReopenFault::NoMemory)) => {
             drop(document);

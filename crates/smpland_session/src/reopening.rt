@@ -69,22 +69,28 @@ fn put_in_force(
     Ok(())
 }
 
-/// Takes the answer of a server to its settle, or of the map's owner. With the last one the next epoch is open.
+/// The answer to a settle: of a server, or of the map's owner, under a base.
+#[derive(Clone, Copy)]
+pub(crate) struct SettleAnswer<'s> {
+    pub server: Option<&'s str>,
+    pub base: u64,
+}
+
+/// Takes the answer to a settle. With the last one the next epoch is open.
 pub(crate) fn take_settle(
     opened: &mut Option<JournalState>,
     under_way: &mut Option<UnderWay>,
     at: CommandContext,
     alloc: Global,
-    server: Option<&str>,
-    base: u64,
+    answer: SettleAnswer<'_>,
 ) -> Result<ReopeningOutcome<'static>, AllocError>
     ensures { IfOk result (λ came.
-        DoesSettle server.entry base opened.old under_way.old came opened.new under_way.new) }
+        DoesSettle answer.entry.server answer.entry.base opened.old under_way.old came opened.new under_way.new) }
 {
     let Some(mut current) = under_way.take() else {
         return Ok(ReopeningOutcome::Old);
     };
-    let came = take_settled(&mut current.reopening, server, base);
+    let came = take_settled(&mut current.reopening, answer.server, answer.base);
     match came {
         ReopeningOutcome::Complete => put_in_force(opened, current, at.place, alloc)?,
         ReopeningOutcome::Fenced

@@ -11,7 +11,7 @@ use crate::opening::{OpenLine, open};
 use crate::outcome::Outcome;
 use crate::reading::read_object;
 use crate::reopen_line::{ReopenLine, reopen};
-use crate::reopening::{confirm_cells, take_answer, take_settle};
+use crate::reopening::{SettleAnswer, confirm_cells, take_answer, take_settle};
 use crate::under_way::{UnderWay, write_outcome};
 use json::Scratch;
 use json_tree::Tree;
@@ -312,7 +312,8 @@ impl Session {
             }
             ReopeningCommand::Settled { server, base } => {
                 let (opened, under_way) = (&mut self.opened, &mut self.under_way);
-                match take_settle(opened, under_way, at, alloc, server, base) {
+                let answer = SettleAnswer { server, base };
+                match take_settle(opened, under_way, at, alloc, answer) {
                     Ok(came) => Ok(Outcome::Reopening(came)),
                     Err(error) => Err(error),
                 }

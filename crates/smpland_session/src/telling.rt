@@ -20,17 +20,26 @@ use crate::under_way::UnderWay;
 use json_tree::Tree;
 use sm_reservation::StreamId;
 use smpland_lines::{
-    FailedAnswer, PlanQuestion, Question, SlotNeeds, StateOf, Writer, read_slots, refuse,
-    write_bad, write_name, write_number, write_text,
+    PlanQuestion, Question, SlotNeeds, StateOf, Writer, read_slots, refuse, write_bad, write_name,
+    write_number, write_text,
 };
 use smpland_state::{
-    JournalState, write_audit, write_audited, write_bits, write_document, write_failed, write_map,
-    write_no_list, write_notices, write_plan_of, write_recorded, write_shard_of, write_since,
+    FailedOrder, JournalState, LaterPlaces, ReadSlots, write_audit, write_audited, write_bits,
+    write_document, write_failed, write_map, write_no_list, write_notices, write_plan_of,
+    write_recorded, write_shard_of, write_since,
 };
 use std::alloc::{AllocError, Global};
 
 /// The number of the form of lines and replies, which rises if lines that were right no longer are.
 const FORMAT: u64 = 2;
+
+/// The line that asks for an audit: a server, the place at which its slots were read, and the rows that tell them.
+#[derive(Clone, Copy)]
+struct AuditLine<'t, 'a> {
+    server: &'t str,
+    place: u64,
+    slots: &'t [Tree<'a>],
+}
 
 impl Session {
     /// Writes the reply to a question.
@@ -96,8 +105,12 @@ impl Session {
         ensures { OnOk result (TellsAnswer (asked.Since place) self.now writer.old.tokens writer.new.tokens) }
     {
         let is_reopening = self.under_way.is_some();
+        let places = LaterPlaces {
+            after: place,
+            present: self.place,
+        };
         match &self.opened {
-            Some(opened) => write_since(opened, is_reopening, alloc, writer, self.place, place),
+            Some(opened) => write_since(opened, is_reopening, alloc, writer, places),
             None => self.refuse_closed(alloc, writer),
         }
     }
@@ -162,17 +175,15 @@ impl Session {
     fn tell_failed(
         &self,
         alloc: Global,
-        id: StreamId,
-        number: u64,
-        answer: FailedAnswer,
+        failed: FailedOrder,
         writer: &mut Writer,
     ) -> Result<(), AllocError>
-        ensures { OnOk result (TellsFailed id number answer self.now.opened self.now.under_way
-            writer.old.tokens writer.new.tokens) }
+        ensures { OnOk result (TellsFailed failed.stream failed.number failed.answer self.now.opened
+            self.now.under_way writer.old.tokens writer.new.tokens) }
     {
         match (&self.opened, &self.under_way) {
             (_, Some(_)) => write_ignored(writer, "old"),
-            (Some(opened), None) => write_failed(opened, alloc, writer, id, number, answer),
+            (Some(opened), None) => write_failed(opened, alloc, writer, failed),
             (None, None) => self.refuse_closed(alloc, writer),
         }
     }
@@ -181,16 +192,15 @@ impl Session {
     fn tell_compared(
         &self,
         alloc: Global,
-        server: &str,
-        place: u64,
-        slots: &[Tree<'_>],
+        line: AuditLine<'_, '_>,
         writer: &mut Writer,
     ) -> Result<(), AllocError>
-        ensures { OnOk result (TellsOf (journal_in_force self.now) (λ o. TellsAudit o server.now place slots.now)
+        ensures { OnOk result (TellsOf (journal_in_force self.now)
+            (λ o. TellsAudit o line.entry.server.now line.entry.place line.entry.slots.now)
             writer.old.tokens writer.new.tokens) }
     {
         match self.in_force() {
-            Some(opened) => write_audit_of(opened, alloc, writer, server, place, slots),
+            Some(opened) => write_audit_of(opened, alloc, writer, line),
             None => self.refuse_closed(alloc, writer),
         }
     }
@@ -199,18 +209,16 @@ impl Session {
     fn tell_audit(
         &self,
         alloc: Global,
-        server: &str,
-        place: u64,
-        slots: &[Tree<'_>],
+        line: AuditLine<'_, '_>,
         writer: &mut Writer,
     ) -> Result<(), AllocError>
-        ensures { OnOk result (TellsUnlessLater (nat_lt self.now.place place) (journal_in_force self.now) server.now
-            place slots.now writer.old.tokens writer.new.tokens) }
+        ensures { OnOk result (TellsUnlessLater (nat_lt self.now.place line.entry.place) (journal_in_force self.now)
+            line.entry.server.now line.entry.place line.entry.slots.now writer.old.tokens writer.new.tokens) }
     {
-        if self.place < place {
-            write_audited(writer, server, "later")
+        if self.place < line.place {
+            write_audited(writer, line.server, "later")
         } else {
-            self.tell_compared(alloc, server, place, slots, writer)
+            self.tell_compared(alloc, line, writer)
         }
     }
 
@@ -239,12 +247,27 @@ impl Session {
                 stream,
                 number,
                 answer,
-            } => self.tell_failed(alloc, StreamId { plan, stream }, number, answer, writer),
+            } => {
+                let stream = StreamId { plan, stream };
+                let failed = FailedOrder {
+                    stream,
+                    number,
+                    answer,
+                };
+                self.tell_failed(alloc, failed, writer)
+            }
             PlanQuestion::Audit {
                 server,
                 place,
                 slots,
-            } => self.tell_audit(alloc, server, place, slots, writer),
+            } => {
+                let line = AuditLine {
+                    server,
+                    place,
+                    slots,
+                };
+                self.tell_audit(alloc, line, writer)
+            }
         }
     }
 
@@ -389,19 +412,25 @@ impl Session {
     }
 }
 
-/// Writes whether the slots that rows tell of a server, read at a place, are as recorded, or that a row tells none.
+/// Writes whether the slots that a line tells of a server are as recorded, or that a row tells none.
 fn write_audit_of(
     opened: &JournalState,
     alloc: Global,
     writer: &mut Writer,
-    server: &str,
-    place: u64,
-    rows: &[Tree<'_>],
+    line: AuditLine<'_, '_>,
 ) -> Result<(), AllocError>
-    ensures { OnOk result (TellsAudit opened.now server.now place rows.now writer.old.tokens writer.new.tokens) }
+    ensures { OnOk result (TellsAudit opened.now line.entry.server.now line.entry.place line.entry.slots.now
+        writer.old.tokens writer.new.tokens) }
 {
-    match read_slots(alloc, rows, SlotNeeds::Audit)? {
-        Ok(slots) => write_audit(opened, alloc, writer, server, place, slots.as_slice()),
+    match read_slots(alloc, line.slots, SlotNeeds::Audit)? {
+        Ok(slots) => {
+            let read = ReadSlots {
+                server: line.server,
+                place: line.place,
+                slots: slots.as_slice(),
+            };
+            write_audit(opened, alloc, writer, read)
+        }
         Err(bad) => write_bad(writer, alloc, bad),
     }
 }

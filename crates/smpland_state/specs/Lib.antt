@@ -7,6 +7,7 @@ pub mod Bits
 pub mod Calls
 pub mod Cells
 pub mod Copies
+pub mod Denied
 pub mod Document
 pub mod Failed
 pub mod Given

@@ -2,7 +2,6 @@
 use Rattle.std.specs.Prelude.{ℕ, ◌+◌, List, ◌++◌, codes, length, option_map}
 use Rattle.std.specs.List.{flat_map, range_with_len}
 use Rattle.json.specs.Token.{Token}
-use Rattle.sm_placement.specs.Place.{entry_at}
 use Rattle.sm_placement.specs.Setup.{Setup}
 use Rattle.sm_placement.specs.declared.entry.Entry.{Entry}
 use Rattle.sm_driver.specs.Driver.{DriverModel, base, record_of}

@@ -15,6 +15,14 @@ use sm_server::ServerId;
 use smpland_lines::{FailedAnswer, Writer, write_text};
 use std::alloc::{AllocError, Global};
 
+/// An order that its server did not take: its stream, the number under which it was sent, and the server's answer.
+#[derive(Clone, Copy)]
+pub struct FailedOrder {
+    pub stream: StreamId,
+    pub number: u64,
+    pub answer: FailedAnswer,
+}
+
 /// Whether a server is one of the journal's.
 fn is_known(driver: &Driver, server: ServerId) -> bool
     ensures { result ≡ nat_lt server (record_of driver.now).sizes.servers }
@@ -124,22 +132,20 @@ fn write_failure(
     Ok(())
 }
 
-/// Writes what is to be done about a present order to which its server gave this answer, or that there is no such
-/// order.
+/// Writes what is to be done about a present order that has failed, or that there is no such order.
 pub fn write_failed(
     opened: &JournalState,
     alloc: Global,
     writer: &mut Writer,
-    id: StreamId,
-    number: u64,
-    answer: FailedAnswer,
+    failed: FailedOrder,
 ) -> Result<(), AllocError>
-    ensures { OnOk result (writer.new.tokens ≡ writer.old.tokens ++ failed_member opened.now.driver id number answer) }
+    ensures { OnOk result (writer.new.tokens
+        ≡ writer.old.tokens ++ failed_member opened.now.driver failed.stream failed.number failed.answer) }
 {
-    match opened.driver.due(id, number) {
+    match opened.driver.due(failed.stream, failed.number) {
         AnswerEffect::Moved => {
-            let nonce = nonce_for(&opened.driver, opened.driver.message(id));
-            write_failure(writer, alloc, answer, nonce)
+            let nonce = nonce_for(&opened.driver, opened.driver.message(failed.stream));
+            write_failure(writer, alloc, failed.answer, nonce)
         }
         AnswerEffect::Old => write_text(writer, "ignored", "old"),
         AnswerEffect::Unknown => write_text(writer, "ignored", "unknown"),

@@ -14,6 +14,13 @@ use sm_server::ShardId;
 use smpland_lines::{Writer, write_number, write_text};
 use std::alloc::{AllocError, Global};
 
+/// The places of a journal after one, up to the present one.
+#[derive(Clone, Copy)]
+pub struct LaterPlaces {
+    pub after: u64,
+    pub present: u64,
+}
+
 /// Keeps those of streams that came to where they stand after a place.
 fn keep_later(ids: &mut Vec<StreamId>, history: &History, place: u64)
     ensures { ids.new.items ≡ later_streams history.now place ids.old.items }
@@ -152,56 +159,54 @@ fn write_changes_since(
     Ok(())
 }
 
-/// Writes the same, or that the place is still to come. `now` is the present one.
+/// Writes the same, or that the place is still to come.
 fn write_changes_or_later(
     opened: &JournalState,
     is_reopening: bool,
     alloc: Global,
     writer: &mut Writer,
-    now: u64,
-    place: u64,
+    places: LaterPlaces,
 ) -> Result<(), AllocError>
     ensures { OnOk result (writer.new.tokens
-        ≡ writer.old.tokens ++ changes_or_later opened.now is_reopening now place) }
+        ≡ writer.old.tokens ++ changes_or_later opened.now is_reopening places.present places.after) }
 {
-    if now < place {
+    if places.present < places.after {
         write_text(writer, "is", "later")
     } else {
-        write_changes_since(opened, is_reopening, alloc, writer, place)
+        write_changes_since(opened, is_reopening, alloc, writer, places.after)
     }
 }
 
-/// Writes the members of what came up after a place. `now` is the present one.
+/// Writes the members of what came up at later places.
 fn write_since_members(
     opened: &JournalState,
     is_reopening: bool,
     alloc: Global,
     writer: &mut Writer,
-    now: u64,
-    place: u64,
+    places: LaterPlaces,
 ) -> Result<(), AllocError>
-    ensures { OnOk result (writer.new.tokens ≡ writer.old.tokens ++ since_members opened.now is_reopening now place) }
+    ensures { OnOk result (writer.new.tokens
+        ≡ writer.old.tokens ++ since_members opened.now is_reopening places.present places.after) }
 {
-    write_number(writer, "place", now)?;
-    write_changes_or_later(opened, is_reopening, alloc, writer, now, place)?;
+    write_number(writer, "place", places.present)?;
+    write_changes_or_later(opened, is_reopening, alloc, writer, places)?;
     Ok(())
 }
 
-/// Writes, as a member of a reply, what came up after a place. `now` is the present one. While a reopening is under
-/// way there are no messages.
+/// Writes, as a member of a reply, what came up at later places. While a reopening is under way there are no messages.
 pub fn write_since(
     opened: &JournalState,
     is_reopening: bool,
     alloc: Global,
     writer: &mut Writer,
-    now: u64,
-    place: u64,
+    places: LaterPlaces,
 ) -> Result<(), AllocError>
-    ensures { OnOk result (writer.new.tokens ≡ writer.old.tokens ++ since_member opened.now is_reopening now place) }
+    ensures { OnOk result (writer.new.tokens
+        ≡ writer.old.tokens ++ since_member opened.now is_reopening places.present places.after) }
 {
     writer.key("since")?;
     writer.begin_object()?;
-    write_since_members(opened, is_reopening, alloc, writer, now, place)?;
+    write_since_members(opened, is_reopening, alloc, writer, places)?;
     writer.end_object()?;
     Ok(())
 }

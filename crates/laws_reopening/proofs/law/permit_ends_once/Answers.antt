@@ -1,5 +1,5 @@
 -- The law is the lemma on what was counted.
-use Rattle.laws_reopening.proofs.Counted.{permits_end_once}
+use Rattle.laws_reopening.proofs.PermitEnds.{permits_end_once}
 use Rattle.laws_reopening.proofs.law.permit_ends_once.Goals as goal
 
 pub returns : goal.returns

@@ -41,10 +41,12 @@ returns-in-Some c =
     let on_load = same_row _ _ row c.small-load.ensures.read.on on_last in
     let on_cut = same_row _ _ row c.number_unless_null-cut.ensures.on on_load in
     let on_position = same_row _ _ row c.number-position.ensures.read.on on_cut in
+    let on_view = same_row _ _ row c.number-view.ensures.read.on on_position in
     record {
       needed = finished (IsSlotFor c.args.needs) _ _ c.finish.result
           (λ clean.
-          let at_position = c.flag-reached.ensures.read.on.kept clean in
+          let at_view = c.flag-reached.ensures.read.on.kept clean in
+          let at_position = c.number-view.ensures.read.on.kept at_view in
           let at_cut = c.number-position.ensures.read.on.kept at_position in
           let at_load = c.number_unless_null-cut.ensures.on.kept at_cut in
           let at_last = c.small-load.ensures.read.on.kept at_load in
@@ -63,11 +65,13 @@ returns-in-Some c =
             last_most = c.number-last.ensures.most;
             cut_most = c.number_unless_null-cut.ensures.most;
             position_most = c.number-position.ensures.most;
+            view_most = c.number-view.ensures.most;
           })
           c.finish.ensures.read c.finish.ensures.clean;
       told = finished (TellsSlot row) _ _ c.finish.result
           (λ clean.
-          let at_position = c.flag-reached.ensures.read.on.kept clean in
+          let at_view = c.flag-reached.ensures.read.on.kept clean in
+          let at_position = c.number-view.ensures.read.on.kept at_view in
           let at_cut = c.number-position.ensures.read.on.kept at_position in
           let at_load = c.number_unless_null-cut.ensures.on.kept at_cut in
           let at_last = c.small-load.ensures.read.on.kept at_load in
@@ -84,7 +88,8 @@ returns-in-Some c =
             load = value_is whole_at _ at.Load at.Load _ row (c.small-load.ensures.told at_load) refl on_last;
             cut = value_is whole_at _ at.Cut at.Cut _ row (c.number_unless_null-cut.ensures.told at_cut) refl on_load;
             position = value_is whole_at _ _ at.Position _ row (c.number-position.ensures.told at_position) c.needed_if-position.ensures.member on_cut;
-            reached = value_is truth_at _ _ at.Reached _ row (c.flag-reached.ensures.told clean) c.needed_if-reached.ensures.member on_position;
+            view = value_is whole_at _ at.View at.View _ row (c.number-view.ensures.told at_view) refl on_position;
+            reached = value_is truth_at _ _ at.Reached _ row (c.flag-reached.ensures.told clean) c.needed_if-reached.ensures.member on_view;
           })
           c.finish.ensures.read c.finish.ensures.clean;
     }

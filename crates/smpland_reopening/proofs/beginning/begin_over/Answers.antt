@@ -50,5 +50,5 @@ returns-clause-recorded c = record {
   setup = c.in_ok-ongoing.ensures.setup;
   place = c.in_ok-ongoing.ensures.place;
   shards = c.in_ok-ongoing.ensures.shards ∙ c.shard_count-shards.ensures.count;
-  positions = c.in_ok-ongoing.ensures.positions;
+  copies = c.in_ok-ongoing.ensures.copies;
 }

@@ -5,7 +5,7 @@ use Rattle.smpland_reopening.specs.declared.choice.Choice.{Choice}
 use Rattle.smpland_reopening_lines.specs.Taken.{choice_made, shard_told}
 use Rattle.smpland_reopening_lines.proofs.taken.confirm.Goals as goal
 
--- What may be confirmed is, and what may be lost is named.
+-- The choice may be confirmed, and names what may be lost.
 pub returns-in-Ok : goal.returns-in-Ok
 returns-in-Ok c cells said =
     let it = c.in-Ok.ensures.confirmed in
@@ -21,7 +21,7 @@ returns-in-Ok c cells said =
         settles = it.4;
         taken = it.2;
         kept = c.in-Ok.ensures.kept;
-        positions = c.in-Ok.ensures.positions;
+        copies = c.in-Ok.ensures.copies;
         under = c.in-Ok.ensures.under;
       },
       (c.args.shards.now, said, ap (map choice_made) c.as_slice.ensures.value ∙ c.in_ok-chosen.ensures),

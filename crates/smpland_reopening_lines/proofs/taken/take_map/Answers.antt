@@ -1,4 +1,4 @@
--- The map's owner has told the map, and no position has changed.
+-- The map's owner has told the map, and no copy has changed.
 use Rattle.std.proofs.Common.{◌≡◌, Bool, true, false, refl}
 use Rattle.laws_network.specs.Reopening.{Entries, MapOwner, is_first}
 use Rattle.sm_reopening.specs.Ongoing.{net_reopening}
@@ -17,7 +17,7 @@ returns-in-Waiting c told =
       record {
         first = first_time (is_first (net_reopening c.args.reopening.now.ongoing) MapOwner c.args.base) (λ f. not_old _ c.in-Waiting.is (is.old.1 f));
         taken = is.reopening;
-        positions = map_keeps Entries _ _ is.positions;
+        copies = map_keeps Entries _ _ is.copies;
         under = is.under;
         next = is.next;
       },

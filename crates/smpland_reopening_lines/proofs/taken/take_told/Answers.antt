@@ -1,5 +1,5 @@
 use Rattle.std.proofs.Common.{rules, Some}
-use Rattle.sm_reopening.specs.States.{net_inventory, told_position}
+use Rattle.sm_reopening.specs.States.{net_inventory, told_copy}
 use Rattle.smpland_reopening_lines.specs.Taken.{IsToldAs}
 use Rattle.smpland_reopening_lines.proofs.Slots.{not_old, takes_told}
 use Rattle.smpland_reopening_lines.proofs.taken.take_told.Goals as goal
@@ -9,6 +9,6 @@ pub returns-in-Waiting : goal.returns-in-Waiting
 returns-in-Waiting c =
     let old = c.args.reopening.now in
     let inventory = c.in-Ok.field-0.inventory in
-    let said : IsToldAs old.numbering c.args.told (net_inventory inventory) (told_position (Some inventory)) = search rules in
+    let said : IsToldAs old.numbering c.args.told (net_inventory inventory) (told_copy (Some inventory)) = search rules in
     let is = c.in_ok-fenced-in-Ok.ensures in
-    takes_told c.args.told c.args.server c.args.base inventory old c.fenced.new.self _ said is.old (not_old _ c.in-Waiting.is) is.reopening is.positions is.under is.next
+    takes_told c.args.told c.args.server c.args.base inventory old c.fenced.new.self _ said is.old (not_old _ c.in-Waiting.is) is.reopening is.copies is.under is.next

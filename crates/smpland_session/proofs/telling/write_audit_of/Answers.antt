@@ -6,9 +6,9 @@ use Rattle.smpland_session.proofs.telling.write_audit_of.Goals as goal
 -- The slots are those that the rows tell.
 pub returns-in-Ok : goal.returns-in-Ok
 returns-in-Ok c =
-    let told = read_is (λ slots. TellSlots c.args.rows.now slots.items) _ c.in-Ok.slots c.in-Ok.is c.in_ok-slots.ensures.told in
-    tells_compared c.write_audit.result c.args.opened.now c.args.server.now c.args.place c.args.rows.now c.in-Ok.slots.items c.as_slice.result.now _ _ told
+    let told = read_is (λ slots. TellSlots c.args.line.slots.now slots.items) _ c.in-Ok.slots c.in-Ok.is c.in_ok-slots.ensures.told in
+    tells_compared c.write_audit.result c.args.opened.now c.args.line.server.now c.args.line.place c.args.line.slots.now c.in-Ok.slots.items c.as_slice.result.now _ _ told
     c.as_slice.ensures.value c.write_audit.ensures
 
 pub returns-in-Err : goal.returns-in-Err
-returns-in-Err c = tells_malformed c.write_bad.result c.args.opened.now c.args.server.now c.args.place c.args.rows.now c.in-Err.bad _ _ c.write_bad.ensures
+returns-in-Err c = tells_malformed c.write_bad.result c.args.opened.now c.args.line.server.now c.args.line.place c.args.line.slots.now c.in-Err.bad _ _ c.write_bad.ensures

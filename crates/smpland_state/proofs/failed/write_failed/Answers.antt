@@ -11,6 +11,6 @@ returns-in-Moved c =
     let o = c.args.writer.now.tokens in
     let ts = c.write_failure.new.writer.tokens in
     let nonce = c.nonce_for-nonce.ensures ∙ ap (nonce_for d) c.message.ensures.message in
-    subst (λ (k : Option ℕ). OnOk c.write_failure.result (ts ≡ o ++ failed_reply (answer_effect d c.args.id c.args.number) c.args.answer k)) nonce
-    (subst (λ (x : AnswerEffect). OnOk c.write_failure.result (ts ≡ o ++ failed_reply x c.args.answer c.nonce_for-nonce.result)) (sym c.in-Moved.is ∙ c.due.ensures)
+    subst (λ (k : Option ℕ). OnOk c.write_failure.result (ts ≡ o ++ failed_reply (answer_effect d c.args.failed.stream c.args.failed.number) c.args.failed.answer k)) nonce
+    (subst (λ (x : AnswerEffect). OnOk c.write_failure.result (ts ≡ o ++ failed_reply x c.args.failed.answer c.nonce_for-nonce.result)) (sym c.in-Moved.is ∙ c.due.ensures)
     c.write_failure.ensures)

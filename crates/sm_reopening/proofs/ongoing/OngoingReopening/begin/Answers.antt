@@ -3,8 +3,8 @@ use Rattle.std.proofs.Common.{◌≡◌, ◌∙◌, ◌≤◌, ℕ, false, List,
 use Rattle.std.proofs.lemmas.List.{length-map}
 use Rattle.sm_placement.specs.Layout.{PlacementModel}
 use Rattle.sm_reopening.specs.declared.state.ServerState.{ServerState}
-use Rattle.sm_reopening.specs.States.{FitsShards, fresh_state, position_by, reopening_by}
-use Rattle.sm_reopening.proofs.Updates.{fresh_fits, fresh_positions, fresh_reopening}
+use Rattle.sm_reopening.specs.States.{FitsShards, fresh_state, copy_by, reopening_by}
+use Rattle.sm_reopening.proofs.Updates.{fresh_fits, fresh_copies, fresh_reopening}
 use Rattle.sm_reopening.proofs.ongoing.OngoingReopening.begin.Goals as goal
 
 pub invariant_of-result-clause-fits : goal.invariant_of-result-clause-fits
@@ -22,5 +22,5 @@ returns-clause-reopening c =
     ap (λ (xs : List ServerState). reopening_by c.args.base xs false false None) c.in_ok-servers.ensures
     ∙ fresh_reopening c.args.base (length c.args.placement.now.setup.servers) c.args.members.now c.requires.servers
 
-pub returns-clause-positions : goal.returns-clause-positions
-returns-clause-positions c = ap position_by c.in_ok-servers.ensures ∙ fresh_positions c.args.members.now
+pub returns-clause-copies : goal.returns-clause-copies
+returns-clause-copies c = ap copy_by c.in_ok-servers.ensures ∙ fresh_copies c.args.members.now

@@ -3,7 +3,7 @@ use Rattle.std.proofs.Common.{◌≡◌, ◌∙◌, ℕ, Bool, true, Some, sym, 
 use Rattle.std.specs.Prelude.{if◌then◌else◌}
 use Rattle.laws_network.specs.Reopening.{Reopening, Server, is_first, put_party}
 use Rattle.sm_reopening.specs.States.{net_inventory}
-use Rattle.sm_reopening.specs.Ongoing.{told_positions, put_position, net_reopening}
+use Rattle.sm_reopening.specs.Ongoing.{told_copies, put_copy, net_reopening}
 use Rattle.sm_reopening.proofs.Firsts.{first_parts}
 use Rattle.sm_reopening.proofs.ongoing.OngoingReopening.fenced.Goals as goal
 
@@ -23,7 +23,7 @@ returns-clause-reopening c =
     let e : is_first (net_reopening c.args.self.now) (Server c.args.server) c.args.base ≡ true = cc in
     c.tell.ensures.reopening ∙ ap (λ (t : Bool). if t then record r { told = put_party r.told (Server c.args.server) (Some (net_inventory c.args.inventory)) } else r) (sym e)
 
-pub returns-clause-positions : goal.returns-clause-positions
-returns-clause-positions c =
+pub returns-clause-copies : goal.returns-clause-copies
+returns-clause-copies c =
     let e : is_first (net_reopening c.args.self.now) (Server c.args.server) c.args.base ≡ true = cc in
-    c.tell.ensures.positions ∙ ap (λ (t : Bool). if t then put_position (told_positions c.args.self.now) c.args.server c.args.inventory else told_positions c.args.self.now) (sym e)
+    c.tell.ensures.copies ∙ ap (λ (t : Bool). if t then put_copy (told_copies c.args.self.now) c.args.server c.args.inventory else told_copies c.args.self.now) (sym e)

@@ -2,7 +2,7 @@
 use Rattle.std.proofs.Common.{◌≡◌, ◌∙◌, ◌≤◌, ℕ, length, ap, arith}
 use Rattle.sm_placement.specs.Layout.{PlacementModel}
 use Rattle.sm_reopening.specs.Ongoing.{net_reopening}
-use Rattle.sm_reopening.proofs.Updates.{next_fits, next_left_out, next_positions, next_reopening}
+use Rattle.sm_reopening.proofs.Updates.{next_fits, next_left_out, next_copies, next_reopening}
 use Rattle.sm_reopening.proofs.ongoing.OngoingReopening.replace.Goals as goal
 
 pub invariant_of-result-clause-fits : goal.invariant_of-result-clause-fits
@@ -18,8 +18,8 @@ invariant_of-result-clause-known_servers c =
 pub returns-clause-reopening : goal.returns-clause-reopening
 returns-clause-reopening c = next_reopening c.args.base c.args.members.now c.in_ok-servers.servers.items (net_reopening c.args.self.now) c.requires.servers c.in_ok-servers.ensures
 
-pub returns-clause-positions : goal.returns-clause-positions
-returns-clause-positions c = next_positions c.args.members.now (net_reopening c.args.self.now).promised c.in_ok-servers.servers.items c.in_ok-servers.ensures
+pub returns-clause-copies : goal.returns-clause-copies
+returns-clause-copies c = next_copies c.args.members.now (net_reopening c.args.self.now).promised c.in_ok-servers.servers.items c.in_ok-servers.ensures
 
 pub returns-clause-left_out : goal.returns-clause-left_out
 returns-clause-left_out c = next_left_out c.args.members.now (net_reopening c.args.self.now).promised c.in_ok-servers.servers.items c.in_ok-servers.ensures

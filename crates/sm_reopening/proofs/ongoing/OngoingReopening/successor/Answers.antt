@@ -13,11 +13,12 @@ loop-number-preserved c =
     let n : ℕ = c.loop-number.number in
     let new : Standing = c.standing-standing.result in
     let e : new ≡ standing_of x c.args.shard n = c.standing-standing.ensures.standing ∙ ap (standing_of x c.args.shard) c.new-server.ensures in
-    let small : new.position ≤ 18446744073709551615 = omega (arith, c.standing-standing.ensures.small) in
+    let view : new.copy.view ≤ 18446744073709551615 = omega (arith, c.standing-standing.ensures.view) in
+    let position : new.copy.position ≤ 18446744073709551615 = omega (arith, c.standing-standing.ensures.position) in
     elim c.if-is_above.branch [
       | then-is_above w ↦
           let above : stands_above new c.loop-number.best ≡ true = cc in
-          let more : IsBestBelow x c.args.shard (n + 1) (Some n) new = better_next x c.args.shard n c.loop-number.successor c.loop-number.best new e small c.loop-number.invariant above in
+          let more : IsBestBelow x c.args.shard (n + 1) (Some n) new = better_next x c.args.shard n c.loop-number.successor c.loop-number.best new e view position c.loop-number.invariant above in
           let top : new ≡ c.if-is_above.best = cc in
           let successor : Some n ≡ c.if-is_above.successor = cc in
           subst (λ (h : Option ℕ). IsBestBelow x c.args.shard (n + 1) h c.if-is_above.best) successor (subst (λ (b : Standing). IsBestBelow x c.args.shard (n + 1) (Some n) b) top more)

@@ -7,8 +7,8 @@ use Rattle.sm_reopening.specs.declared.party.Membership.TheVariants.{Member}
 use Rattle.sm_reopening.specs.declared.state.ServerState.{ServerState}
 use Rattle.sm_reopening.specs.States.{fits_told, fresh_state, net_inventory, settled_by, settlement_by, state_by, told_by}
 use Rattle.sm_reopening.specs.Ongoing.{net_reopening}
-use Rattle.sm_reopening.specs.Ongoing.{told_positions, put_position}
-use Rattle.sm_reopening.proofs.Updates.{left_out_same, position_put, told_reopening}
+use Rattle.sm_reopening.specs.Ongoing.{told_copies, put_copy}
+use Rattle.sm_reopening.proofs.Updates.{left_out_same, copy_put, told_reopening}
 use Rattle.std.proofs.Math.Path.{fun_ext}
 use Rattle.sm_reopening.proofs.ongoing.OngoingReopening.tell.Goals as goal
 
@@ -24,12 +24,12 @@ returns-clause-reopening c =
     (record c.index_mut.result.now { told = Some c.args.inventory }) l (none_confirmed settlement_by c.args.self.now.confirmed c.requires.open) (ap (λ (s : ServerState). s.membership) was) (ap (λ (s : ServerState). s.settled) was) (ap (λ (s : ServerState). s.promised) was)
     ∙ ap (λ (v : ℕ). record (net_reopening c.args.self.now) { told = put_party (net_reopening c.args.self.now).told (Server v) (Some (net_inventory c.args.inventory)) }) c.number.ensures
 
-pub returns-clause-positions : goal.returns-clause-positions
-returns-clause-positions c =
+pub returns-clause-copies : goal.returns-clause-copies
+returns-clause-copies c =
     let l : c.number.result < length c.args.self.now.servers.items = omega (arith, c.requires.known, c.number.ensures) in
     let was : c.index_mut.result.now ≡ state_by c.args.self.now.servers.items c.number.result = (get_or_read c.args.self.now.servers.items c.number.result c.index_mut.result.now l c.index_mut.ensures.value (fresh_state Member)) in
-    fun_ext (λ s. fun_ext (λ v. position_put c.args.self.now.servers.items c.number.result (record c.index_mut.result.now { told = Some c.args.inventory }) s v l))
-    ∙ ap (λ (v : ℕ). put_position (told_positions c.args.self.now) v c.args.inventory) c.number.ensures
+    fun_ext (λ s. fun_ext (λ v. copy_put c.args.self.now.servers.items c.number.result (record c.index_mut.result.now { told = Some c.args.inventory }) s v l))
+    ∙ ap (λ (v : ℕ). put_copy (told_copies c.args.self.now) v c.args.inventory) c.number.ensures
 
 pub returns-clause-same : goal.returns-clause-same
 returns-clause-same c =

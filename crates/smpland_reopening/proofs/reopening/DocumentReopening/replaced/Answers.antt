@@ -48,5 +48,5 @@ returns-clause-recorded c = record {
   setup = c.in_ok-ongoing.ensures.setup ∙ ap (λ (r : ReopeningModel). recorded_setup r.ongoing) c.self.view_is;
   place = c.in_ok-ongoing.ensures.place ∙ ap (λ (r : ReopeningModel). recorded_place r.ongoing) c.self.view_is;
   shards = c.in_ok-ongoing.ensures.shards ∙ c.shard_count-shards.ensures.count;
-  positions = c.in_ok-ongoing.ensures.positions;
+  copies = c.in_ok-ongoing.ensures.copies;
 }

@@ -1,7 +1,7 @@
 -- A reopening whose server has told is one.
 use Rattle.std.proofs.Common.{◌∙◌, ap}
 use Rattle.laws_network.specs.Reopening.{Server, Told, entered}
-use Rattle.sm_reopening.specs.Ongoing.{net_reopening, position_after}
+use Rattle.sm_reopening.specs.Ongoing.{net_reopening, copies_after}
 use Rattle.sm_reopening.specs.States.{net_inventory}
 use Rattle.smpland_reopening.proofs.Frames.{still_told}
 use Rattle.smpland_reopening.proofs.reopening.DocumentReopening.tell.Goals as goal
@@ -13,6 +13,6 @@ pub returns-clause-reopening : goal.returns-clause-reopening
 returns-clause-reopening c =
     c.fenced.ensures.reopening ∙ ap (λ r. entered (Told (Server c.args.server) c.args.base (net_inventory c.args.inventory)) (net_reopening r.ongoing)) c.self.view_is
 
-pub returns-clause-positions : goal.returns-clause-positions
-returns-clause-positions c =
-    c.fenced.ensures.positions ∙ ap (λ r. position_after r.ongoing c.args.server c.args.base c.args.inventory) c.self.view_is
+pub returns-clause-copies : goal.returns-clause-copies
+returns-clause-copies c =
+    c.fenced.ensures.copies ∙ ap (λ r. copies_after r.ongoing c.args.server c.args.base c.args.inventory) c.self.view_is

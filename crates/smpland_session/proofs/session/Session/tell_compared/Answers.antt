@@ -9,11 +9,11 @@ use Rattle.smpland_session.proofs.session.Session.tell_compared.Goals as goal
 pub returns-in-Some : goal.returns-in-Some
 returns-in-Some c =
     let found = sym (ap (λ (f : Option (Bor JournalState)). option_map (λ o. o.now) f) c.in-Some.is) ∙ c.in_force.ensures in
-    subst (λ (f : Option JournalState). OnOk c.write_audit_of.result (TellsOf f (λ o. TellsAudit o c.args.server.now c.args.place c.args.slots.now) c.args.writer.now.tokens c.write_audit_of.new.writer.tokens))
+    subst (λ (f : Option JournalState). OnOk c.write_audit_of.result (TellsOf f (λ o. TellsAudit o c.args.line.server.now c.args.line.place c.args.line.slots.now) c.args.writer.now.tokens c.write_audit_of.new.writer.tokens))
     found c.write_audit_of.ensures
 
 pub returns-in-None : goal.returns-in-None
 returns-in-None c =
     let found = sym (ap (λ (f : Option (Bor JournalState)). option_map (λ o. o.now) f) c.in-None.is) ∙ c.in_force.ensures in
-    subst (λ (f : Option JournalState). OnOk c.refuse_closed.result (TellsOf f (λ o. TellsAudit o c.args.server.now c.args.place c.args.slots.now) c.args.writer.now.tokens c.refuse_closed.new.writer.tokens))
+    subst (λ (f : Option JournalState). OnOk c.refuse_closed.result (TellsOf f (λ o. TellsAudit o c.args.line.server.now c.args.line.place c.args.line.slots.now) c.args.writer.now.tokens c.refuse_closed.new.writer.tokens))
     found c.refuse_closed.ensures

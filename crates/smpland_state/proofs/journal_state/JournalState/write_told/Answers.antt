@@ -1,5 +1,4 @@
-use Rattle.std.proofs.Common.{sym}
-use Rattle.smpland_state.proofs.Told.{again_before, again_kept, told_kept}
+use Rattle.smpland_state.proofs.Told.{again_kept, told_kept}
 use Rattle.smpland_state.proofs.journal_state.JournalState.write_told.Goals as goal
 
 -- The reply tells, behind the server's name, what the driver keeps for it.

@@ -1,0 +1,10 @@
+use Rattle.std.proofs.Common.{◌≡◌, ◌++◌, drop}
+use Rattle.std.specs.List.{flat_map}
+use Rattle.smpland_reopening_lines.specs.Parties.{fence_text}
+use Rattle.smpland_reopening_lines.proofs.fences.write_each_fence.Given as goal
+
+-- what is written, and what is left
+abbrev pub invariant-loop-party : goal.invariant-loop-party
+invariant-loop-party l =
+    l.writer.tokens ++ flat_map (fence_text l.journal l.reopening) (drop l.party-index l.parties)
+    ≡ l.fn.writer.tokens ++ flat_map (fence_text l.journal l.reopening) l.parties

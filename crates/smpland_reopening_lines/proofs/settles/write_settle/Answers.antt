@@ -1,0 +1,8 @@
+use Rattle.smpland_lines.proofs.Written.{next}
+use Rattle.smpland_reopening_lines.proofs.settles.write_settle.Goals as goal
+
+pub returns : goal.returns
+returns c =
+    let o = c.begin_object.new.self.tokens in
+    let members = next o _ _ c.in_ok-write_head.ensures c.in_ok-write_brought.ensures in
+    next c.args.writer.now.tokens _ _ c.in_ok-begin_object.ensures.ok (next o _ _ members c.in_ok-end_object.ensures.ok)

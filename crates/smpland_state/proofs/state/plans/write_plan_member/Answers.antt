@@ -1,0 +1,5 @@
+use Rattle.smpland_lines.proofs.Written.{next}
+use Rattle.smpland_state.proofs.state.plans.write_plan_member.Goals as goal
+
+pub returns : goal.returns
+returns c = next c.args.writer.now.tokens _ _ c.in_ok-key.ensures.ok c.in_ok-write_plan.ensures
