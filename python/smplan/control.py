@@ -31,7 +31,7 @@ DONE = "done"
 WORDS = frozenset(["working", "no answer", "cancelled", *(it.name.lower() for it in Answer)])
 
 # The commands that change nothing, which need not be stored.
-ASKING = frozenset(["hello", "orders", "map", "state", "document", "moves", "drain", "repair", "check", "since", "audit", "failed"])
+ASKING = frozenset(["hello", "orders", "map", "state", "document", "moves", "drain", "check", "since", "audit", "failed"])
 
 # Stores lines behind all that were fed, and returns the lines to feed: those of others that came between, then these. StoreRefused says that it
 # stored none of these; any other exception ends this controller's leading.

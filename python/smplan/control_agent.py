@@ -1,7 +1,7 @@
 """Turns what a session sends into what the agent takes, and slots back."""
 from __future__ import annotations
 
-from typing import Any, Dict, Mapping, Union
+from typing import Any, Dict, Mapping, Optional, Union
 
 from .agent import Call, Cell, Order, Restoration, Role, Settlement, Slot
 
@@ -32,10 +32,12 @@ def slot_of(told: Dict[str, Any], numbers: Mapping[str, int]) -> Slot:
     )
 
 
-def told_of(shard: str, slot: Slot, names: Mapping[int, str], position: int, reached: bool) -> Dict[str, Any]:
-    """Returns what a server tells of a slot when it is fenced: with the shard's position, and whether a new owner has reached its cut. `names` are the
-    servers' by their numbers."""
+def told_of(shard: str, slot: Slot, names: Mapping[int, str], position: int, reached: bool, view: Optional[int] = None) -> Dict[str, Any]:
+    """Returns what a server tells of a slot when it is fenced: with the shard's position, the view of its copy's list if it keeps views, and whether a
+    new owner has reached its cut. `names` are the servers' by their numbers."""
     told: Dict[str, Any] = {"shard": shard, "cell": Cell(slot.cell).name.lower(), "last": slot.last, "load": slot.load, "position": position}
+    if view is not None:
+        told["view"] = view
     if slot.cell in (Cell.PREPARED, Cell.FORWARDING):
         told.update(party=names[slot.party], handover=slot.handover)
     if slot.cell == Cell.FORWARDING:

@@ -16,6 +16,7 @@ from typing import Any, Callable, Dict, List, Optional, Sequence
 
 from .access import read_certificate, read_token
 from .failure import Failure
+from .server_aside import Aside
 from .server_http import Caller, listen
 from .server_leave import Leaves
 from .server_offers import Offers
@@ -57,7 +58,7 @@ class Server:
         self.shards: Dict[str, Live] = {}
         self.call: Callable[[str, Optional[Line], float], Any] = Caller(token).call
         self.offers, self.streams, self.leaves, self.orders = Offers(self), Streams(self), Leaves(self), Orders(self)
-        self.requests, self.whole = Requests(self), Whole(self)
+        self.requests, self.whole, self.aside = Requests(self), Whole(self), Aside(self)
         with storage.transaction() as tx:
             if is_new and tx.get("frame/base") is None:
                 tx.put("frame/new", "1")
@@ -69,7 +70,7 @@ class Server:
                 "/notice": self.whole.notice}
         self.routes = {
             **{path: self.to_it(take) for path, take in told.items()}, "/base": self.whole.tell_base, "/slots": self.whole.tell_slots,
-            "/peer/follow": self.offers.taken, "/peer/copy": self.offers.given, "/peer/leave": self.leaves.given,
+            "/aside": self.aside.answer, "/peer/follow": self.offers.taken, "/peer/copy": self.offers.given, "/peer/leave": self.leaves.given,
             "/peer/pass": self.requests.passed, "/peer/life": self.whole.tell_life, "/request": self.requests.take}
         self.whole.start()
 

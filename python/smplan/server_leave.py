@@ -40,7 +40,8 @@ class Leaves:
                 return {"later": "it leaves, too"}
             if not may_give(slot, mark.position, line):
                 return {"later": f"it does not serve {shard}"}
-            if not it.has_copy(shard) or not it.has(shard, Mark(*line["mark"])):
+            theirs = Mark(*line["mark"])
+            if not it.has_copy(shard) or theirs.has_more_than(mark) or it.differs(shard, theirs):
                 return {"later": "it lacks writes"}
             with self.server.changed:
                 link = self.server.streams.link(self.server.live(shard), number)

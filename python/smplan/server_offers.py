@@ -4,11 +4,11 @@ from __future__ import annotations
 
 from dataclasses import asdict, astuple
 from enum import Enum
-from typing import TYPE_CHECKING, Any, Dict, Optional
+from typing import TYPE_CHECKING, Any, Dict, List, Optional
 
 from . import agent
-from .agent import Cell, Slot
-from .server_records import MOST_WRITES, Ledger, Mark, Records, Write
+from .agent import Cell, Slot, ViewStart
+from .server_records import MOST_WRITES, End, Ledger, Mark, Records, Write
 
 if TYPE_CHECKING:
     from .server import Server
@@ -42,6 +42,11 @@ def follows(slot: Slot, position: int) -> bool:
     return slot.cell == Cell.SECONDARY or (slot.cell == Cell.PREPARED and not agent.has_reached_cut(slot, position))
 
 
+def views_of(offer: Line) -> List[ViewStart]:
+    """The views of the list that an offer is of: of a copy all, of writes those from that of the mark on behind which they are."""
+    return [ViewStart(*it) for it in offer.get("views") or [[0, 0]]]
+
+
 class Offers:
     """Offers that a server makes, asks for and takes."""
 
@@ -50,43 +55,52 @@ class Offers:
 
     def offer(self, it: Records, shard: str, after: Mark) -> Line:
         """What a server lacks whose list ends at a mark: the writes behind it, or a whole copy if the mark is not this list's, or too far behind."""
-        slot, mark = it.slot(shard), it.mark(shard)
+        slot, mark, views = it.slot(shard), it.mark(shard), it.views(shard)
         told: Line = {"shard": shard, "from": self.server.number, "journal": f"{it.base().journal:x}", "heard": it.heard(), "mark": astuple(mark),
                       "after": astuple(after), "cut": [slot.handover, slot.cut] if slot.cell == Cell.FORWARDING else None}
         if it.has(shard, after) and mark.position - after.position <= MOST_WRITES:
-            return {**told, "writes": [asdict(write) for write in it.kept(shard, after.position)]}
+            later = [view for view in views if after.view <= view.view]
+            return {**told, "views": later, "writes": [asdict(write) for write in it.kept(shard, after.position)]}
         before = it.ledger(shard).before
-        return {**told, "copy": {"before": astuple(before), "writes": [asdict(write) for write in it.kept(shard)],
-                                 "data": self.server.service.copy(it.tx, shard)}}
+        return {**told, "views": views, "copy": {"before": astuple(before), "writes": [asdict(write) for write in it.kept(shard)],
+                                                 "data": self.server.service.copy(it.tx, shard)}}
 
     def load(self, it: Records, shard: str, offer: Line) -> None:
-        """Puts an offered copy in place of what is here."""
+        """Puts an offered copy in place of what is here, which is set aside if it has more."""
+        self.server.aside.keep_before(it, shard, offer)
         self.server.service.drop(it.tx, shard)
         old = it.old_owner(shard, Slot())
         it.clear(shard)
         it.put_old_owner(shard, old)
         copy = offer["copy"]
-        it.put_ledger(shard, Ledger(Mark(*copy["before"]), Mark(*copy["before"])))
+        it.put_ledger(shard, Ledger(End(*copy["before"]), End(*copy["before"])))
         for write in copy["writes"]:
             it.append(shard, Write(**write), self.limits.keeping)
         self.server.service.load(it.tx, shard, copy["data"])
+        it.put_views(shard, views_of(offer))
 
-    def take(self, it: Records, shard: str, offer: Line) -> bool:
-        """Takes an offer, unless the list here has changed since it was asked for. Whether all that the source has is here."""
-        after, mark = Mark(*offer["after"]), it.mark(shard)
-        if "copy" in offer and after == mark:
-            self.load(it, shard, offer)
+    def append(self, it: Records, shard: str, offer: Line) -> None:
+        """Puts offered writes behind those that are here, and takes over the views of the source's list once all up to its end is here."""
+        end, after, views = it.ledger(shard).end, Mark(*offer["after"]).end, views_of(offer)
         for told in offer.get("writes", ()):
             write = Write(**told)
-            if after == mark:
+            if after == end:
                 self.server.service.apply(it.tx, shard, write.command)
                 it.append(shard, write, self.limits.keeping)
-                mark = write.mark
-            after = write.mark
-        has_all = it.has(shard, Mark(*offer["mark"]))
-        if has_all and not it.has_copy(shard):
-            it.put_ledger(shard, Ledger())
-        return has_all
+                end = write.end
+            after = write.end
+        if end == Mark(*offer["mark"]).end:
+            it.take_views(shard, views)
+
+    def take(self, it: Records, shard: str, offer: Line) -> bool:
+        """Takes an offer, unless the list here has changed since it was asked for, or is greater. Whether all that the source has is here, in the
+        source's view."""
+        here, source = it.mark(shard), Mark(*offer["mark"])
+        if "copy" in offer and Mark(*offer["after"]) == here and not here.has_more_than(source):
+            self.load(it, shard, offer)
+        elif "copy" not in offer and agent.resumes(here.copy, views_of(offer), source.position):
+            self.append(it, shard, offer)
+        return it.mark(shard).view == source.view and it.has(shard, source)
 
     # -- messages
 
@@ -99,10 +113,12 @@ class Offers:
             if told is None and self.server.live(shard).leaving:
                 told = {Told.LATER.value: "it leaves"}
             if told is None:
-                has_all = self.take(it, shard, line)
-                if line["cut"] is not None:
+                has_all, mark = self.take(it, shard, line), it.mark(shard)
+                if has_all and line["cut"] is not None:
                     it.put_slot(shard, agent.seal(it.slot(shard), *line["cut"]))
-                told = {Told.HAS.value: True} if has_all else {Told.LACKS.value: astuple(it.mark(shard))}
+                told = {Told.HAS.value: True} if has_all else {Told.LACKS.value: astuple(mark)}
+                if not has_all and mark.has_more_than(Mark(*line["mark"])):
+                    told = {Told.LATER.value: "it has more"}
         self.server.wake()
         return told
 
@@ -138,15 +154,17 @@ class Offers:
                 return self.offer_beside(it, shard, after)
             if not is_source_for(slot, mark.position, number):
                 return {"said": f"it is no source of {shard}"}
+            if after.has_more_than(mark):
+                return {"said": f"it has less of {shard}"}
             self.server.streams.join(shard, number, after)
             return self.offer(it, shard, after)
 
     def offer_beside(self, it: Records, shard: str, after: Mark) -> Line:
-        """What a secondary gives that becomes no primary itself: what is behind a mark, if its list goes on from there; otherwise where that ends."""
+        """What a secondary gives that becomes no primary itself: what a lesser copy lacks that ends at a mark; otherwise where its own one ends."""
         mark = it.mark(shard)
         if not it.has_copy(shard):
             return {"said": LOST.format(shard)}
-        return self.offer(it, shard, after) if after != mark and it.has(shard, after) else {"less": astuple(mark)}
+        return self.offer(it, shard, after) if mark.has_more_than(after) and not it.differs(shard, after) else {"less": astuple(mark)}
 
     def asked(self, shard: str, source: int, after: Mark, beside: bool = False) -> Line:
         """Asks a source for what is lacking behind a mark."""

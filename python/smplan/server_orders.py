@@ -9,7 +9,7 @@ from . import agent
 from .agent import Answer, Call, Cell, Order, Role, Slot
 from .control_agent import order_of
 from .server_offers import LOST
-from .server_records import Ledger, Mark, Records
+from .server_records import Mark, Records
 
 if TYPE_CHECKING:
     from .server import Server
@@ -156,7 +156,7 @@ class Orders:
         return offer
 
     def compare(self, shard: str, others: List[int]) -> None:
-        """A secondary that becomes primary takes what others have that it lacks, if that goes on from its own list. Each of them has to answer."""
+        """A secondary that becomes primary takes what others have whose copies are greater. Each of them has to answer."""
         with self.server.storage.transaction() as tx:
             if not Records(tx).has_copy(shard):
                 raise NotYet(LOST.format(shard))
@@ -168,8 +168,9 @@ class Orders:
                 raise NotYet(f"{name}: {offer['said']}")
             with self.server.storage.transaction() as tx:
                 it = Records(tx)
-                if "less" in offer and not it.has(shard, Mark(*offer["less"])):
-                    raise NotYet(f"{name} has another list of {shard}, not a beginning of the one here: give up the older one as lost")
+                less = Mark(*offer.get("less", ()))
+                if less.has_more_than(it.mark(shard)) or it.differs(shard, less):
+                    raise NotYet(f"{name} has another list of {shard} in one view: give one of them up as lost")
                 if "less" not in offer and it.slot(shard).cell == Cell.SECONDARY and not self.server.offers.take(it, shard, offer):
                     raise NotYet(f"{name} has more")
 
@@ -192,9 +193,8 @@ class Orders:
             if order.call == Call.DROP and not (live.leave and live.leave == live.leaving):
                 raise NotYet("the leave is over")
             if offer is not None and slot.cell == Cell.ABSENT and slot.at_work == order.number:
-                self.server.offers.take(it, shard, offer)
-                if not it.has_copy(shard):
-                    it.put_ledger(shard, Ledger())
+                if not self.server.offers.take(it, shard, offer):
+                    raise NotYet("another copy is here")
             after = agent.commit(it.base(), slot, order, it.mark(shard).position)
             if after is None:
                 raise NotYet("it is thrown away")
@@ -209,8 +209,8 @@ class Orders:
         if after.cell == Cell.ABSENT or (before.cell == Cell.ABSENT and after.cell == Cell.PRIMARY):
             self.server.service.drop(it.tx, shard)
             it.clear(shard)
-        if after.cell == Cell.PRIMARY and not it.has_copy(shard):
-            it.put_ledger(shard, Ledger())
+        if after.cell == Cell.PRIMARY and before.cell != Cell.PREPARED:
+            it.begin_view(shard, after.last)
         it.put_old_owner(shard, before.party if (before.cell, after.cell) == (Cell.PREPARED, Cell.PRIMARY) else 0)
         it.put_slot(shard, after)
 

@@ -1,13 +1,14 @@
-"""What a server keeps: its base, slots, and of each shard the list of its writes with the identities of their requests."""
+"""What a server keeps: its base, slots, and of each shard the list of its writes with the identities of their requests, and the list's views."""
 from __future__ import annotations
 
 import json
 import time
 from dataclasses import asdict, astuple, dataclass, replace
-from typing import Any, Dict, List, Optional
+from typing import Any, Dict, List, Optional, Sequence
 from urllib.parse import quote, unquote
 
-from .agent import VACANT, Base, Cell, Slot
+from . import agent
+from .agent import VACANT, Answer, Base, Cell, Slot, ToldCopy, ViewStart
 from .server_storage import Transaction
 
 # How many writes a follower may lack before it is sent a whole copy.
@@ -15,11 +16,34 @@ MOST_WRITES = 1000
 
 
 @dataclass(frozen=True)
-class Mark:
-    """Where a list of writes ends: how many there are, and the stamp of the last one. Two lists with one mark are the same."""
+class End:
+    """Where a list of writes ends: how many there are, and the stamp of the last one."""
 
     position: int = 0
     stamp: str = ""
+
+
+@dataclass(frozen=True)
+class Mark:
+    """Where a list of writes ends, and in which view. Two lists with one mark are the same."""
+
+    position: int = 0
+    stamp: str = ""
+    view: int = 0
+
+    @property
+    def end(self) -> End:
+        """Its end, whatever the view."""
+        return End(self.position, self.stamp)
+
+    @property
+    def copy(self) -> ToldCopy:
+        """What the agent takes for it."""
+        return ToldCopy(self.view, self.position)
+
+    def has_more_than(self, other: "Mark") -> bool:
+        """Whether a copy that ends here is greater than one that ends there."""
+        return agent.compare(self.copy, other.copy) == Answer.GREATER
 
 
 @dataclass(frozen=True)
@@ -34,17 +58,17 @@ class Write:
     at: int
 
     @property
-    def mark(self) -> Mark:
+    def end(self) -> End:
         """Where the list ends behind this write."""
-        return Mark(self.position, self.stamp)
+        return End(self.position, self.stamp)
 
 
 @dataclass(frozen=True)
 class Ledger:
-    """A shard's list: its mark, and the mark before the first write that is still kept."""
+    """A shard's list: its end, and the end before the first write that is still kept."""
 
-    mark: Mark = Mark()
-    before: Mark = Mark()
+    end: End = End()
+    before: End = End()
 
 
 def now() -> int:
@@ -130,15 +154,38 @@ class Records:
         if text is None:
             return Ledger()
         position, stamp, *before = json.loads(text)
-        return Ledger(Mark(position, stamp), Mark(*before))
+        return Ledger(End(position, stamp), End(*before))
 
     def put_ledger(self, shard: str, ledger: Ledger) -> None:
         """Stores a shard's list."""
-        self.tx.put(self.place("list", shard), json.dumps([*astuple(ledger.mark), *astuple(ledger.before)]))
+        self.tx.put(self.place("list", shard), json.dumps([*astuple(ledger.end), *astuple(ledger.before)]))
+
+    def views(self, shard: str) -> List[ViewStart]:
+        """The views of a shard's list, in rising order. A list of before there were views is of view 0."""
+        return [ViewStart(*it) for it in json.loads(self.tx.get(self.place("views", shard)) or "[[0, 0]]")]
+
+    def put_views(self, shard: str, views: Sequence[ViewStart]) -> None:
+        """Stores the views of a shard's list."""
+        self.tx.put(self.place("views", shard), json.dumps(views))
+
+    def take_views(self, shard: str, views: Sequence[ViewStart]) -> None:
+        """Takes over the views of a list with the same end, which tells those from one on that this list has, too."""
+        before = self.views(shard)
+        after = [*(it for it in before if it.view < views[0].view), *views]
+        if not self.has_copy(shard):
+            self.put_ledger(shard, Ledger())
+        if after != before:
+            self.put_views(shard, after)
+
+    def begin_view(self, shard: str, number: int) -> None:
+        """A primary goes on from what is here, or from nothing, in a view with the number of what made it the primary."""
+        earlier = self.views(shard) if self.has_copy(shard) else []
+        self.put_ledger(shard, self.ledger(shard))
+        self.put_views(shard, [*earlier, ViewStart(number, self.ledger(shard).end.position)])
 
     def mark(self, shard: str) -> Mark:
         """Where a shard's list ends."""
-        return self.ledger(shard).mark
+        return Mark(*astuple(self.ledger(shard).end), self.views(shard)[-1].view)
 
     def write_at(self, shard: str, position: int) -> Optional[Write]:
         """A write that is still kept."""
@@ -162,8 +209,8 @@ class Records:
             if first is None or first.position == write.position or first.at >= now() - keeping * 1000:
                 break
             self.delete_write(shard, first)
-            before = first.mark
-        self.put_ledger(shard, replace(ledger, mark=write.mark, before=before))
+            before = first.end
+        self.put_ledger(shard, replace(ledger, end=write.end, before=before))
 
     def delete_write(self, shard: str, write: Write) -> None:
         """Deletes a write with the identity of its request."""
@@ -174,20 +221,30 @@ class Records:
     def kept(self, shard: str, after: int = 0) -> List[Write]:
         """The writes that are kept behind a position."""
         ledger = self.ledger(shard)
-        places = range(max(after, ledger.before.position) + 1, ledger.mark.position + 1)
+        places = range(max(after, ledger.before.position) + 1, ledger.end.position + 1)
         return [it for it in (self.write_at(shard, place) for place in places) if it is not None]
 
     def has(self, shard: str, mark: Mark) -> bool:
         """Whether the shard's list has another one, that ends at this mark, as its beginning; false if that can't be told any more."""
-        ledger = self.ledger(shard)
-        if mark in (ledger.mark, ledger.before):
-            return True
-        write = self.write_at(shard, mark.position)
-        return write is not None and write.stamp == mark.stamp
+        return self.resumes(shard, mark) and self.end_at(shard, mark.position) == mark.end
+
+    def resumes(self, shard: str, mark: Mark) -> bool:
+        """Whether a list that ends at this mark is a beginning of the shard's, by its view and position."""
+        return agent.resumes(mark.copy, self.views(shard), self.ledger(shard).end.position)
+
+    def differs(self, shard: str, mark: Mark) -> bool:
+        """Whether a list that ends at this mark is another one, though its view and position are those of a beginning of the shard's: a bug."""
+        return self.resumes(shard, mark) and self.end_at(shard, mark.position) not in (None, mark.end)
+
+    def end_at(self, shard: str, position: int) -> Optional[End]:
+        """Where the shard's list ended when it had so many writes; none if that can't be told any more."""
+        ledger, write = self.ledger(shard), self.write_at(shard, position)
+        return write.end if write else next((it for it in (ledger.end, ledger.before) if it.position == position), None)
 
     def clear(self, shard: str) -> None:
         """Deletes a shard's list, and who was the old owner."""
         for write in self.kept(shard):
             self.delete_write(shard, write)
-        self.tx.delete(self.place("list", shard))
+        for kind in ("list", "views"):
+            self.tx.delete(self.place(kind, shard))
         self.put_old_owner(shard, 0)

@@ -8,7 +8,7 @@ from typing import TYPE_CHECKING, Any, Dict, Optional, Tuple
 
 from . import agent
 from .agent import Answer, Cell, Request
-from .server_records import Ledger, Records, Write, now
+from .server_records import Records, Write, now
 
 if TYPE_CHECKING:
     from .server import Server
@@ -73,9 +73,10 @@ class Requests:
         return answer, onward, ran
 
     def where(self, it: Records, shard: str, how: Request) -> Tuple[Answer, Request]:
-        """Where a request is executed. While a fence waits, none of a handover begins."""
+        """Where a request is executed. While a fence waits, none of a handover begins, nor does one at a new owner that has lost its copy."""
         slot = it.slot(shard)
-        if self.server.live(shard).is_held and slot.cell in (Cell.PREPARED, Cell.FORWARDING):
+        is_held = self.server.live(shard).is_held and slot.cell in (Cell.PREPARED, Cell.FORWARDING)
+        if is_held or (slot.cell == Cell.PREPARED and not it.has_copy(shard)):
             return Answer.NOT_YET, Request()
         return agent.route(it.base(), slot, it.mark(shard).position, how)
 
@@ -88,8 +89,6 @@ class Requests:
         if done is not None:
             return done.reply
         reply = service.apply(it.tx, shard, command)
-        if not it.has_copy(shard):
-            it.put_ledger(shard, Ledger())
         it.append(shard, Write(it.mark(shard).position + 1, secrets.token_hex(8), request, command, reply, now()), self.limits.keeping)
         return reply
 

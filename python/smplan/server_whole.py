@@ -6,9 +6,9 @@ import sys
 from typing import TYPE_CHECKING, Any, Dict
 
 from . import agent
-from .agent import VACANT, Answer, Cell, Restoration, Slot
+from .agent import VACANT, Answer, Cell, Restoration, Settlement, Slot
 from .control_agent import assignment_of, slots_of, told_of
-from .server_records import Ledger, Records
+from .server_records import Records
 
 if TYPE_CHECKING:
     from .server import Server
@@ -69,12 +69,12 @@ class Whole:
             self.server.wake()
 
     def told_slots(self, it: Records) -> Any:
-        """All slots, as they are told."""
+        """All slots, as they are told, with the views and positions of their copies: zeros without one."""
         told = []
         for shard, slot in it.slots().items():
             if slot.cell != Cell.ABSENT:
-                position = it.mark(shard).position
-                told.append(told_of(shard, slot, self.server.names, position, agent.has_reached_cut(slot, position)))
+                mark = it.mark(shard)
+                told.append(told_of(shard, slot, self.server.names, mark.position, agent.has_reached_cut(slot, mark.position), mark.view))
         return told
 
     def tell_slots(self, _: Line) -> Line:
@@ -106,7 +106,7 @@ class Whole:
             return ", ".join(told["shard"] for told in line["slots"] if told["cell"] in ("primary", "forwarding") and not it.has_copy(told["shard"]))
 
     def take(self, line: Line) -> Answer:
-        """Takes a settle or a restore as a whole: each slot that it does not bring is absent afterwards, and has no data."""
+        """Takes a settle or a restore as a whole: each slot that it does not bring is absent afterwards, and its copy is set aside."""
         self.server.know(line)
         told, brought = assignment_of(line), slots_of(line, self.server.numbers)
         with self.server.storage.transaction() as tx:
@@ -118,21 +118,24 @@ class Whole:
             it.put_base(base, told.fence if isinstance(told, Restoration) else told.number)
             tx.delete("frame/new")
             for shard, slot in {**{one: VACANT for one in it.copies()}, **slots}.items():
-                self.store(it, shard, slot)
+                is_chosen = isinstance(told, Settlement) and before.get(shard, Slot()).cell != Cell.PRIMARY
+                self.store(it, shard, slot, told.number if is_chosen else 0)
             with self.server.changed:
                 self.begin_anew(before, slots)
         self.server.wake()
         return answer
 
-    def store(self, it: Records, shard: str, slot: Slot) -> None:
-        """Stores a slot, and deletes the data of an absent one."""
+    def store(self, it: Records, shard: str, slot: Slot, view: int) -> None:
+        """Stores a slot, and sets the copy of an absent one aside. A primary that is chosen anew begins a view; so does one without a copy, with
+        number 0."""
         it.put_slot(shard, slot)
         it.put_old_owner(shard, 0)
         if slot.cell == Cell.ABSENT:
+            self.server.aside.keep(it, shard)
             self.server.service.drop(it.tx, shard)
             it.clear(shard)
-        if slot.cell == Cell.PRIMARY and not it.has_copy(shard):
-            it.put_ledger(shard, Ledger())
+        if slot.cell == Cell.PRIMARY and (view or not it.has_copy(shard)):
+            it.begin_view(shard, view)
 
     def begin_anew(self, before: Dict[str, Slot], after: Dict[str, Slot]) -> None:
         """Begins a new life: ends the terms of all shards but of those that it serves as before."""

@@ -191,7 +191,8 @@ class FleetTest(unittest.IsolatedAsyncioTestCase):
         self.assertIn("no such server", await self.fleet.order({"server": "z"}))
 
     async def test_fences_and_bases(self):
-        for answer, told in (({"slots": []}, {"slots": []}), ({"unknown": "c0de"}, {"unknown": "c0de"}), ({"said": "busy"}, None), ({"slots": 7}, None)):
+        slots = [{"shard": "s", "cell": "secondary", "position": 7, "view": 9}]
+        for answer, told in (({"slots": []}, {"slots": []}), ({"slots": slots}, {"slots": slots}), ({"unknown": "c0de"}, {"unknown": "c0de"}), ({"said": "busy"}, None), ({"slots": 7}, None)):
             self.answers["fence"] = Page.of(answer)
             self.assertEqual(await self.fleet.fence({"server": "a", "base": 100}), told)
         for answer, told in (({"base": 0}, 0), ({"base": None}, None), ({"base": True}, None), ({}, None)):

@@ -68,6 +68,15 @@ def handover(shard, load, old, new):
     return {"budget": 4, "format": 1, "signals": [], "streams": [{"budget": 4, "code": code, "holds": holds}]}
 
 
+def swap(shard, old, new):
+    """A plan that changes the roles of a primary and a secondary."""
+    calls = [("unlist", {}), ("change", {"server": old, "to": "secondary"}), ("change", {"server": new, "to": "primary"}), ("publish", {})]
+    holds = {"cells": [{"server": new, "shard": shard, "state": "secondary"}],
+             "crowns": [{"lead": "at", "listed": old, "server": old, "shard": shard}], "room": [], "spare": []}
+    code = [{"do": word, "shard": shard, **rest} for word, rest in calls]
+    return {"budget": 2, "format": 1, "signals": [], "streams": [{"budget": 2, "code": code, "holds": holds}]}
+
+
 class Client(threading.Thread):
     """Appends words to a key of its own, each under an identity until it is acknowledged."""
 
@@ -174,13 +183,13 @@ class Fleet:
         time.sleep(0.02)
         return None
 
-    def begin(self, name, old, new):
-        told = self.ask(f"{self.controller}/do", {"do": "begin", "plan": handover("s", 4, old, new), "name": name})
+    def begin(self, name, plan):
+        told = self.ask(f"{self.controller}/do", {"do": "begin", "plan": plan, "name": name})
         if "begun" not in told:
             raise AssertionError(told)
 
-    def move(self, name, old, new):
-        self.begin(name, old, new)
+    def move(self, name, old, new, plan=None):
+        self.begin(name, plan or handover("s", 4, old, new))
         self.until(lambda: self.is_at_rest() and self.listed() == new, name)
 
     def is_at_rest(self):
@@ -190,6 +199,10 @@ class Fleet:
     def marks(self):
         """How many writes each server has of the shard, by its cell."""
         return {name: {it["shard"]: (it["cell"], it["position"]) for it in self.ask(f"{url}/slots")["slots"]} for name, url in self.urls.items()}
+
+    def views(self):
+        """The views of all copies."""
+        return {it["view"] for url in self.urls.values() for it in self.ask(f"{url}/slots")["slots"]}
 
     def end(self):
         for it in self.running.values():
@@ -262,7 +275,7 @@ class FleetTest(unittest.TestCase):
             it.start()
         time.sleep(0.5)
         fleet.move("there", "a", "g")
-        fleet.begin("back", "g", "a")
+        fleet.begin("back", handover("s", 4, "g", "a"))
         for name in "gagb":
             time.sleep(0.3)
             fleet.kill(name)
@@ -290,6 +303,16 @@ class FleetTest(unittest.TestCase):
             self.assertIn(values[it.key].removeprefix("".join(it.words)), ("", f"<{len(it.words) + 1}>"))
         position = fleet.marks()["g"]["s"][1]
         wanted = {"a": {}, "b": {"s": ("secondary", position)}, "c": {"s": ("secondary", position)}, "g": {"s": ("primary", position)}}
+        fleet.until(lambda: fleet.marks() == wanted, f"{wanted}, and not {fleet.marks()}", 10)
+        seen = fleet.views()
+        self.assertEqual(seen, {0})
+        for old, new in ("gb", "bg"):
+            fleet.move(f"{old}{new}", old, new, swap("s", old, new))
+            fleet.until(lambda: len(fleet.views()) == 1 and fleet.views() != seen, f"{fleet.views()}, and not one view")
+            self.assertGreater(min(fleet.views()), max(seen))
+            seen = fleet.views()
+            fleet.until(lambda key=f"{old}{new}": fleet.request(key, ["append", key, "x"]) == "x", "a write in the view")
+        wanted = {**wanted, **{it: {"s": ("primary" if it == "g" else "secondary", position + 2)} for it in "bcg"}}
         fleet.until(lambda: fleet.marks() == wanted, f"{wanted}, and not {fleet.marks()}", 10)
 
 
@@ -519,9 +542,9 @@ class TellsWhileItLeaves(Frame):
     def __init__(self, number, peers):
         super().__init__(number, peers)
         given, taken = self.offers.given, self.offers.taken
-        self.routes.update({"/peer/copy": lambda line: self.aside(given, line), "/peer/follow": lambda line: self.aside(taken, line)})
+        self.routes.update({"/peer/copy": lambda line: self.stays(given, line), "/peer/follow": lambda line: self.stays(taken, line)})
 
-    def aside(self, answer, line):
+    def stays(self, answer, line):
         with mock.patch.object(self.live(line["shard"]), "leaving", ""):
             return answer(line)
 
@@ -538,6 +561,65 @@ class TakesNoneForEmpty(Frame):
     def work(self, shard, it):
         with mock.patch.object(Records, "has_copy", lambda kept, shard: True):
             return super().work(shard, it)
+
+
+class ComparesPositions(Frame):
+    """Takes the longer copy for the greater one, whatever its view."""
+    def answer(self, path, line):
+        with mock.patch.object(Mark, "has_more_than", lambda it, other: it.position > other.position):
+            return super().answer(path, line)
+
+
+class TakesTheLesser(Frame):
+    """Takes the copy of whom it follows, though its own one is greater."""
+    def follow(self, line):
+        with mock.patch.object(Mark, "has_more_than", lambda it, other: False):
+            return super().follow(line)
+
+
+class TellsNoView(Frame):
+    """Answers a fence with the positions of its copies, and not with their views."""
+    def fence(self, *words):
+        return {"slots": [{**it, "view": 0} for it in super().fence(*words)["slots"]]}
+
+
+class BeginsNoView(Frame):
+    """Goes on in the view of before once it is chosen anew."""
+    def settle(self, *words):
+        with mock.patch.object(Records, "begin_view"):
+            return super().settle(*words)
+
+
+class TakesTheViewFirst(Frame):
+    """Takes over the view of the source's list before it has all up to where that began."""
+    def follow(self, line):
+        told = super().follow(line)
+        if "lacks" in told:
+            self.kept(lambda it: it.put_views(line["shard"], [*it.views(line["shard"]), agent.ViewStart(line["mark"][2], told["lacks"][0])]))
+        return told
+
+
+class HearsOfTheCutFirst(Frame):
+    """Takes over at its cut though it has not taken the list's views."""
+    def follow(self, line):
+        told = super().follow(line)
+        if line["cut"]:
+            self.kept(lambda it: it.put_slot(line["shard"], agent.seal(it.slot(line["shard"]), *line["cut"])))
+        return told
+
+
+class DeletesWhatItReplaces(Frame):
+    """Deletes a copy that another one replaces, or that is taken away."""
+    def __init__(self, number, peers):
+        super().__init__(number, peers)
+        self.aside.keep = lambda *words: None
+
+
+class SetsAllAside(Frame):
+    """Sets each copy aside that another one replaces."""
+    def __init__(self, number, peers):
+        super().__init__(number, peers)
+        self.aside.keep_before = lambda it, shard, offer: self.aside.keep(it, shard)
 
 
 class TakesTheLonger(Frame):
@@ -630,8 +712,8 @@ def drop_beside_a_new_disk(kind):
     kv_rules.want(kv_rules.answered(c, kv_rules.order(2, Call.DROP)), False)
 
 
-def older_list(kind):
-    """A server that was down when the primary was lost for good is back, with an older, longer list. Without a primary, neither list gives way."""
+def returned(kind):
+    """A server that was down when the primary was lost for good is back, with an older, longer list, beside one with the list of the next view."""
     a, b = kv_rules.pair(kind, Cell.SECONDARY)
     c, d = kind(3, a.peers), kind(4, a.peers)
     kv_rules.restore(c, Cell.SECONDARY)
@@ -649,8 +731,141 @@ def older_list(kind):
     c.peers[3] = c
     c.heed(kv_rules.JOURNAL, 100)
     kv_rules.restore(c, Cell.SECONDARY, 100)
+    return d, c
+
+
+def older_view(kind):
+    """It is to be primary: first it takes the copy of the later view."""
+    d, c = returned(kind)
+    kv_rules.want((kv_rules.answered(c, change(103, 100)), c.value(kv_rules.SHARD, "k")), (True, "xy"))
+    kv_rules.want((kv_rules.push(c, "r5", "z"), d.value(kv_rules.SHARD, "k")), ("xyz", "xyz"))
+    kv_rules.want([it.kept(lambda kept: kept.views("s")) for it in (c, d)], 2 * [[(0, 0), (100, 1), (103, 2)]])
+
+
+def later_view(kind):
+    """The other one is to be primary: it takes no copy of an older view."""
+    d, c = returned(kind)
+    kv_rules.want((kv_rules.answered(d, change(103, 100)), d.value(kv_rules.SHARD, "k")), (True, "xy"))
+    d.streams.keep_up()
+    kv_rules.want((d.value(kv_rules.SHARD, "k"), c.value(kv_rules.SHARD, "k")), ("xy", "xy"))
+
+
+def other_list(kind):
+    """Both lists are of one view, which is a bug: without a primary, neither gives way."""
+    d, c = returned(kind)
+    for it in (d, c):
+        it.kept(lambda kept: kept.put_views("s", [agent.ViewStart(0, 0)]))
     kv_rules.want([kv_rules.answered(it, change(103, 100)) for it in (d, c)], [False, False])
     kv_rules.want((d.value(kv_rules.SHARD, "k"), c.value(kv_rules.SHARD, "k")), ("xy", "xop"))
+
+
+def leave_of_the_greater(kind):
+    """The one of the later view is to be dropped beside the older one, which has no all; the other way round there is leave."""
+    d, c = returned(kind)
+    kv_rules.want(kv_rules.answered(d, kv_rules.order(103, Call.DROP, fence=100)), False)
+    kv_rules.want(kv_rules.answered(c, kv_rules.order(103, Call.DROP, fence=100)), True)
+
+
+def reopened(*servers):
+    """A reopening makes that one the primary, the others being secondaries, whose copy is the greatest, as they tell. Returns it."""
+    told = {it: it.fence(kv_rules.JOURNAL, 200)["slots"][0] for it in servers}
+    chosen = max(told, key=lambda it: (told[it]["view"], told[it]["position"]))
+    for server in told:
+        cell = Cell.PRIMARY if server is chosen else Cell.SECONDARY
+        kv_rules.want(server.settle(kv_rules.JOURNAL, 200, None, {kv_rules.SHARD: Slot(cell=cell, load=1)}), True)
+    return chosen
+
+
+def reopened_beside_an_older_view(kind):
+    """The greatest copy is chosen, as it was told."""
+    d, c = returned(kind)
+    kv_rules.want((reopened(c, d).value(kv_rules.SHARD, "k"), d.kept(lambda it: it.views("s"))), ("xy", [(0, 0), (100, 1), (200, 2)]))
+
+
+def aside(server):
+    """What is set aside, without when it was."""
+    return [it.rsplit("/", 1)[0] for it in server.answer("/aside", None)["aside"]]
+
+
+def replaced_copy(kind):
+    """The older list has writes that the later one has not: an operator finds them, and deletes them."""
+    d, c = returned(kind)
+    kv_rules.want((kv_rules.answered(c, change(103, 100)), aside(c), aside(d)), (True, ["s/0/3"], []))
+    name = c.answer("/aside", {})["aside"][0]
+    copy = c.answer("/aside", {"name": name})
+    kv_rules.want((copy["data"], copy["mark"][0], copy["views"]), ({"k": "xop"}, 3, [[0, 0]]))
+    kv_rules.want([it["command"][2] for it in copy["writes"]], ["x", "o", "p"])
+    kv_rules.want((c.answer("/aside", {"name": name, "delete": True}), aside(c)), ({"done": True}, []))
+
+
+def copy_is_taken_away(kind):
+    """A restore and a settle bring nothing: what is there has writes."""
+    d, c = returned(kind)
+    c.heed(kv_rules.JOURNAL, 200)
+    c.restore(kv_rules.JOURNAL, 200, 200, c.base().nonce, {})
+    d.fence(kv_rules.JOURNAL, 300)
+    kv_rules.want(d.settle(kv_rules.JOURNAL, 300, None, {}), True)
+    kv_rules.want([(aside(it), it.kept(lambda kept: kept.has_copy("s"))) for it in (c, d)], [(["s/0/3"], False), (["s/100/2"], False)])
+    kv_rules.want((c.value(kv_rules.SHARD, "k"), d.value(kv_rules.SHARD, "k")), ("", ""))
+
+
+def beginning_is_replaced(kind):
+    """A follower that lags far takes a whole copy: it has all that was there."""
+    a, b = kv_rules.pair(kind, Cell.SECONDARY)
+    kv_rules.push(a, "r1", "x")
+    with kv_rules.lost(b, "follow"):
+        kv_rules.push(a, "r2", "y")
+    with mock.patch("smplan.server_offers.MOST_WRITES", 0):
+        kv_rules.push(a, "r3", "z")
+        a.streams.keep_up()
+    kv_rules.want((b.value(kv_rules.SHARD, "k"), aside(b)), ("xyz", []))
+
+
+def empty_handover(kind):
+    """The new owner of an empty shard gets a new disk before it hears of the cut: it takes over in the view of the list."""
+    peers = {}
+    a, b, c = servers = [kind(it, peers) for it in (1, 2, 3)]
+    for it in servers:
+        it.restore(kv_rules.JOURNAL, 0, 0, it.base().nonce, {})
+    for server, it in ((a, kv_rules.order(1, Call.ADD, role=Role.PRIMARY)), (c, kv_rules.order(2, Call.ADD, role=Role.SECONDARY)),
+                       (b, kv_rules.order(3, Call.PREPARE_ADD, 1))):
+        kv_rules.want(kv_rules.answered(server, it), True)
+    with kv_rules.lost(b, "follow"):
+        kv_rules.want(kv_rules.answered(a, kv_rules.order(4, Call.PREPARE_DROP, 2)), True)
+    b = kind(2, peers)
+    b.kept(lambda it: it.tx.delete("frame/new"))
+    b.restore(kv_rules.JOURNAL, 0, 0, b.base().nonce, {kv_rules.SHARD: Slot(cell=Cell.PREPARED, party=1, handover=1, load=1)})
+    kv_rules.want(kv_rules.push(b, "r1", "x", Request(handover=1, cut=0, party=1, is_passed=1)), Answer.NOT_YET)
+    a.shards.clear()
+    a.streams.keep_up()
+    kv_rules.want((kv_rules.answered(b, kv_rules.order(5, Call.ADD, role=Role.PRIMARY)), kv_rules.push(b, "r1", "x")), (True, "x"))
+    kv_rules.want([(it.value(kv_rules.SHARD, "k"), it.kept(lambda kept: kept.views("s"))) for it in (b, c)], 2 * [("x", [(1, 0)])])
+
+
+def follower_has_more(kind):
+    """The disk of a primary has gone back to the view of before: who follows has more, and waits."""
+    a, b = kv_rules.pair(kind, Cell.SECONDARY)
+    kv_rules.push(a, "r1", "x")
+    b.kept(lambda it: it.put_views("s", [agent.ViewStart(0, 0), agent.ViewStart(100, 1)]))
+    kv_rules.push(a, "r2", "y")
+    a.streams.keep_up()
+    kv_rules.want(b.follow(a.kept(lambda it: a.offers.offer(it, "s", b.kept(lambda kept: kept.mark("s"))))), {"later": "it has more"})
+    kv_rules.want((b.value(kv_rules.SHARD, "k"), aside(b)), ("x", []))
+
+
+def view_before_its_beginning(kind):
+    """A follower that lags hears of a new view, whose primary is lost before the follower has all up to its beginning: another one has more."""
+    a, b = kv_rules.pair(kind, Cell.SECONDARY)
+    c = kind(3, a.peers)
+    kv_rules.restore(c, Cell.SECONDARY)
+    kv_rules.push(a, "r1", "x")
+    with kv_rules.lost(c, "follow"):
+        kv_rules.want(kv_rules.push(a, "r2", "y"), "xy")
+    for server, cell in ((b, Cell.PRIMARY), (a, Cell.SECONDARY), (c, Cell.SECONDARY)):
+        server.fence(kv_rules.JOURNAL, 100)
+        server.settle(kv_rules.JOURNAL, 100, None, {kv_rules.SHARD: Slot(cell=cell, load=1)})
+    kv_rules.want(list(c.follow(b.kept(lambda it: b.offers.offer(it, kv_rules.SHARD, it.mark(kv_rules.SHARD))))), ["lacks"])
+    kv_rules.want(reopened(c, a).value(kv_rules.SHARD, "k"), "xy")
 
 
 def overtaken(kind):
@@ -751,7 +966,11 @@ SCHEDULES = (
     (KeepsItsNonce, kv_rules.given_up), (AcknowledgesAlone, kv_rules.lost_for_good), (ExecutesWhileForwarding, kv_rules.whole_handover),
     (ExecutesBeforeTheCut, passed_before_the_cut), (LosesWithoutAsking, lost_disk), (TakesNoneForLess, change_beside_a_new_disk),
     (TakesNoneForEmpty, change_beside_a_new_disk), (TakesNoneForEmpty, change_of_a_new_disk), (TakesNoneForEmpty, drop_of_a_new_disk),
-    (TakesNoneForEmpty, drop_beside_a_new_disk), (TakesTheLonger, older_list), (TakesTheShorterForLess, older_list), (None, overtaken),
+    (TakesNoneForEmpty, drop_beside_a_new_disk), (TakesTheLonger, other_list), (TakesTheShorterForLess, other_list),
+    (BeginsNoView, older_view), (ComparesPositions, later_view), (BeginsNoView, later_view), (ComparesPositions, leave_of_the_greater),
+    (HearsOfTheCutFirst, empty_handover), (TakesTheLesser, follower_has_more), (DeletesWhatItReplaces, replaced_copy),
+    (DeletesWhatItReplaces, copy_is_taken_away), (SetsAllAside, beginning_is_replaced),
+    (TellsNoView, reopened_beside_an_older_view), (TakesTheViewFirst, view_before_its_beginning), (None, overtaken),
     (None, roles_change),
     (DropsWithoutLeave, dropped_by_leave), (CountsNoMore, leave_is_given_up), (TellsWhileItLeaves, leave_is_given_up), (None, leave_ends_at_a_fence),
     (None, primary_is_not_known), (GivesWhileItLeaves, both_leave))
@@ -797,6 +1016,47 @@ class RulesTest(unittest.TestCase):
         line = {"journal": "7", "fence": 0, "base": 50, "nonce": f"{nonce:x}", "slots": [{"shard": "s", "cell": "secondary", "load": 1}]}
         self.assertEqual(again.answer("/fence", {"journal": "7", "base": 0}), {"said": "ignored"})
         self.assertEqual((again.answer("/restore", line), again.answer("/slots", {})["slots"][0]["position"]), ({"done": True}, 1))
+
+    def test_a_slot_is_told_with_its_view_where_views_are_kept(self):
+        a, b = kv_rules.pair(Frame, Cell.SECONDARY)
+        told = {"shard": "s", "cell": "primary", "last": 0, "load": 1, "position": 0}
+        self.assertEqual(told_of("s", a.slot("s"), NAMES, 0, False), told)
+        self.assertEqual(told_of("s", a.slot("s"), NAMES, 4, False, 100), {**told, "position": 4, "view": 100})
+        self.assertEqual(b.answer("/fence", {"journal": "7", "base": 100}), {"slots": [{**told, "cell": "secondary", "view": 0}]})
+        b.settle(7, 100, None, {"s": Slot(cell=Cell.PRIMARY, load=1)})
+        kv_rules.push(b, "r1", "x")
+        self.assertEqual(b.answer("/fence", {"journal": "7", "base": 200}), {"slots": [{**told, "position": 1, "view": 100}]})
+        for _ in range(2):
+            b.settle(7, 200, None, {"s": Slot(cell=Cell.PRIMARY, load=1)})
+        self.assertEqual(b.kept(lambda it: it.views("s")), [(100, 0)])
+
+    def test_views_begin_with_changes_and_adds_and_not_with_handovers(self):
+        a, b = kv_rules.pair(Frame, Cell.SECONDARY)
+        c = Frame(3, a.peers)
+        c.restore(7, 0, 0, c.base().nonce, {})
+        kv_rules.push(a, "r1", "x")
+        views = [(0, 0)]
+        for server, roles, at in ((a, (Role.PRIMARY, Role.SECONDARY), 1), (b, (Role.SECONDARY, Role.PRIMARY), 2)):
+            self.assertTrue(kv_rules.answered(server, kv_rules.order(at, Call.CHANGE, role=roles[0], new_role=roles[1])))
+        kv_rules.push(b, "r2", "y")
+        views.append((2, 1))
+        for server, call in ((c, kv_rules.order(3, Call.PREPARE_ADD, 2)), (b, kv_rules.order(4, Call.PREPARE_DROP, 3)),
+                             (c, kv_rules.order(5, Call.ADD, role=Role.PRIMARY)), (b, kv_rules.order(6, Call.DROP))):
+            self.assertTrue(kv_rules.answered(server, call))
+        self.assertEqual(kv_rules.push(c, "r3", "z"), "xyz")
+        self.assertEqual([it.kept(lambda kept: kept.views("s")) for it in (a, c)], 2 * [views])
+        for server in (a, c):
+            self.assertTrue(kv_rules.answered(server, kv_rules.order(7, Call.DROP)))
+        self.assertTrue(kv_rules.answered(b, kv_rules.order(8, Call.ADD, role=Role.PRIMARY)))
+        self.assertEqual(b.kept(lambda it: (it.views("s"), it.mark("s").position)), ([(8, 0)], 0))
+
+    def test_a_store_of_before_there_were_views_is_of_view_0(self):
+        a, b = kv_rules.pair(Frame, Cell.SECONDARY)
+        kv_rules.push(a, "r1", "x")
+        for it in (a, b):
+            it.kept(lambda kept: [kept.tx.delete(key) for key, _ in kept.tx.list("frame/views/")])
+        self.assertEqual([it.kept(lambda kept: kept.mark("s").copy) for it in (a, b)], 2 * [(0, 1)])
+        self.assertEqual((kv_rules.push(a, "r2", "y"), b.value("s", "k")), ("xy", "xy"))
 
     def test_the_command_line_has_new_or_forget(self):
         for words, wanted in (((), (False, False)), (("--new",), (True, False)), (("--forget",), (False, True))):

@@ -80,8 +80,8 @@ func toIt[Line interface{ to() string }](it *Server, answer func(Line) (any, err
 func (it *Server) routes() map[string]func([]byte) (any, error) {
 	return map[string]func([]byte) (any, error){
 		"/order": toIt(it, it.order), "/fence": toIt(it, it.fence), "/settle": toIt(it, it.settle), "/restore": toIt(it, it.restore),
-		"/notice": toIt(it, it.notice), "/base": route(it.tellBase), "/slots": route(it.tellSlots), "/peer/follow": route(it.taken), "/peer/copy": route(it.given),
-		"/peer/leave": route(it.leaveGiven), "/peer/pass": route(it.passed), "/peer/life": route(it.tellLife), "/request": route(it.requested),
+		"/notice": toIt(it, it.notice), "/base": route(it.tellBase), "/slots": route(it.tellSlots), "/aside": route(it.toldAside), "/peer/follow": route(it.taken),
+		"/peer/copy": route(it.given), "/peer/leave": route(it.leaveGiven), "/peer/pass": route(it.passed), "/peer/life": route(it.tellLife), "/request": route(it.requested),
 	}
 }
 

@@ -49,7 +49,7 @@ func (it *Server) leaveGiven(line leaveLine) (any, error) {
 			answer = leftLine{Later: "it leaves, too"}
 		case !mayGive(slot, here.Position, line):
 			answer = leftLine{Later: "it does not serve " + line.Shard}
-		case !kept.hasCopy(line.Shard) || !kept.has(line.Shard, line.Mark):
+		case !kept.hasCopy(line.Shard) || line.Mark.hasMoreThan(here) || kept.differs(line.Shard, line.Mark):
 			answer = leftLine{Later: "it lacks writes"}
 		default:
 			it.with(line.Shard, func(live *live) {

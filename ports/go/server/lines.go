@@ -39,6 +39,7 @@ type slotLine struct {
 	Load     uint64  `json:"load"`
 	Last     uint64  `json:"last"`
 	Position uint64  `json:"position"`
+	View     uint64  `json:"view"`
 	Cut      *uint64 `json:"cut,omitempty"`
 	Reached  *bool   `json:"reached,omitempty"`
 }
@@ -61,6 +62,7 @@ type offerLine struct {
 	Heard   uint64     `json:"heard"`
 	Mark    mark       `json:"mark"`
 	After   mark       `json:"after"`
+	Views   views      `json:"views,omitempty"`
 	Cut     *[2]uint64 `json:"cut"`
 	Writes  []write    `json:"writes,omitempty"`
 	Copy    *copyLine  `json:"copy,omitempty"`
@@ -70,7 +72,7 @@ type offerLine struct {
 
 // copyLine is a whole copy, with the writes that are kept.
 type copyLine struct {
-	Before mark            `json:"before"`
+	Before end             `json:"before"`
 	Writes []write         `json:"writes"`
 	Data   json.RawMessage `json:"data"`
 }
@@ -172,9 +174,9 @@ func partsOf(lines []slotLine, numbers map[string]uint32) (map[string]smplan.Par
 	return found, nil
 }
 
-// toldOf returns what a server tells of a slot.
-func toldOf(shard string, slot smplan.Slot, position uint64, nameOf func(uint32) string) slotLine {
-	line := slotLine{Shard: shard, Cell: words[slot.Cell.Kind], Last: slot.Last, Load: slot.Load, Position: position}
+// toldOf returns what a server tells of a slot, with the view and the position of its copy: zeros without one.
+func toldOf(shard string, slot smplan.Slot, here mark, nameOf func(uint32) string) slotLine {
+	line := slotLine{Shard: shard, Cell: words[slot.Cell.Kind], Last: slot.Last, Load: slot.Load, Position: here.Position, View: here.View}
 	if slot.Cell.Kind == smplan.Prepared || slot.Cell.Kind == smplan.Forwarding {
 		name := nameOf(slot.Cell.Party)
 		line.Party, line.Handover = &name, slot.Cell.Number
@@ -183,7 +185,7 @@ func toldOf(shard string, slot smplan.Slot, position uint64, nameOf func(uint32)
 		line.Cut = &slot.Cut
 	}
 	if slot.Cell.Kind == smplan.Prepared {
-		reached := smplan.HasReachedCut(slot, position)
+		reached := smplan.HasReachedCut(slot, here.Position)
 		line.Reached = &reached
 	}
 	return line

@@ -127,7 +127,7 @@ func TestAServerForgetsAndKeepsItsData(t *testing.T) {
 		if base := kept.base(); base.Known || base.Nonce == 0 || len(kept.slots()) > 0 {
 			t.Errorf("the base is %v, the slots %v", base, kept.slots())
 		}
-		if _, isNew := kept.Get("frame/new"); isNew || kept.mark("s") != (mark{2, "2"}) {
+		if _, isNew := kept.Get("frame/new"); isNew || kept.mark("s") != (mark{end{2, "2"}, 0}) {
 			t.Errorf("it is new: %v; its list ends at %v", isNew, kept.mark("s"))
 		}
 		return nil

@@ -36,11 +36,13 @@ func isSourceFor(slot smplan.Slot, position uint64, number uint32) bool {
 // offer is what a server lacks whose list ends at a mark: the writes behind it, or a whole copy if the mark is not this list's, or too far behind.
 func (it *Server) offer(kept records, shard string, after mark) (line offerLine, err error) {
 	slot, base := kept.slot(shard), kept.base()
-	line = offerLine{Shard: shard, From: it.number(), Journal: fmt.Sprintf("%x", base.Journal), Heard: kept.heard(), Mark: kept.mark(shard), After: after}
+	line = offerLine{Shard: shard, From: it.number(), Journal: fmt.Sprintf("%x", base.Journal), Heard: kept.heard(), Mark: kept.mark(shard), After: after,
+		Views: kept.views(shard)}
 	if slot.Cell.Kind == smplan.Forwarding {
 		line.Cut = &[2]uint64{slot.Cell.Number, slot.Cut}
 	}
 	if kept.has(shard, after) && line.Mark.Position-after.Position <= mostWrites {
+		_, line.Views = line.Views.split(after.View)
 		line.Writes = kept.kept(shard, after.Position)
 		return line, nil
 	}
@@ -53,43 +55,58 @@ func (it *Server) offer(kept records, shard string, after mark) (line offerLine,
 	return line, err
 }
 
-// load puts an offered copy in place of what is here.
-func (it *Server) load(kept records, shard string, copied copyLine) error {
+// load puts an offered copy in place of what is here, which is set aside if it has more.
+func (it *Server) load(kept records, shard string, line offerLine) error {
+	if err := it.setAsideBefore(kept, shard, line); err != nil {
+		return err
+	}
+	copied := *line.Copy
 	var old uint32
 	kept.read(place("old", shard), &old)
 	it.service.Drop(kept.Tx, shard)
 	kept.clear(shard)
 	kept.putOldOwner(shard, old)
 	kept.putLedger(shard, ledger{copied.Before, copied.Before})
+	kept.putViews(shard, line.Views)
 	for _, next := range copied.Writes {
 		kept.append(shard, next, it.Limits.Keeping)
 	}
 	return it.service.Load(kept.Tx, shard, copied.Data)
 }
 
-// takeOffer takes an offer, unless the list here has changed since it was asked for, and returns whether all that the source has is here.
-func (it *Server) takeOffer(kept records, shard string, line offerLine) (bool, error) {
-	after, here := line.After, kept.mark(shard)
-	if line.Copy != nil && after == here {
-		if err := it.load(kept, shard, *line.Copy); err != nil {
-			return false, err
-		}
-	}
+// append puts offered writes behind those that are here, and takes over the views of the source's list once all up to its end is here.
+func (it *Server) append(kept records, shard string, line offerLine) error {
+	after, here := line.After.end, kept.ledger(shard).End
 	for _, next := range line.Writes {
 		if after == here {
 			if _, err := it.service.Apply(kept.Tx, shard, next.Command); err != nil {
-				return false, err
+				return err
 			}
 			kept.append(shard, next, it.Limits.Keeping)
-			here = next.mark()
+			here = next.end()
 		}
-		after = next.mark()
+		after = next.end()
 	}
-	has := kept.has(shard, line.Mark)
-	if has && !kept.hasCopy(shard) {
-		kept.putLedger(shard, ledger{})
+	if here == line.Mark.end {
+		kept.takeViews(shard, line.Views)
 	}
-	return has, nil
+	return nil
+}
+
+// takeOffer takes an offer, unless the list here has changed since it was asked for, or is greater, and returns whether all that the source has is
+// here, in the source's view.
+func (it *Server) takeOffer(kept records, shard string, line offerLine) (has bool, err error) {
+	if len(line.Views) == 0 {
+		line.Views = views{{0, 0}}
+	}
+	here := kept.mark(shard)
+	switch {
+	case line.Copy != nil && line.After == here && !here.hasMoreThan(line.Mark):
+		err = it.load(kept, shard, line)
+	case line.Copy == nil && line.Views.resumes(here, line.Mark.Position):
+		err = it.append(kept, shard, line)
+	}
+	return kept.mark(shard).View == line.Mark.View && kept.has(shard, line.Mark), err
 }
 
 // -- the side that follows
@@ -129,11 +146,15 @@ func (it *Server) taken(line offerLine) (any, error) {
 		if err != nil {
 			return err
 		}
-		if line.Cut != nil {
+		if has && line.Cut != nil {
 			kept.putSlot(line.Shard, smplan.Seal(kept.slot(line.Shard), line.Cut[0], line.Cut[1]))
 		}
-		if answer = (&followLine{Has: true}); !has {
-			here := kept.mark(line.Shard)
+		switch here := kept.mark(line.Shard); {
+		case has:
+			answer = &followLine{Has: true}
+		case here.hasMoreThan(line.Mark):
+			answer = &followLine{Later: "it has more"}
+		default:
 			answer = &followLine{Lacks: &here}
 		}
 		return nil
@@ -167,6 +188,8 @@ func (it *Server) given(line askLine) (answer any, err error) {
 			answer, err = it.offerBeside(kept, line.Shard, line.After)
 		case !isSourceFor(slot, here.Position, line.From):
 			answer = offerLine{Said: "it is no source of " + line.Shard}
+		case line.After.hasMoreThan(here):
+			answer = offerLine{Said: "it has less of " + line.Shard}
 		default:
 			it.with(line.Shard, func(live *live) {
 				link := live.link(line.From)
@@ -180,14 +203,14 @@ func (it *Server) given(line askLine) (answer any, err error) {
 	return answer, err
 }
 
-// offerBeside is what a secondary gives that becomes no primary itself: what is behind a mark, if its list goes on from there; otherwise where that
+// offerBeside is what a secondary gives that becomes no primary itself: what a lesser copy lacks that ends at a mark; otherwise where its own one
 // ends.
 func (it *Server) offerBeside(kept records, shard string, after mark) (offerLine, error) {
 	here := kept.mark(shard)
 	if !kept.hasCopy(shard) {
 		return offerLine{Said: lostCopy(shard)}, nil
 	}
-	if after != here && kept.has(shard, after) {
+	if here.hasMoreThan(after) && !kept.differs(shard, after) {
 		return it.offer(kept, shard, after)
 	}
 	return offerLine{Less: &here}, nil

@@ -201,7 +201,7 @@ func (it *Server) rest(shard string, order smplan.Order, others []uint32) error 
 	return nil
 }
 
-// compare takes at a secondary that becomes primary what others have that it lacks, if that goes on from its own list. Each of them has to answer.
+// compare takes at a secondary that becomes primary what others have whose copies are greater. Each of them has to answer.
 func (it *Server) compare(shard string, others []uint32) error {
 	err := it.transact(func(kept records) error {
 		if !kept.hasCopy(shard) {
@@ -218,10 +218,10 @@ func (it *Server) compare(shard string, others []uint32) error {
 	return err
 }
 
-// takeBeside takes what another secondary gives; an error if that has more, or another list.
+// takeBeside takes what another secondary gives; an error if that has more, or another list in one view.
 func (it *Server) takeBeside(kept records, shard, name string, offer offerLine) error {
-	if offer.Less != nil && !kept.has(shard, *offer.Less) {
-		return fmt.Errorf("%s has another list of %s, not a beginning of the one here: give up the older one as lost", name, shard)
+	if less := offer.Less; less != nil && (less.hasMoreThan(kept.mark(shard)) || kept.differs(shard, *less)) {
+		return fmt.Errorf("%s has another list of %s in one view: give one of them up as lost", name, shard)
 	}
 	if offer.Less != nil || kept.slot(shard).Cell.Kind != smplan.Secondary {
 		return nil
@@ -247,11 +247,8 @@ func (it *Server) commit(shard string, order smplan.Order, offer *offerLine) err
 			return errors.New("the leave is over")
 		}
 		if offer != nil && slot.Cell.Kind == smplan.Absent && slot.AtWork == order.Number {
-			if _, err := it.takeOffer(kept, shard, *offer); err != nil {
-				return err
-			}
-			if !kept.hasCopy(shard) {
-				kept.putLedger(shard, ledger{})
+			if has, err := it.takeOffer(kept, shard, *offer); err != nil || !has {
+				return fmt.Errorf("another copy is here: %v", err)
 			}
 		}
 		made, ok := smplan.Commit(kept.base(), slot, order, kept.mark(shard).Position)
@@ -276,8 +273,8 @@ func (it *Server) keepCommitted(kept records, shard string, before, after smplan
 		it.service.Drop(kept.Tx, shard)
 		kept.clear(shard)
 	}
-	if to == smplan.Primary && !kept.hasCopy(shard) {
-		kept.putLedger(shard, ledger{})
+	if to == smplan.Primary && from != smplan.Prepared {
+		kept.beginView(shard, after.Last)
 	}
 	old := uint32(0)
 	if from == smplan.Prepared && to == smplan.Primary {

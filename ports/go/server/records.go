@@ -4,6 +4,7 @@ import (
 	"encoding/json"
 	"fmt"
 	"net/url"
+	"sort"
 	"strconv"
 	"time"
 
@@ -13,18 +14,60 @@ import (
 // mostWrites is how many writes a follower may lack before it is sent a whole copy.
 const mostWrites = 1000
 
-// mark is where a list of writes ends: how many there are, and the stamp of the last one. Two lists with one mark are the same.
-type mark struct {
+// end is where a list of writes ends: how many there are, and the stamp of the last one.
+type end struct {
 	Position uint64
 	Stamp    string
 }
 
-// MarshalJSON writes a mark as [position, stamp].
-func (it mark) MarshalJSON() ([]byte, error) { return json.Marshal([]any{it.Position, it.Stamp}) }
+// MarshalJSON writes an end as [position, stamp].
+func (it end) MarshalJSON() ([]byte, error) { return json.Marshal([]any{it.Position, it.Stamp}) }
+
+// UnmarshalJSON reads one.
+func (it *end) UnmarshalJSON(text []byte) error {
+	return json.Unmarshal(text, &[]any{&it.Position, &it.Stamp})
+}
+
+// mark is where a list of writes ends, and in which view. Two lists with one mark are the same.
+type mark struct {
+	end
+	View uint64
+}
+
+// MarshalJSON writes a mark as [position, stamp, view].
+func (it mark) MarshalJSON() ([]byte, error) {
+	return json.Marshal([]any{it.Position, it.Stamp, it.View})
+}
 
 // UnmarshalJSON reads one.
 func (it *mark) UnmarshalJSON(text []byte) error {
-	return json.Unmarshal(text, &[]any{&it.Position, &it.Stamp})
+	return json.Unmarshal(text, &[]any{&it.Position, &it.Stamp, &it.View})
+}
+
+// copied is what the agent takes for it.
+func (it mark) copied() smplan.ToldCopy { return smplan.ToldCopy{View: it.View, Position: it.Position} }
+
+// hasMoreThan returns whether a copy that ends here is greater than one that ends there.
+func (it mark) hasMoreThan(other mark) bool {
+	return smplan.Compare(it.copied(), other.copied()) > 0
+}
+
+// views are those of a list, in rising order: each is [view, position at which it began].
+type views [][2]uint64
+
+// resumes returns whether a list that ends at a mark is a beginning of one that has these views and ends at a position.
+func (it views) resumes(other mark, position uint64) bool {
+	starts := []smplan.ViewStart{}
+	for _, one := range it {
+		starts = append(starts, smplan.ViewStart{View: one[0], Position: one[1]})
+	}
+	return smplan.Resumes(other.copied(), starts, position)
+}
+
+// split returns those before a view, and those from it on.
+func (it views) split(view uint64) (before, from views) {
+	at := sort.Search(len(it), func(at int) bool { return view <= it[at][0] })
+	return it[:at:at], it[at:]
 }
 
 // write is a write of a shard: its place, a random stamp of its own, the request's identity, the command, the reply, and when (ms) it was executed.
@@ -37,10 +80,13 @@ type write struct {
 	At       int64           `json:"at"`
 }
 
-func (it write) mark() mark { return mark{it.Position, it.Stamp} }
+func (it write) end() end { return end{it.Position, it.Stamp} }
 
-// ledger is a shard's list: its mark, and the mark before the first write that is still kept.
-type ledger struct{ Mark, Before mark }
+// ledger is a shard's list: its end, and the end before the first write that is still kept.
+type ledger struct {
+	End    end `json:"Mark"`
+	Before end
+}
 
 // records are what is kept, in a transaction.
 type records struct{ Tx }
@@ -144,7 +190,42 @@ func (it records) ledger(shard string) (found ledger) {
 
 func (it records) putLedger(shard string, found ledger) { it.store(place("list", shard), found) }
 
-func (it records) mark(shard string) mark { return it.ledger(shard).Mark }
+// views are those of a shard's list. A list of before there were views is of view 0.
+func (it records) views(shard string) (found views) {
+	if !it.read(place("views", shard), &found) {
+		found = views{{0, 0}}
+	}
+	return found
+}
+
+// takeViews takes over the views of a list with the same end, which tells those from one on that this list has, too.
+func (it records) takeViews(shard string, told views) {
+	all := it.views(shard)
+	before, from := all.split(told[0][0])
+	if !it.hasCopy(shard) {
+		it.putLedger(shard, ledger{})
+	}
+	if fmt.Sprint(from) != fmt.Sprint(told) {
+		it.putViews(shard, append(before, told...))
+	}
+}
+
+func (it records) putViews(shard string, told views) { it.store(place("views", shard), told) }
+
+// beginView begins the view of a primary, with the number of what made it that: it goes on from what is here, or from nothing.
+func (it records) beginView(shard string, view uint64) {
+	earlier := views{}
+	if it.hasCopy(shard) {
+		earlier = it.views(shard)
+	}
+	it.putLedger(shard, it.ledger(shard))
+	it.putViews(shard, append(earlier, [2]uint64{view, it.ledger(shard).End.Position}))
+}
+
+func (it records) mark(shard string) mark {
+	told := it.views(shard)
+	return mark{it.ledger(shard).End, told[len(told)-1][0]}
+}
 
 func number(position uint64) string { return strconv.FormatUint(position, 10) }
 
@@ -176,9 +257,9 @@ func (it records) append(shard string, next write, keeping time.Duration) {
 			break
 		}
 		it.deleteWrite(shard, first)
-		list.Before = first.mark()
+		list.Before = first.end()
 	}
-	it.putLedger(shard, ledger{next.mark(), list.Before})
+	it.putLedger(shard, ledger{next.end(), list.Before})
 }
 
 // deleteWrite deletes a write with the identity of its request.
@@ -198,7 +279,7 @@ func (it records) kept(shard string, after uint64) []write {
 	if after < list.Before.Position {
 		after = list.Before.Position
 	}
-	for position := after + 1; position <= list.Mark.Position; position++ {
+	for position := after + 1; position <= list.End.Position; position++ {
 		if next, ok := it.writeAt(shard, position); ok {
 			found = append(found, next)
 		}
@@ -208,12 +289,32 @@ func (it records) kept(shard string, after uint64) []write {
 
 // has returns whether the shard's list has another one, that ends at this mark, as its beginning; false if that can't be told any more.
 func (it records) has(shard string, other mark) bool {
+	found, ok := it.endAt(shard, other.Position)
+	return it.resumes(shard, other) && ok && found == other.end
+}
+
+// resumes returns whether a list that ends at this mark is a beginning of the shard's, by its view and position.
+func (it records) resumes(shard string, other mark) bool {
+	return it.views(shard).resumes(other, it.ledger(shard).End.Position)
+}
+
+// differs returns whether a list that ends at this mark is another one, though its view and position are those of a beginning of the shard's: a bug.
+func (it records) differs(shard string, other mark) bool {
+	found, ok := it.endAt(shard, other.Position)
+	return it.resumes(shard, other) && ok && found != other.end
+}
+
+// endAt is where the shard's list ended when it had so many writes; false if that can't be told any more.
+func (it records) endAt(shard string, position uint64) (found end, ok bool) {
 	list := it.ledger(shard)
-	if other == list.Mark || other == list.Before {
-		return true
+	switch position {
+	case list.End.Position:
+		return list.End, true
+	case list.Before.Position:
+		return list.Before, true
 	}
-	found, ok := it.writeAt(shard, other.Position)
-	return ok && found.Stamp == other.Stamp
+	next, ok := it.writeAt(shard, position)
+	return next.end(), ok
 }
 
 // clear deletes a shard's list, and who was the old owner.
@@ -222,5 +323,6 @@ func (it records) clear(shard string) {
 		it.deleteWrite(shard, old)
 	}
 	it.Delete(place("list", shard))
+	it.Delete(place("views", shard))
 	it.putOldOwner(shard, 0)
 }

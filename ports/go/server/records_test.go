@@ -27,7 +27,7 @@ func TestIdentitiesGoWhenTheyAreOld(t *testing.T) {
 				t.Errorf("%s is kept: %v", request, ok)
 			}
 		}
-		if list := kept.ledger("s"); len(kept.kept("s", 0)) != 2 || list.Before != (mark{2, "2"}) || list.Mark != (mark{4, "4"}) {
+		if list := kept.ledger("s"); len(kept.kept("s", 0)) != 2 || list.Before != (end{2, "2"}) || list.End != (end{4, "4"}) {
 			t.Errorf("the list is %v", list)
 		}
 		return nil

@@ -44,13 +44,14 @@ func (it *Server) request(line requestLine, pass *smplan.Pass) (any, error) {
 	}
 }
 
-// route routes a request, and executes it in the same transaction if it is for this server. From then on it runs.
+// route routes a request, and executes it in the same transaction if it is for this server. From then on it runs. None begins at a new owner that
+// has lost its copy.
 func (it *Server) route(line requestLine, pass *smplan.Pass) (where smplan.Route, onward smplan.Pass, done *ran, err error) {
 	err = it.transact(func(kept records) error {
 		slot, term, isHeld := kept.slot(line.Shard), 0, false
 		it.with(line.Shard, func(live *live) { term, isHeld = live.term, live.isHeld })
 		where, onward = smplan.RouteRequest(kept.base(), slot, kept.mark(line.Shard).Position, pass)
-		if isHeld && isInHandover(slot) {
+		if isHeld && isInHandover(slot) || slot.Cell.Kind == smplan.Prepared && !kept.hasCopy(line.Shard) {
 			where = smplan.NotYet
 		}
 		if where != smplan.Execute {

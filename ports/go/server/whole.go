@@ -103,7 +103,7 @@ func (it *Server) inventory(kept records, base smplan.Base) any {
 	told := []slotLine{}
 	for shard, slot := range kept.slots() {
 		if slot.Cell.Kind != smplan.Absent {
-			told = append(told, toldOf(shard, slot, kept.mark(shard).Position, it.nameOf))
+			told = append(told, toldOf(shard, slot, kept.mark(shard), it.nameOf))
 		}
 	}
 	sort.Slice(told, func(i, j int) bool { return told[i].Shard < told[j].Shard })
@@ -151,7 +151,7 @@ func (it *Server) lost(line wholeLine) (found []string) {
 	return found
 }
 
-// take takes a settle or a restore as a whole: each slot that it does not bring is absent afterwards, and has no data.
+// take takes a settle or a restore as a whole: each slot that it does not bring is absent afterwards, and its copy is set aside.
 func (it *Server) take(line wholeLine) (reception smplan.Reception, err error) {
 	for _, slot := range line.Slots {
 		if slot.Party != nil {
@@ -188,7 +188,13 @@ func (it *Server) take(line wholeLine) (reception smplan.Reception, err error) {
 		it.life = nonce()
 		it.mutex.Unlock()
 		for shard, slot := range after {
-			it.keep(kept, shard, slot)
+			view := uint64(0)
+			if told.Kind == smplan.Settle && before[shard].Cell.Kind != smplan.Primary {
+				view = told.Number
+			}
+			if err := it.keep(kept, shard, slot, view); err != nil {
+				return err
+			}
 			it.with(shard, func(live *live) {
 				live.beginAnew()
 				if before[shard].Cell.Kind != smplan.Primary || slot.Cell.Kind != smplan.Primary {
@@ -201,17 +207,21 @@ func (it *Server) take(line wholeLine) (reception smplan.Reception, err error) {
 	return reception, err
 }
 
-// keep stores a slot, and deletes the data of an absent one.
-func (it *Server) keep(kept records, shard string, slot smplan.Slot) {
+// keep stores a slot, and sets the copy of an absent one aside. A primary that is chosen anew begins a view; so does one without a copy, with 0.
+func (it *Server) keep(kept records, shard string, slot smplan.Slot, view uint64) error {
 	kept.putSlot(shard, slot)
 	kept.putOldOwner(shard, 0)
 	if slot.Cell.Kind == smplan.Absent {
+		if err := it.setAside(kept, shard); err != nil {
+			return err
+		}
 		it.service.Drop(kept.Tx, shard)
 		kept.clear(shard)
 	}
-	if slot.Cell.Kind == smplan.Primary && !kept.hasCopy(shard) {
-		kept.putLedger(shard, ledger{})
+	if slot.Cell.Kind == smplan.Primary && (view != 0 || !kept.hasCopy(shard)) {
+		kept.beginView(shard, view)
 	}
+	return nil
 }
 
 // notice heeds the last reopening that a message names.
