@@ -11,17 +11,22 @@ import psycopg
 # The shards that are copied from a server, each with when its copy began, and those in a handover.
 MOVES = "SELECT shard, since FROM sm.copied WHERE seen > clock_timestamp() - interval '8 s' UNION SELECT shard, NULL FROM sm.slots WHERE cell IN (2, 5)"
 
-# When a moment has come to a server; `drop`: a schema is dropped in a transaction that has not ended. A cut has a name, so that each
-# is struck once, and a handover gets on.
+# The new owner of a shard that a server has handed over, has leave to drop, and does not follow any more.
+LEAVES = "SELECT party FROM sm.leaving JOIN sm.slots USING (shard), sm.state, pg_subscription WHERE cell = 5 AND subname = sm.stream(shard, me) AND NOT subenabled"
+
+# When a moment has come to a server; `drop`: a schema is dropped in a transaction that has not ended, or an old owner's is about to be. A cut has a name, so
+# that each is struck once, and a handover gets on.
 MOMENTS = {
     "copy": "SELECT EXISTS (SELECT FROM pg_subscription_rel WHERE srsubstate <> 'r')",
     "cut": "SELECT shard || ' ' || last FROM sm.slots WHERE cell = 5",
     "seal": "SELECT EXISTS (SELECT FROM sm.slots WHERE cell = 2 AND has_cut = 1)",
     "over": "SELECT EXISTS (SELECT FROM sm.slots WHERE cell = 5 AND source IS NOT NULL)",
     "order": "SELECT EXISTS (SELECT FROM sm.slots WHERE at_work <> 0)",
-    "drop": "SELECT EXISTS (SELECT FROM pg_locks WHERE locktype = 'object' AND mode = 'AccessExclusiveLock' AND granted AND classid = 'pg_namespace'::regclass)",
+    "drop": "SELECT EXISTS (SELECT FROM pg_locks WHERE locktype = 'object' AND mode = 'AccessExclusiveLock' AND granted AND classid = 'pg_namespace'::regclass) "
+            f"OR EXISTS ({LEAVES})",
     "moves": f"SELECT EXISTS ({MOVES})",
     "prepared": "SELECT EXISTS (SELECT FROM sm.slots WHERE cell = 2 AND has_cut = 0 AND is_whole)",
+    "leave": f"SELECT EXISTS ({LEAVES})",
 }
 FLUSHED = "SELECT pg_current_wal_flush_lsn()::text"
 # Whether a shard that a server serves, or has handed over, is followed up to a place of its log.
@@ -63,7 +68,7 @@ class Harm:
         dead = 2.0 + self.fleet.dead
         works = {"controller": self.controller, "hold": lambda: self.hold(self.dice.uniform(0.5, 3.0)), "ddl": lambda: self.ddl(stop), "away": lambda: self.away(dead),
                  "late copy": lambda: self.delay("copy", stop), "late stream": lambda: self.delay("prepared", stop),
-                 "late commit": lambda: self.late_commit(stop)}
+                 "late commit": lambda: self.late_commit(stop), "leave": lambda: self.lose_behind_leave(stop)}
         works.get(kind, lambda: self.strike(kind, stop))()
 
     def rows(self, name, statement, values=None):
@@ -251,6 +256,27 @@ class Harm:
                 self.wrong.append(f"not within {time.monotonic() - begun:.0f} s: the service is open without {name}")
             self.losses.append((at, time.time()))
             self.say(f"reopened after {time.monotonic() - begun:.1f} s")
+
+    def lose_behind_leave(self, stop):
+        """Kills an old owner that has leave to drop its copy, and loses the new owner, before it starts again: a reopening takes that copy for whole."""
+        name = self.victim("leave", stop=stop)
+        rows = self.rows(name, LEAVES) if name else []
+        if not rows:
+            return
+        with self.lock:
+            self.count("leave")
+            for it in (self.fleet.agents[name], self.fleet.posts[name]):
+                it.kill()
+        time.sleep(0.7)
+        lost = self.fleet.names[rows[0][0] - 1]
+        threading.Thread(target=self.revive_behind, args=(name, lost), daemon=True).start()
+        self.lose(lost)
+
+    def revive_behind(self, name, lost):
+        """Starts a server again once another one is lost."""
+        while self.fleet.posts[lost].is_up():
+            time.sleep(0.05)
+        self.revive(name)
 
     def freeze(self, name):
         """Lets streams of a server stand still, so that their followers lack what is written then: of every other shard with several followers one goes on.

@@ -478,7 +478,7 @@ class WholeTest(Case):
 
     def test_told_and_settled(self):
         told = self.fence(100)
-        self.assertEqual([(it["shard"], it["cell"], it["position"]) for it in told["slots"]], [(self.shard, "primary", 0)])
+        self.assertEqual([(it["shard"], it["cell"], it["view"], it["position"]) for it in told["slots"]], [(self.shard, "primary", 0, 0)])
         self.assertEqual(self.server.whole.tell_base({}), {"base": None})
         self.assertEqual(self.settle(100, None, {"shard": self.shard, "cell": "primary", "load": 1}), {"done": True})
         self.assertEqual((self.server.whole.tell_base({}), self.has()), ({"base": 100}, True))
@@ -492,6 +492,22 @@ class WholeTest(Case):
         self.assertEqual(POST.query(f"SELECT view, position FROM {self.shard}.sm_views ORDER BY view"), [(0, 0), (100, 0)])
         self.assertEqual(POST.query("SELECT sealed_view, sealed_position, sealed IS NOT NULL FROM sm.slots WHERE shard = %s", (self.shard,)), [(0, 0, True)])
         self.assertEqual(POST.query("SELECT pubinsert FROM pg_publication WHERE pubname = sm.stream(%s)", (self.shard,)), [(True,)])
+        self.assertEqual([(it["cell"], it["view"]) for it in self.fence(200)["slots"]], [("primary", 100)])
+
+    def test_a_copy_that_is_made_anew_is_told_as_the_old_one_beside_it(self):
+        serve(self.shard, Cell.SECONDARY)
+        old = f"{self.shard}_old"
+        POST.query(f"CREATE SCHEMA {old}")
+        DATABASE.row("SELECT sm.adopt(%s)", old)
+        POST.query(f"INSERT INTO {old}.sm_views VALUES (0, 0), (7, 4); UPDATE {old}.sm_counters SET writes = 5 WHERE n = 1")
+        POST.query(f"INSERT INTO {self.shard}.sm_views VALUES (9, 2); UPDATE {self.shard}.sm_counters SET writes = 3 WHERE n = 1")
+        POST.query("UPDATE sm.slots SET is_whole = false")
+        POST.query(f"INSERT INTO sm.copying VALUES ('{self.shard}', 2, now(), '{old}')")
+        self.assertEqual([(it["view"], it["position"]) for it in self.fence(100)["slots"]], [(7, 5)])
+        with DATABASE.transaction() as tx:
+            self.server.copies.end(tx, self.shard)
+        status.drop(DATABASE, [], True, False)
+        self.assertEqual(POST.query("SELECT to_regnamespace(%s) IS NULL, (SELECT count(*) FROM sm.copying)", (old,)), [(True, 0)])
 
     def test_what_is_absent_at_the_end_is_set_aside_if_it_is_whole(self):
         for is_whole in (True, False):
@@ -607,6 +623,18 @@ class WholeTest(Case):
                 self.server.silence.end()
             found.append(POST.query(f"SELECT count(*) FROM {self.shard}.sm_members")[0][0])
         self.assertEqual(found, [1, 1, 1, 0])
+
+    def test_streams_of_tables_are_dropped_once_nothing_is_copied(self):
+        name, keeping, found = "pg_1_sync_2_3", self.server.keeping, []
+        POST.query(f"SELECT pg_create_logical_replication_slot('{name}', 'pgoutput')")
+        POST.query("SELECT sm.copy(%s, 2, 1000)", (self.shard,))
+        for _ in range(2):
+            for _ in range(2):
+                keeping.drop_unread()
+                keeping.unread = {it: since - 100 for it, since in keeping.unread.items()}
+            found.append(POST.query(f"SELECT count(*) FROM pg_replication_slots WHERE slot_name = '{name}'")[0][0])
+            POST.query("DELETE FROM sm.copied")
+        self.assertEqual(found, [1, 0])
 
     def test_left_behind(self):
         self.server.whole.notice({"journal": "9", "fence": 50})
@@ -772,6 +800,30 @@ class SeveralTest(unittest.TestCase):
         self.write("b", 6)
         self.assertEqual((self.order("a", "drop", "ab", primary="a"), self.has("a")), ({"done": True}, False))
 
+    def test_an_old_owner_counts_until_it_has_dropped(self):
+        def members():
+            with self.its["b"].database.transaction() as tx:
+                return Records(tx).members(self.shard)
+
+        for name, cell in (("a", Cell.FORWARDING), ("b", Cell.PRIMARY), ("c", Cell.FORWARDING)):
+            self.put(name, cell, 5)
+        with self.its["b"].database.transaction() as tx:
+            Records(tx).put_members(self.shard, {1: True, 3: True})
+        seen, sound = [], streams.halt
+
+        def halt(*words):  # (it has leave)
+            self.its["b"].keeping.leave_out_the_dead()
+            seen.append(members())
+            sound(*words)
+
+        with mock.patch.object(streams, "halt", halt):
+            self.assertEqual(self.order("a", "drop", "ab", primary="b"), {"done": True})
+        self.assertEqual((seen, members(), self.has("a")), ([{1: True, 3: True}], {3: True}, False))
+        with self.its["b"].database.transaction() as tx:
+            Records(tx).put_members(self.shard, {1: True, 3: True})
+        self.its["b"].keeping.leave_out_the_dead()  # (what was not told is seen)
+        self.assertEqual(members(), {3: True})
+
     def test_streams_of_another_database(self):
         self.put("a", Cell.PRIMARY, 5)
         a, b = self.its["a"].database, self.its["b"].database
@@ -780,8 +832,11 @@ class SeveralTest(unittest.TestCase):
         streams.make_stream(b, self.shard, 3)
         self.assertFalse(value(a.row("SELECT sm.has_all(%s, '0/1')", self.shard)))
         self.assertFalse(a.row("SELECT has_stream FROM sm.offers(%s, 3)", self.shard)["has_stream"])
+        with self.assertRaises(psycopg.errors.DuplicateObject):
+            streams.make_stream(a, self.shard, 3)
         streams.drop_streams(a, self.shard)
         with b.connection() as c:
+            streams.drop_stream(a, streams.name_of(c, self.shard, 3))
             self.assertEqual(len(streams.streams_of(c, self.shard)), 1)
         streams.drop_streams(b, self.shard)
 

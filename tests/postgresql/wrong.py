@@ -126,12 +126,25 @@ def slot_first():
     Orders.store, Orders.once = store_later, once_and_then
 
 
+def left():
+    """An old owner counts no more once it has leave to drop its copy."""
+    from smplan_pg.leave import Leave
+    edit("WHERE server = $1 AND NOT was_owner'", "WHERE server = $1'")
+    sound = Leave.keep
+
+    def keep_late(*words):
+        time.sleep(0.5)
+        sound(*words)
+    Leave.keep = keep_late
+
+
 # The runs, by what comes in them, and the harm of a sound one. Harm that waits for a moment brings the situation in each run, not by chance. A run with a bug
 # has to come to rest in time, as the sound one with its seed did.
 RUNS = {
     "moves": (["--seconds", "3", "--drains", "1", "--at-one", "--roles", "0", "--plain", "0.05", "--late", "5"], ["ddl", "late stream", "late copy", "late commit"]),
     "loss": (["--servers", "4", "--wide", "--at-one", "--lose", "1", "--lose-at", "0", "--no-disk", "--frozen", "4", "--seconds", "1"], []),
     "cuts": (["--seconds", "3", "--drains", "1", "--at-one", "--roles", "0", "--most", "3"], ["cut"]),
+    "leave": (["--servers", "4", "--seconds", "20", "--at-one", "--roles", "0", "--most", "1"], ["leave"]),
     "back": (["--seconds", "3", "--drains", "1", "--at-one", "--back", "1", "--dead", "30", "--option=--stalled=300"], []),
 }
 
@@ -140,6 +153,7 @@ BUGS = {
     "no_lock": (no_lock, "moves", "late commit"), "identities": (identities, "moves"), "sequences": (sequences, "moves"), "ddl": (ddl, "moves", "ddl"),
     "guard": (guard, "moves"), "early": (early, "moves", "late copy"), "seal_early": (seal_early, "moves", "late stream"), "no_followers": (no_followers, "loss"),
     "mark": (mark, "loss"), "slot_first": (slot_first, "cuts", "cut"), "no_place": (no_place, "back"),
+    "left": (left, "leave", "leave"),
 }
 
 

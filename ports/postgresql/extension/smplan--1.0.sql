@@ -309,12 +309,12 @@ BEGIN
   RETURN FOUND;
 END $$;
 
--- Another server asks for leave to drop a shard: 'leave', or why not. A primary gives it, and counts the other no more; where there is none (`beside`), a
--- secondary whose whole copy has what the other has. Who has a question open gives none; of two that ask each other the one with the higher number gives
--- its own up, and asks anew.
+-- Another server asks for leave to drop a shard: 'leave', or why not. A primary gives it, and counts the other no more (but an old owner until it has dropped
+-- its copy, which a reopening takes for whole until then); where there is none (`beside`), a secondary whose whole copy has what the other has. Who has a
+-- question open gives none; of two that ask each other the one with the higher number gives its own up, and asks anew.
 CREATE FUNCTION sm.leave(in_shard text, asker int, in_journal bigint, in_heard bigint, beside bool, in_view bigint, in_position bigint) RETURNS text
 LANGUAGE plpgsql AS $$
-DECLARE b sm.state; s sm.slots;
+DECLARE b sm.state; s sm.slots; n int;
 BEGIN
   PERFORM sm.share(in_shard);
   PERFORM sm.lock_leave(in_shard);
@@ -327,10 +327,22 @@ BEGIN
   DELETE FROM sm.leaving WHERE shard = in_shard AND b.me > asker;
   IF EXISTS (SELECT FROM sm.leaving WHERE shard = in_shard) THEN RETURN 'it leaves, too'; END IF;
   IF NOT beside THEN
-    EXECUTE format('DELETE FROM %I.sm_members WHERE server = $1', in_shard) USING asker;
-    PERFORM sm.count(in_shard);
+    EXECUTE format('DELETE FROM %I.sm_members WHERE server = $1 AND NOT was_owner', in_shard) USING asker;
+    GET DIAGNOSTICS n = ROW_COUNT;
+    IF n > 0 THEN PERFORM sm.count(in_shard); END IF;
   END IF;
   RETURN 'leave';
+END $$;
+
+-- An old owner has dropped its copy: it counts no more at the primary.
+CREATE FUNCTION sm.left(in_shard text, asker int) RETURNS void LANGUAGE plpgsql AS $$
+DECLARE n int;
+BEGIN
+  PERFORM sm.share(in_shard);
+  IF NOT EXISTS (SELECT FROM sm.slots WHERE shard = in_shard AND cell = 4) THEN RETURN; END IF;
+  EXECUTE format('DELETE FROM %I.sm_members WHERE server = $1 AND was_owner', in_shard) USING asker;
+  GET DIAGNOSTICS n = ROW_COUNT;
+  IF n > 0 THEN PERFORM sm.count(in_shard); END IF;
 END $$;
 
 -- A copy begins, or goes on. False if so many are made from here already.

@@ -261,7 +261,7 @@ class Following:
             return False
         if serves(it):
             self.unserved.pop(shard, None)
-            if not self.is_enabled(shard) or self.refuses(shard, told.source, was):
+            if not (self.is_enabled(shard) or (told.slot.cell == Cell.FORWARDING and self.go_on(shard))) or self.refuses(shard, told.source, was):
                 return False
             if not it["is_member"] and told.slot.cell == Cell.SECONDARY and not self.server.live(shard).worker:
                 self.server.peer(told.source).row("SELECT sm.join(%s, %s)", shard, self.server.number)
@@ -272,6 +272,15 @@ class Following:
         """Whether the shard's subscription works."""
         enabled = "SELECT EXISTS (SELECT FROM pg_subscription WHERE subname = sm.stream(%s, %s) AND subenabled)"
         return bool(value(self.server.database.row(enabled, shard, self.server.number)))
+
+    def go_on(self, shard: str) -> bool:
+        """Lets an old owner follow again that had leave to drop its copy, and has not dropped it: it counts until then. Whether it does."""
+        with self.server.database.transaction() as tx:
+            mine = streams.name_of(tx, shard, self.server.number)
+            if not streams.has_subscription(tx, mine):
+                return False
+            streams.enable(tx, mine)
+        return True
 
     def refuses(self, shard: str, source: int, was: Optional[Applied]) -> bool:
         """Whether what a source sends could not be applied for a while, again and again, and nothing got on: it does not go on from the copy here."""

@@ -6,12 +6,13 @@ from dataclasses import dataclass
 from typing import TYPE_CHECKING, Dict, List, Optional
 
 import psycopg
-from smplan.agent import Cell
+from smplan.agent import Base, Cell
 
 from . import streams
 from .copies import REPLACED
 from .database import Row, value
 from .records import Records
+from .sources import is_of
 from .streams import Stuck, said
 
 if TYPE_CHECKING:
@@ -51,16 +52,23 @@ class Keeping:
         not. A stream that is lost, or that was never made, is dead at once."""
         with self.server.database.transaction() as tx:
             it = Records(tx)
-            rows, known = tx.execute(STREAMS).fetchall(), it.base().known
+            rows, base = tx.execute(STREAMS).fetchall(), it.base()
             members = {streams.name_of(tx, shard, number): (shard, number, was_owner) for shard, slot in it.slots().items() if slot.cell == Cell.PRIMARY
                        for number, was_owner in it.members(shard).items()}
         present = {it["slot_name"]: it for it in rows}
         self.watched = {name: it for name, it in self.watched.items() if name in present or name in members}
-        for name in {*present, *members} if known else ():
-            if name in members and members[name][2]:
-                continue
-            if self.is_dead(name, present.get(name)):
+        for name in {*present, *members} if base.known else ():
+            shard, number, was_owner = members.get(name, ("", 0, False))
+            if self.has_left(shard, number, base) if was_owner else self.is_dead(name, present.get(name)):
                 self.leave_out(name, members.get(name))
+
+    def has_left(self, shard: str, number: int, base: Base) -> bool:
+        """Whether an old owner has dropped its copy, and may not have told it."""
+        try:
+            it = self.server.sources.offer(number, shard)
+        except (Stuck, OSError, psycopg.Error):
+            return False
+        return is_of(it, base) and it["cell"] == Cell.ABSENT
 
     def is_dead(self, name: str, row: Optional[Row]) -> bool:
         """Whether nobody will go on with a stream, as far as can be seen from here."""
@@ -124,8 +132,12 @@ class Keeping:
                 self.server.database.do("DELETE FROM sm.left_behind WHERE source = %s AND streams = %s", row["source"], row["streams"])
 
     def drop_unread(self) -> None:
-        """Drops streams by which tables were copied and which nobody has read for long: who read them is lost, or begins anew."""
+        """Drops streams by which tables were copied and which nobody has read for long: who read them is lost, or begins anew. While a copy is made from here
+        they may have no reader: a table's is made before its rows are copied, and read behind them."""
         now = self.server.silence.now()
+        if value(self.server.database.row("SELECT EXISTS (SELECT FROM sm.copied WHERE seen > clock_timestamp() - interval '10 s')")):
+            self.unread = {}
+            return
         self.unread = {it["slot_name"]: self.unread.get(it["slot_name"], now) for it in self.server.database.rows(UNREAD)}
         for name, since in self.unread.items():
             if now - since > 2 * self.server.limits.dead:

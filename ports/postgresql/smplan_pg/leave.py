@@ -73,6 +73,12 @@ class Leave:
         if not value(tx.execute("SELECT sm.end_leaving(%s, %s)", (self.shard, self.question)).fetchone()):
             raise Stuck("it has given leave to another server that leaves, and asks anew")
 
+    def tell(self) -> None:
+        """Tells the primary that the drop is committed: an old owner counts there until then."""
+        for it in () if self.is_beside else self.givers:
+            with suppress(Stuck, OSError, psycopg.Error):  # (the primary looks, too)
+                self.server.peer(it).row("SELECT sm.left(%s, %s)", self.shard, self.server.number)
+
 
 @contextmanager
 def leaving(server: "Server", shard: str, line: Line, others: List[int]) -> Iterator[Leave]:

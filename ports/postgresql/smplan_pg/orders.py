@@ -11,7 +11,7 @@ from smplan.agent import Answer, Call, Cell, Order, Role, Slot
 from smplan.control_agent import order_of
 
 from . import streams
-from .copies import GivenUp, remove
+from .copies import REPLACED, GivenUp, remove, set_aside
 from .database import Connection, value
 from .leave import Leave, leaving
 from .records import Cut, Mark, Records
@@ -164,6 +164,8 @@ class Orders:
         with leaving(self.server, shard, line, others) if order.call == Call.DROP else nullcontext() as leave:
             self.prepare(shard, order, line, others, leave)
             self.commit(shard, order, others, leave)
+            if leave is not None:
+                leave.tell()
 
     def commit(self, shard: str, order: Order, others: List[int], leave: Optional[Leave]) -> None:
         """Commits an order that copies nothing, with its work."""
@@ -247,6 +249,8 @@ class Orders:
             it.put_cut(shard, Cut(after.handover if is_handover else order.number, it.mark(shard).position, after.party if is_handover else 0, {}))
             streams.publish(tx, shard, "")
             it.put_source(shard, None, True)
+        elif order.call == Call.DROP and slot.cell == Cell.FORWARDING:  # (it counts until it commits: so it waits for nobody who reads its copy)
+            set_aside(tx, shard, self.server.number, REPLACED)
         elif order.call == Call.DROP:
             tx.execute("SET LOCAL lock_timeout = '2s'")
             remove(tx, shard, self.server.number)

@@ -135,12 +135,12 @@ class Records:
         """The schema of an old copy that stands beside one that is made anew."""
         return value(self.tx.execute("SELECT kept FROM sm.copying WHERE shard = %s", (shard,)).fetchone())
 
-    def told_position(self, shard: str) -> int:
-        """The position as it is told when all work is given up: that of the copy that is whole then."""
+    def told_mark(self, shard: str) -> Mark:
+        """View and position as they are told when all work is given up: those of the copy that is whole then."""
         if self.is_whole(shard):
-            return self.mark(shard).position
+            return self.mark(shard)
         kept = self.kept(shard)
-        return self.mark(kept).position if kept is not None else 0
+        return self.mark(kept) if kept is not None else Mark()
 
     def cut(self, shard: str) -> Optional[Cut]:
         """The cut that has come to this copy."""

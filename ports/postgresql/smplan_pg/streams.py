@@ -105,19 +105,19 @@ def streams_of(tx: Connection, shard: str) -> List[str]:
 
 
 def make_stream(database: Database, shard: str, follower: int) -> None:
-    """Makes a stream for a server that will follow this one, if there is none."""
+    """Makes a stream for a server that will follow this one, if there is none. (It is refused if another database of the cluster has one of this name.)"""
     with database.connection() as c:
         name = name_of(c, shard, follower)
-        if c.execute("SELECT FROM pg_replication_slots WHERE slot_name = %s", (name,)).fetchone() is None:
+        if name not in streams_of(c, shard):
             c.execute("SELECT pg_create_logical_replication_slot(%s, 'pgoutput')", (name,))
 
 
 def drop_stream(database: Database, name: str, seconds: float = 2.0) -> None:
-    """Drops a stream at its source, once nobody reads it."""
+    """Drops a stream at its source, once nobody reads it; never that of another database of the cluster, which may have the same name."""
     until = time.monotonic() + seconds
     while True:
         with database.connection() as c:
-            row = c.execute("SELECT active_pid FROM pg_replication_slots WHERE slot_name = %s", (name,)).fetchone()
+            row = c.execute("SELECT active_pid FROM pg_replication_slots WHERE slot_name = %s AND database = current_database()", (name,)).fetchone()
             if row is None:
                 return
             try:

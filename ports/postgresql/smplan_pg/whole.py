@@ -79,8 +79,8 @@ class Whole:
         told = []
         for shard, slot in it.slots().items():
             if slot.cell != Cell.ABSENT and (slot.cell == Cell.FORWARDING or it.is_whole(shard) or it.kept(shard) is not None):
-                position = it.told_position(shard)
-                told.append(told_of(shard, slot, self.server.names, position, self.server.agent.has_reached_cut(slot, position)))
+                mark = it.told_mark(shard)
+                told.append(told_of(shard, slot, self.server.names, mark.position, self.server.agent.has_reached_cut(slot, mark.position), mark.view))
         return told
 
     def tell_slots(self, _: Line) -> Line:
