@@ -9,7 +9,7 @@ from dataclasses import replace
 sys.path.insert(0, os.path.join(os.path.dirname(os.path.abspath(__file__)), "../python"))
 from kv_store import Store, has_more  # noqa: E402  (the path comes first)
 from smplan import agent  # noqa: E402
-from smplan.agent import Answer, Call, Cell, Request, Restoration, Role, Settlement, Slot  # noqa: E402
+from smplan.agent import Answer, Call, Cell, Request, Restoration, Role, Settlement, Slot, ToldCopy  # noqa: E402
 
 FOLLOWING = (Cell.SECONDARY, Cell.PREPARED, Cell.FORWARDING)
 LOST = "lost"
@@ -65,6 +65,10 @@ class Server(Store):
                     self.store_copy(shard, *offer)
         return self.mark(shard)
 
+    def has_dropped(self, shard):
+        """Whether nothing is here any more by an order or a settle: until then an old owner counts, though it has leave."""
+        return self.base().known and self.slot(shard).cell == Cell.ABSENT
+
     def ask(self, number, message, *words):
         """What a peer answers; LOST if it does not."""
         try:
@@ -79,6 +83,10 @@ class Server(Store):
         told = {it: self.ask(it, "pull", shard, self.number, self.reopened()) for it in self.peers if it not in (self.number, but)}
         marks = [it for it in told.values() if it not in (None, LOST)]
         is_copied = all(it == mine for it in marks) and agent.copied(self.copies, mine, marks, mine.position)
+        if old and told.get(old) is None and self.ask(old, "has_dropped", shard) is True:
+            with self.db:
+                self.put_old_owner(shard, 0)
+            old = 0
         return is_copied and all(told.get(it) == mine for it in {*named, old} - {0, but})
 
     # -- orders
@@ -184,9 +192,6 @@ class Server(Store):
         is_it, mine = self.serves(shard), self.mark(shard)
         has_all = self.slot(shard).cell == Cell.SECONDARY and None not in (mine, mark) and not has_more(mark, mine)
         if self.replicate(shard, but=number) if is_it else has_all:
-            with self.db:
-                if self.old_owner(shard) == number:
-                    self.put_old_owner(shard, 0)
             self.ask(number, "take_leave", shard, question, self.number, is_it)
 
     def take_leave(self, shard, question, number, is_primary):
@@ -221,7 +226,8 @@ class Server(Store):
             self.forget()
 
     def fence(self, journal, number):
-        """Takes a fence and answers it: by the nonce of an Unknown server, or by all slots. Here no request runs beside it."""
+        """Takes a fence and answers it: by the nonce of an Unknown server, or by all slots, whether their cuts are
+        reached, and views and positions. Here no request runs beside it."""
         with self.db:
             answer, base = agent.fence(self.base(), journal, number, secrets.randbits(63) | 1)
             self.store_base(base)
@@ -231,7 +237,8 @@ class Server(Store):
             return None
         if not base.known:
             return base.nonce
-        return {it: (self.slot(it), agent.has_reached_cut(self.slot(it), self.applied(it)), self.applied(it)) for it in self.shards()}
+        marks = {it: self.mark(it) or ToldCopy(0, 0) for it in self.shards()}
+        return {it: (self.slot(it), agent.has_reached_cut(self.slot(it), mark.position), mark) for it, mark in marks.items()}
 
     def settle(self, journal, number, nonce, slots):
         """Takes the slots that end a reopening, by shard. Whether it is to be answered."""

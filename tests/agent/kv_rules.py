@@ -400,6 +400,24 @@ def change_of_a_returned_one(kind):
     want(a.value(SHARD, "j"), "z")
 
 
+class TellsNoView(Server):
+    """Answers a fence with the position of its copy, and not with the view."""
+    def fence(self, *words):
+        told = super().fence(*words)
+        return {it: (slot, has_reached, mark._replace(view=0)) for it, (slot, has_reached, mark) in told.items()}
+
+
+def reopened_beside_a_returned_one(kind):
+    """The primary is lost, too. Of those that are left the first one whose copy is the greatest, as they tell, becomes the primary."""
+    a, b, c = returned(kind)
+    told = {it: it.fence(JOURNAL, 200)[SHARD] for it in (a, c)}
+    chosen = max(told, key=lambda it: told[it][2])
+    for server in told:
+        cell = Cell.PRIMARY if server is chosen else Cell.SECONDARY
+        want(server.settle(JOURNAL, 200, None, {SHARD: Slot(cell=cell, load=1)}), True)
+    want(chosen.value(SHARD, "j"), "z")
+
+
 class TakesNoneForLess(Server):
     """Becomes primary beside a replica that has lost its copy."""
     def has_greatest(self, shard):
@@ -716,17 +734,39 @@ def old_owner_is_down(kind):
     want_kept(answer, a)
 
 
+class ForgetsAtLeave(Server):
+    """Acknowledges without the old owner once it has given it leave."""
+    def give_leave(self, shard, number, *words):
+        super().give_leave(shard, number, *words)
+        with self.db:
+            self.put_old_owner(shard, 0)
+
+
+def killed_behind_leave(kind):
+    a, b, c = three(kind, Cell.ABSENT)
+    push(a, "r1", "x")
+    hand_over(a, b, HANDOVER[:3])
+    a.order(SHARD, HANDOVER[3], 2, (1, 2, 3))
+    want((read(b), a.has_leave(SHARD)), ("x", True))
+    a.start()
+    with lost(a, "pull"):
+        answer = push(b, "r2", "y")
+    choose(a)
+    want_kept(answer, a)
+
+
 RULES = ((CommitsFirst, crash_amid_copy), (KeepsTheRest, late_after_settle), (ForgetsRequests, repeat_after_handover), (AnswersAtOnce, crash_at_work),
          (IgnoresTheCut, write_under_way), (TakesBehindTheCut, crash_behind_the_cut), (GivesBelowItsCut, new_disk_below_the_cut),
          (DropsAtOnce, drop_without_its_primary), (GivesLeaveAnyway, drop_below_the_cut), (TakesAnyLeave, leave_comes_late),
          (TellsWhileItAsks, written_while_it_asks), (WaitsForever, both_are_dropped), (GoesOnFromItsCache, dropped_and_added),
-         (ComparesPositions, change_of_a_returned_one), (TakesNoneForLess, change_beside_a_new_disk), (LeavesTheSilentBehind, change_beside_a_silent_one),
+         (ComparesPositions, change_of_a_returned_one), (TellsNoView, reopened_beside_a_returned_one),
+         (TakesNoneForLess, change_beside_a_new_disk), (LeavesTheSilentBehind, change_beside_a_silent_one),
          (GoesOnAnywhere, follower_of_another_list), (DeletesWhatItBringsBack, only_copy_comes_back),
          (BeginsBeside, first_primary_beside_a_secondary), (BeginsLater, first_primary_and_an_empty_secondary),
          (KeepsWork, crash_and_repeat), (DeletesAtDrop, late_order), (ComesBackEmpty, lost_state),
          (KeepsItsNonce, given_up), (TakesWhatItLost, lost_disk), (AcknowledgesAlone, lost_for_good), (AsksForOne, acknowledged_at_one),
          (CountsTheGivenUp, given_up_and_counted), (SendsFirst, crash_with_a_write_sent), (ShowsAtOnce, read_of_what_is_lost),
-         (ForgetsTheOldOwner, old_owner_is_down))
+         (ForgetsTheOldOwner, old_owner_is_down), (ForgetsAtLeave, killed_behind_leave))
 
 
 def whole_handover(kind):
