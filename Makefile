@@ -107,6 +107,7 @@ check-tools:
 	scripts/check/deb
 	scripts/check/pages --or-leave-out
 	scripts/check/cluster
+	scripts/check/postgresql --brief
 
 check-tests:
 	$(MAKE) agent vectors

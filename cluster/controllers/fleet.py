@@ -11,7 +11,7 @@ from .map_owner import MapOwner
 # How the wire names what a session calls otherwise.
 WIRE_NAMES = {"cell": "state", "party": "other"}
 SESSION_NAMES = {there: here for here, there in WIRE_NAMES.items()}
-TOLD = ("shard", "cell", "party", "handover", "last", "load", "cut", "position", "reached")
+TOLD = ("shard", "cell", "party", "handover", "last", "load", "cut", "position", "view", "reached")
 
 
 def to_wire(message: Line) -> Line:

@@ -7,6 +7,7 @@ import unittest
 from smplan.control import DONE, StoreLost
 
 from cluster.controllers.etcd import Entry, EtcdFault, decoded, end_of
+from cluster.controllers.fleet import from_wire
 from cluster.controllers.journal import LEADER, EtcdJournal, key_of
 from cluster.controllers.lease import Lease
 from cluster.controllers.map_owner import BASE, MapOwner
@@ -119,6 +120,15 @@ class JournalTest(unittest.IsolatedAsyncioTestCase):
         with self.assertRaises(StoreLost):
             await self.journal.append(["a"])
         self.assertEqual(self.journal.place, 0)
+
+
+class SlotTest(unittest.TestCase):
+    """What a server tells of a slot."""
+
+    def test_a_session_reads_what_it_knows(self):
+        told = {"shard": "s", "state": "prepared", "other": "a", "handover": 1, "load": 2, "position": 3, "reached": False, "chain": "c", "cut": None}
+        wanted = {"shard": "s", "cell": "prepared", "party": "a", "handover": 1, "load": 2, "position": 3, "reached": False}
+        self.assertEqual((from_wire(told), from_wire({**told, "view": 9})), (wanted, {**wanted, "view": 9}))
 
 
 class LeaseTest(unittest.IsolatedAsyncioTestCase):
