@@ -283,7 +283,8 @@ def report(result: Result, details: bool = False) -> str:
         f"handovers    {of_handovers(result.handovers)}",
         f"harm         {sum(harm.values()):,} messages lost, late or twice; {listed(harmed)}",
         f"failovers    {seconds_of(result.failovers)}; from a leader's death to the next order {seconds_of(result.pauses)}",
-        f"alone        {verdict.counts['servers: alone']} requests acknowledged while a member was away for more than 3 s",
+        f"alone        {verdict.counts['servers: alone']} requests acknowledged while a member was away for more than 3 s; "
+        f"{verdict.counts['servers: writes gone that were named as lost']} writes are gone with shards that reopenings named as lost",
         f"situations   {situations_line(result.situations)}",
         f"compared     {listed(compared)}, {verdict.counts['replies compared with the reference']} replies with the reference",
         *(details_of(result, harm) if details else ()),

@@ -2,7 +2,9 @@
 every client saw and when; a text that one client sets again and again, of which each read has the last, or the one that
 is being set; or a register that clients compare and set.
 
-`python3 -m cluster.checkers.clients HISTORY..` reads the load generator's lines. Exit status 1 if anything is wrong.
+`python3 -m cluster.checkers.clients HISTORY.. [--gone FILE]` reads the load generator's lines. Gone has the writes that a
+reopening gave up by name, as the servers' checker writes them: they may be gone although they were acknowledged. Exit
+status 1 if anything is wrong.
 """
 from __future__ import annotations
 
@@ -10,7 +12,7 @@ import argparse
 import json
 import sys
 from collections import Counter, defaultdict
-from dataclasses import dataclass
+from dataclasses import dataclass, field
 from typing import Iterable
 
 from .registers import faults_of_register
@@ -52,6 +54,51 @@ def read(paths: Iterable[str]) -> dict[str, list[dict]]:
             for line in map(json.loads, lines):
                 by_key[line["key"]].append(line)
     return by_key
+
+
+@dataclass
+class Gone:
+    """The writes of a key that a reopening gave up by name: their identities, or their values, and since when they are gone."""
+
+    since: int = 0
+    names: set[str] = field(default_factory=set)
+
+    @staticmethod
+    def of(paths: Iterable[str]) -> "dict[str, Gone]":
+        """Reads them, by key."""
+        by_key: dict[str, Gone] = defaultdict(Gone)
+        for path in paths:
+            with open(path, encoding="utf-8") as lines:
+                for line in map(json.loads, lines):
+                    by_key[f"{line['shard']}:{line['key']}"].add(line)
+        return by_key
+
+    def add(self, line: dict) -> None:
+        """One more."""
+        self.since = max(self.since, line["t"])
+        self.names |= {line["identity"] or line["value"]}
+
+    def without(self, lines: list[dict]) -> list[dict]:
+        """The lines of the key's requests, as if those that are gone had no reply, and nobody had looked before."""
+        left = [it for it in lines if it["start"] >= self.since or not is_look(it)]
+        return [without_reply(it) if it["start"] < self.since and name_of(it) in self.names else it for it in left]
+
+
+def is_look(line: dict) -> bool:
+    """Whether a request has changed nothing: a read, or a comparison that found something else."""
+    return line["op"] in ("read", "get", "look") or (line["op"] == "cas" and "reply" in line and line["reply"] != line["old"])
+
+
+def name_of(line: dict) -> str:
+    """The identity of a write; its value if it has none."""
+    if line["op"] == "set":
+        return f"{line['client']}-{line['key']}-{line['value']}"
+    return line.get("identity") or line["value"]
+
+
+def without_reply(line: dict) -> dict:
+    """A request as if it had no reply."""
+    return {what: it for what, it in line.items() if what != "reply"}
 
 
 def faults_of(key: str, asked: list[Asked]) -> list[str]:
@@ -108,9 +155,10 @@ def out_of_time(final: tuple[str, ...], pushes: dict[str, Asked], reads: list[As
     return found
 
 
-def check(paths: Iterable[str], excused: frozenset[str] = frozenset()) -> tuple[list[str], dict[str, int]]:
-    """All that is wrong, and how much was looked at. Shards that are excused had their last copy lost."""
-    kept = {key: lines for key, lines in read(paths).items() if key.split(":")[0] not in excused}
+def check(paths: Iterable[str], gone: Iterable[str] = ()) -> tuple[list[str], dict[str, int]]:
+    """All that is wrong, and how much was looked at. Files of `gone` have the writes that reopenings gave up by name."""
+    given_up = Gone.of(gone)
+    kept = {key: given_up[key].without(lines) if key in given_up else lines for key, lines in read(paths).items()}
     found, counts = [], Counter({"keys": len(kept)})
     for key, lines in sorted(kept.items()):
         look = LOOKS.get(lines[0]["op"])
@@ -125,9 +173,9 @@ def main() -> int:
     """The command line."""
     parser = argparse.ArgumentParser(prog="cluster.checkers.clients", description="Checks what clients saw.")
     parser.add_argument("history", nargs="+")
-    parser.add_argument("--excused", default="", help="shards whose last copy was lost, with commas between")
+    parser.add_argument("--gone", action="append", default=[], help="writes that reopenings gave up by name")
     told = parser.parse_args()
-    found, figures = check(told.history, frozenset(filter(None, told.excused.split(","))))
+    found, figures = check(told.history, told.gone)
     for fault in found:
         print(fault)
     print(json.dumps({"violations": len(found), **figures}))

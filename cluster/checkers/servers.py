@@ -2,13 +2,15 @@
 client saw is looked at.
 
 `python3 -m cluster.checkers.servers --history FILE.. [--orders FILE --answered FILE --written FILE] [--expected FILE]
-[--wants FILE] [--loads FILE] [--permits FILE]`.
+[--wants FILE] [--loads FILE] [--permits FILE] [--named FILE] [--gone FILE]`.
 Histories are those of `python3 -m cluster.servers.history`. Orders are lines of orders as they were sent, answered are
 lines of the journal with `"do":"answered"`, written are lines `{"t":T,"line":LINE,"reply":REPLY}` of all lines of the
 journal, each with a moment at which it was there, expected is `{"s":{"a":"primary",..},..}` at the end, wants is
 `{"s":FLOOR,..}`, the fewest replicas that a shard may have, loads is `{"s":LOAD,..}`, and permits are lines
 `{"server":"a","t":T,"kind":"permit","down":true}` of restarts that were approved (at the latest then) or ended (at the
-earliest then), and `{"server":"a","t":T,"kind":"lost"}` of servers that are given up. Exit status 1 if anything is wrong.
+earliest then), and `{"server":"a","t":T,"kind":"lost"}` of servers that are given up. Named is `{"s":[BASE,..],..}`, the
+reopenings that named a shard as lost; writes that are gone with that are written to gone, for the clients' checker. Exit
+status 1 if anything is wrong.
 """
 from __future__ import annotations
 
@@ -65,18 +67,23 @@ class Host:
 
 @dataclass
 class Shard:
-    """A shard over all servers: the writes that stand, and who has executed last."""
+    """A shard over all servers: the writes that stand, who has executed last, the last write that was acknowledged without
+    a server, and the servers that have not followed since a reopening chose the primary: no write waits for them."""
 
     data: Data = field(default_factory=Data)
     executor: tuple[str, int] | None = None
     tenures: set[tuple[str, int]] = field(default_factory=set)
+    alone: dict[str, int] = field(default_factory=dict)
+    unjoined: set[str] = field(default_factory=set)
 
 
 class Checker:
     """Walks through all histories in the order of time."""
 
-    def __init__(self, wants: dict[str, int], loads: dict[str, int] | None = None) -> None:
-        self.wants, self.loads = dict(wants), loads or {}
+    def __init__(self, wants: dict[str, int], loads: dict[str, int] | None = None, named: dict[str, list[int]] | None = None) -> None:
+        self.wants, self.loads, self.named = dict(wants), loads or {}, named or {}
+        # (the writes that are gone with what a reopening named as lost)
+        self.gone: list[dict] = []
         self.hosts: dict[str, Host] = {}
         self.shards: dict[str, Shard] = defaultdict(Shard)
         self.faults: list[str] = []
@@ -165,8 +172,24 @@ class Checker:
             at.position = brought[1] if brought else 0
             is_successor = state == "primary" and event["kind"] == "settle"
             if is_successor and self.shards[name].executor not in (None, (host.name, at.tenure)):
-                self.shards[name].data.cut_back(at.position)
+                self.inherit(host, event, name, at.position)
         self.look_at_primaries(event, event["slots"])
+
+    def inherit(self, host: Host, event: dict, name: str, position: int) -> None:
+        """A reopening makes another server the primary, and writes behind its copy are gone. If it names the shard as lost, these may be writes that
+        were acknowledged while that server was away."""
+        shard = self.shards[name]
+        acknowledged = shard.alone.get(host.name, 0)
+        if event["base"] in self.named.get(name, ()):
+            last = shard.data.length if host.name in shard.unjoined else acknowledged
+            writes = shard.data.writes[position:last]
+            self.gone += [{"t": event["t"], "shard": name, "key": key, "identity": identity, "value": rest[0] if rest else ""} for identity, (_, key, *rest) in writes]
+            self.counts["writes gone that were named as lost"] += len(writes)
+        elif position < acknowledged:
+            self.fault(event, f"it goes on from write {position} of {name}, {acknowledged} were acknowledged, and nobody named it as lost")
+        shard.alone = {it: min(count, position) for it, count in shard.alone.items()}
+        shard.unjoined = set(self.hosts) - {host.name}
+        shard.data.cut_back(position)
 
     def look_at_epoch(self, event: dict) -> None:
         """With the first order behind a reopening everybody is settled: each shard has as many replicas as it may have at least."""
@@ -272,6 +295,12 @@ class Checker:
         for name, seconds in event["without"].items():
             if seconds < DEAD_AFTER - 0.01:
                 self.fault(event, f"write {event['position']} was acknowledged without {name}, which had been away for {seconds:.1f} s")
+            alone = self.shards[event["shard"]].alone
+            alone[name] = max(alone.get(name, 0), event["position"])
+
+    def on_joined(self, host: Host, event: dict) -> None:
+        """A server follows the shard: from now on writes wait for it."""
+        self.shards[event["shard"]].unjoined.discard(event["follower"])
 
     def on_execute(self, host: Host, event: dict) -> None:
         """A write was executed: it is the next one of its shard, and its identity is new."""
@@ -356,8 +385,10 @@ def main() -> int:
     parser.add_argument("--wants")
     parser.add_argument("--loads")
     parser.add_argument("--permits")
+    parser.add_argument("--named")
+    parser.add_argument("--gone")
     told = parser.parse_args()
-    checker = Checker(*(json.load(open(it, encoding="utf-8")) if it else {} for it in (told.wants, told.loads)))
+    checker = Checker(*(json.load(open(it, encoding="utf-8")) if it else {} for it in (told.wants, told.loads, told.named)))
     lines = list(lines_of(told.history))
     data = [it for it in lines if it["kind"] == "data"]
     checker.walk([*lines, *(lines_of([told.permits]) if told.permits else ())])
@@ -373,6 +404,9 @@ def main() -> int:
         checker.counts += truth.counts
     if told.expected:
         checker.look_at_end(json.load(open(told.expected, encoding="utf-8")), data)
+    if told.gone:
+        with open(told.gone, "w", encoding="utf-8") as file:
+            file.writelines(json.dumps(it) + "\n" for it in checker.gone)
     for fault in checker.faults:
         print(fault)
     print(json.dumps({"violations": len(checker.faults), **checker.counts}))

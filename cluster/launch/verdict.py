@@ -209,6 +209,16 @@ def expected_of(state: Line) -> dict[str, dict[str, str]]:
     return {it["shard"]: {cell["server"]: cell["state"] for cell in it["cells"]} for it in state.get("shards", [])}
 
 
+def named_as_lost(journal: Journal) -> dict[str, list[int]]:
+    """By shard the numbers of the reopenings that were confirmed and named it as lost: what was acknowledged while a replica was away may be gone."""
+    named: dict[str, list[int]] = {}
+    for text, reply in zip(journal.lines, journal.told):
+        line = json.loads(text)
+        for shard in line.get("lost") or () if line["do"] == "confirm" and "settle" in reply else ():
+            named.setdefault(shard, []).append(line["base"])
+    return named
+
+
 def write_lines(path: Path, lines: list[str]) -> Path:
     """Writes lines to a file."""
     path.write_text("".join(f"{it}\n" for it in lines), encoding="utf-8")
@@ -267,12 +277,14 @@ async def run_checkers(verdict: Verdict, cluster: LocalCluster, journal: Journal
     where = cluster.directory
     write_lines(where / "journal.jsonl", journal.lines)
     write_lines(where / "replies.txt", [f"{count} {what}" for what, count in journal.replies.items()])
-    documents = {"expected": expected_of(journal.state), "wants": evidence.floors, "loads": {it["shard"]: it["load"] for it in journal.state.get("shards", [])}}
+    documents = {"expected": expected_of(journal.state), "wants": evidence.floors, "loads": {it["shard"]: it["load"] for it in journal.state.get("shards", [])},
+                 "named": named_as_lost(journal)}
     answered = [it for it in journal.lines if json.loads(it)["do"] == "answered"]
     lines = {"orders": [json.dumps(it) for it in journal.orders], "answered": answered, "written": written_lines(journal, keys, evidence.seen),
              "permits": [json.dumps(it) for it in evidence.permits]}
     words = [f"--history={await histories_of(cluster)}"]
     words += [f"--{name}={write_lines(where / f'{name}.json', [json.dumps(it)])}" for name, it in documents.items()]
     words += [f"--{name}={write_lines(where / f'{name}.jsonl', it)}" for name, it in lines.items()]
-    await run_checker(verdict, "cluster.checkers.servers", where, *words)
-    await run_checker(verdict, "cluster.checkers.clients", where, str(where / "clients.jsonl"))
+    gone = write_lines(where / "gone.jsonl", [])
+    await run_checker(verdict, "cluster.checkers.servers", where, *words, f"--gone={gone}")
+    await run_checker(verdict, "cluster.checkers.clients", where, str(where / "clients.jsonl"), f"--gone={gone}")

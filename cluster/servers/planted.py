@@ -175,7 +175,7 @@ class Impatient(Sources):
             async with asyncio.timeout(0.2):
                 await super().replicated(shard, position, term)
         except TimeoutError:
-            self.note_alone(shard, position, term)
+            await self.tell_alone(shard, position, term)
 
 
 class WithoutPart(Sources):

@@ -160,6 +160,7 @@ class Sources:
             stream.has_joined = True
             if stream.name not in shard.members and not stream.takes_over:
                 await self.set_members(shard, shard.members | {stream.name})
+            self.store.note("joined", shard=shard.name, follower=stream.name)
             stream.send({"joined": {"members": sorted(shard.members)}})
 
     async def leave(self, shard: Shard, name: str) -> None:
@@ -244,13 +245,13 @@ class Sources:
                 self.give_up(shard, lacking)
                 silent_at += limits.SILENT_AFTER
             await shard.look_again(time.monotonic() + 1)
-        self.note_alone(shard, position, term)
+        await self.tell_alone(shard, position, term)
 
-    def note_alone(self, shard: Shard, position: int, term: int) -> None:
-        """Notes who lacks writes that are acknowledged now."""
+    async def tell_alone(self, shard: Shard, position: int, term: int) -> None:
+        """Stores who lacks writes that are acknowledged next: a reopening may make one of them the primary, and then these are gone."""
         missing = self.without(shard, position)
         if missing and shard.term == term:
-            self.store.note("alone", shard=shard.name, position=position, without=missing)
+            await self.store.save([], "alone", shard=shard.name, position=position, without=missing)
 
     def give_up(self, shard: Shard, names: list[str]) -> None:
         """These are silent for too long: they have to come again. (An old owner is waited for all the same.)"""

@@ -5,6 +5,7 @@ from __future__ import annotations
 import json
 import tempfile
 import unittest
+from pathlib import Path
 
 from cluster.checkers.clients import check
 from cluster.checkers.servers import STEP, Checker
@@ -23,12 +24,13 @@ def client_lines(*told) -> list[dict]:
     return lines
 
 
-def found_by_clients(lines: list[dict]) -> list[str]:
-    """What the clients' checker finds."""
-    with tempfile.NamedTemporaryFile("w", suffix=".jsonl") as file:
-        file.write("".join(json.dumps(it) + "\n" for it in lines))
-        file.flush()
-        return check([file.name])[0]
+def found_by_clients(lines: list[dict], gone: list[dict] | None = None) -> list[str]:
+    """What the clients' checker finds, if these writes are gone by name."""
+    with tempfile.TemporaryDirectory() as folder:
+        names = [str(Path(folder, it)) for it in ("clients.jsonl", "gone.jsonl")]
+        for name, told in zip(names, (lines, gone or [])):
+            Path(name).write_text("".join(json.dumps(it) + "\n" for it in told), encoding="utf-8")
+        return check(names[:1], names[1:])[0]
 
 
 PUSHES = (("a", 0, 2, "x", 1), ("b", 1, 4, "y", 2), ("a", 5, 6, "z", 3))
@@ -120,6 +122,25 @@ WRONG_REGISTERS = {
 }
 
 
+def gone(key: str, *names: str) -> list[dict]:
+    """Writes of a key that are gone by name since moment 6: identities, or values without one."""
+    return [{"t": 6, "shard": "s", "key": key, "identity": it if key != "r" else None, "value": it} for it in names]
+
+
+# (each is found to be wrong without its list of writes that are gone)
+GIVEN_UP = {
+    "a push": (client_lines(*PUSHES[:2], ("c", 5, 5, None, ["x", "y"]), ("a", 7, 8, "z", 2), ("c", 9, 9, None, ["x", "z"])), gone("k", "y")),
+    "a text": (text_lines((0, 1, 1, "OK"), (2, 3, 2, "OK"), (4, 5, None, 2), (7, 8, None, 1)), gone("text", "c-s:text-2")),
+    "a value of a register": (register_lines(SET_X, X_TO_Y, (4, 5, "x", "w", "y"), (7, 8, "x", "z", "x"), (9, 10, None, None, "z")), gone("r", "y")),
+}
+# (what is lost beside them, or behind the moment in which they went, is found out all the same)
+BESIDE_GIVEN_UP = {
+    "x was acknowledged and is lost": (client_lines(*PUSHES, ("c", 9, 9, None, ["z"])), gone("k", "y")),
+    "y was acknowledged and is lost": (client_lines(("a", 0, 2, "x", 1), ("b", 7, 8, "y", 2), ("c", 9, 9, None, ["x"])), gone("k", "y")),
+    "text 1 was read, and a later one": (text_lines((0, 1, 1, "OK"), (2, 3, 2, "OK"), (7, 8, None, 2), (9, 10, None, 1)), gone("text", "c-s:text-2")),
+}
+
+
 # -- what servers did
 
 class History:
@@ -157,10 +178,15 @@ class History:
         self.order(new, "prepare_add", "prepared").write(old).order(old, "prepare_drop", "forwarding").write(new, passed=old)
         return self.order(new, "add", "primary").write(new).order(old, "drop", "absent")
 
+    def checked(self, **data) -> Checker:
+        """The servers' checker once it has walked through it."""
+        checker = Checker({"s": 1}, data.get("loads"), data.get("named"))
+        checker.walk(self.lines)
+        return checker
+
     def found(self, **data) -> list[str]:
         """What the servers' checker finds."""
-        checker = Checker({"s": 1}, data.get("loads"))
-        checker.walk(self.lines)
+        checker = self.checked(**data)
         checker.look_at_data({"kind": "data", "shard": "s", "known": True, "base": STEP, **it} for it in data.get("data", ()))
         if "orders" in data:
             checker.look_at_orders(data["orders"], data["answered"])
@@ -223,6 +249,22 @@ def with_secondary(it: History) -> History:
 def deleted(it: History) -> History:
     """The key is deleted."""
     return it.add("a", "execute", shard="s", position=2, identity=None, command=["DEL", "k"], passed=None)
+
+
+def inherited_less(it: History) -> History:
+    """The third write is acknowledged while b is away, which becomes primary with the first two, and writes another one."""
+    with_secondary(it).write("a", identity="x").write("a", identity="y").write("a", identity="z")
+    it.add("a", "alone", shard="s", position=3, without={"b": 3.2})
+    return settled(fenced(it), {"s": ["secondary", 3]}, {"s": ["primary", 2]}).write("b", 3, identity="w")
+
+
+def inherited_back(it: History, joins: bool) -> History:
+    """Then a becomes primary again with what it had at first, once it has followed b, or before."""
+    if joins:
+        it.add("b", "joined", shard="s", follower="a")
+    for name, slot in (("a", ["primary", 2]), ("b", ["secondary", 3])):
+        it.add(name, "fence", base=3 * STEP, slots={}, at_work=0, nonce=f"m{name}").add(name, "settle", base=3 * STEP, slots={"s": slot}, nonce=None)
+    return it
 
 
 def untrue(it: History, line: dict, time: int, **reply: object) -> list[str]:
@@ -291,8 +333,10 @@ RIGHT_SERVERS = {
         with_secondary(it).add("a", "permit", down=True)).write("a").found(),
     "an order at a server that was given up": lambda it: given_up(it).order("a", "prepare_drop", "forwarding", number=STEP + 9).found(),
     "a restore": lambda it: it.add("b", "forget", before=STEP, nonce="k").add("b", "restore", base=STEP + 1, slots={}, nonce="k").found(),
+    "a new primary that lacks what was acknowledged without it, by name": lambda it: inherited_less(it).found(named={"s": [2 * STEP]}),
 }
 WRONG_SERVERS = {
+    "from write 2 of s, 3 were acknowledged, and nobody named it": lambda it: inherited_less(it).found(named={"s": [STEP]}),
     "executed by a server that is absent": lambda it: given_up(it).write("a").found(),
     "a request is executed by a server that is absent": lambda it: given_up(it.add("a", "permit", down=True)).write("a").found(),
     "has its effect again": lambda it: it.handover().order("b", "drop", "absent", number=STEP + 3).found(),
@@ -363,6 +407,23 @@ class CheckersTest(unittest.TestCase):
 
     def test_registers(self):
         self.compare(lambda _, told: found_by_clients(register_lines(*told)), RIGHT_REGISTERS, WRONG_REGISTERS)
+
+    def test_what_reopenings_gave_up_by_name(self):
+        for name, (lines, writes) in GIVEN_UP.items():
+            with self.subTest(name):
+                self.assertEqual(found_by_clients(lines, writes), [])
+                self.assertNotEqual(found_by_clients(lines), [])
+        self.compare(lambda _, told: found_by_clients(*told), {}, BESIDE_GIVEN_UP)
+
+    def test_what_is_gone_by_name(self):
+        for what, it, named, names in (
+            ("what was acknowledged while it was away", inherited_less(History()), {"s": [2 * STEP]}, ["z"]),
+            ("nothing without a name", inherited_less(History()), {}, []),
+            ("all, if it has not followed since", inherited_back(inherited_less(History()), False), {"s": [3 * STEP]}, ["w"]),
+            ("nothing, once it has", inherited_back(inherited_less(History()), True), {"s": [3 * STEP]}, []),
+        ):
+            with self.subTest(what):
+                self.assertEqual([line["identity"] for line in it.checked(named=named).gone], names)
 
     def test_what_servers_did(self):
         self.compare(lambda _, tell: tell(History()), RIGHT_SERVERS, WRONG_SERVERS)

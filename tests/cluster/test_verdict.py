@@ -6,7 +6,7 @@ from types import SimpleNamespace
 from cluster.controllers.etcd import Entry, EtcdFault, encoded
 from cluster.launch.report import OTHERS, counted, kind_of, trust_lines
 from cluster.launch.shown import add_shown, shown_at
-from cluster.launch.verdict import Journal, Verdict, look_at_map, written_lines
+from cluster.launch.verdict import Journal, Verdict, look_at_map, named_as_lost, written_lines
 
 
 class CheckerTest(unittest.TestCase):
@@ -112,3 +112,13 @@ class WrittenTest(unittest.TestCase):
         journal = Journal(['{"do":"restarted","permit":3}', '{"do":"confirm"}'], told=[{"id": "x", "up": "a"}, {"settle": []}])
         lines = [json.loads(it) for it in written_lines(journal, ["k1", "k2"], {"k1": 5})]
         self.assertEqual([(it["t"] == 5, it["reply"]) for it in lines], [(True, {"up": "a"}), (False, {})])
+
+
+class NamedTest(unittest.TestCase):
+    """Shards that reopenings named as lost."""
+
+    def test_those_that_were_confirmed(self):
+        lines = [{"do": "reopen", "lost": ["a"]}, {"do": "confirm", "base": 2}, {"do": "confirm", "base": 2, "lost": ["s", "t"]},
+                 {"do": "confirm", "base": 2, "lost": ["s", "t"]}, {"do": "confirm", "base": 4, "lost": ["s"]}]
+        told = [{"fence": []}, {"refused": {"kind": "Unnamed"}}, {"settle": []}, {"ignored": "old"}, {"settle": []}]
+        self.assertEqual(named_as_lost(Journal([json.dumps(it) for it in lines], told=told)), {"s": [2, 4], "t": [2]})
