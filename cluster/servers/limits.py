@@ -12,6 +12,8 @@ FENCING = 0.7
 # A request that may not be executed yet waits so long, and a passed one for its reply.
 WAITING = 1.5
 PASSING = 4.0
+# One that was executed waits so long for those who are to have it; then its client has to ask again. (longer than for one who is silent)
+ACKNOWLEDGING = 6.0
 # One step between servers.
 STEP = 3.0
 # How often an Unknown server asks for its slots, and a source looks after followers that are gone.

@@ -9,6 +9,7 @@ from typing import TYPE_CHECKING
 
 from smplan.agent import Cell
 
+from ..resp import ErrorReply
 from ..wire import Message, line_of, read_message
 from . import limits
 from .shard import Entry, Shard
@@ -238,9 +239,14 @@ class Sources:
         return {it: now - shard.seen.get(it, self.start) for it in missing}
 
     async def replicated(self, shard: Shard, position: int, term: int) -> None:
-        """Waits until all who are alive have the writes up to a position, or the term has ended."""
-        silent_at = time.monotonic() + limits.SILENT_AFTER
+        """Waits until all who are alive have the writes up to a position, or the term has ended. A request that waits for too long is not acknowledged:
+        clients ask again in the meantime, and those that nobody hears any more would become ever more."""
+        begun = time.monotonic()
+        silent_at = begun + limits.SILENT_AFTER
         while shard.term == term and (lacking := self.lacking(shard, position)):
+            if time.monotonic() > begun + limits.ACKNOWLEDGING:
+                self.store.note("unacknowledged", shard=shard.name, position=position, lacking=lacking)
+                raise ErrorReply(f"LOST {shard.name}")
             if time.monotonic() > silent_at:
                 self.give_up(shard, lacking)
                 silent_at += limits.SILENT_AFTER

@@ -8,4 +8,5 @@ if __name__ == "__main__":
     times = float(sys.argv.pop(1))
     limits.DEAD_AFTER *= times
     limits.SILENT_AFTER *= times
+    limits.ACKNOWLEDGING *= times
     runpy.run_module("cluster.servers", run_name="__main__", alter_sys=True)

@@ -1,5 +1,6 @@
 """A secondary that is killed is waited for once, for three seconds: not anew by each new owner of its shard, be it by a
-handover, a change of roles or a reopening in a handover. Who was connected until a handover is waited for behind it.
+handover, a change of roles or a reopening in a handover. Who was connected until a handover is waited for behind it. A
+request that waits for an old owner which is down is not acknowledged, and ends.
 
 A machine with other work may take so long for anything that it looks like such a wait: then servers wait for longer.
 """
@@ -11,8 +12,8 @@ import time
 
 from scripted import PATIENCE, Scripted, ServersTest
 
-from cluster.resp import Redis
-from cluster.servers.limits import DEAD_AFTER
+from cluster.resp import ErrorReply, Redis
+from cluster.servers.limits import ACKNOWLEDGING, DEAD_AFTER
 
 CELLS = {"s": {"a": "primary", "c": "secondary", "d": "secondary", "e": "secondary"}}
 # Which part of the wait for who is away a write takes at most beside it, and how many times as long that wait is when the play is played again.
@@ -43,6 +44,34 @@ async def reopen_in_handover(it: Scripted, old: str, new: str, others: list[str]
         await it.send(order)
     await asyncio.sleep(1)
     await it.settle(await it.fence(*it.processes), {"s": {new: "primary", **dict.fromkeys(others, "secondary")}})
+
+
+async def ends() -> dict[str, bool]:
+    """What is found of requests of a new owner while the old one is down."""
+    it = Scripted("abc")
+    try:
+        await it.start()
+        await it.open({"s": {"a": "primary", "c": "secondary"}})
+        for order in it.handover("s", "a", "b", ["a", "c"])[:3]:
+            await it.send(order)
+        it.kill("a")
+        begun, said = time.monotonic(), []
+        for value in ("1", "1", "2"):
+            try:
+                await push(it, "b", value)
+            except ErrorReply as error:
+                said.append(error.kind)
+        running = (await it.channels["b"].ask(PATIENCE, status={}))["status"]["running"]
+        found = {"none is acknowledged": said == ["LOST"] * 3, "each has waited": time.monotonic() - begun > 3 * ACKNOWLEDGING, "none runs": running == 0}
+        await it.start("a")
+        for value in ("1", "2"):
+            await push(it, "b", value)
+        redis = await Redis.open_port("127.0.0.1", it.cluster.servers["b"].clients.port)
+        found["each is executed once"] = await redis.call("LRANGE", "s:k", "0", "-1") == [b"1", b"2"]
+        redis.close()
+        return found
+    finally:
+        it.close()
 
 
 async def waits(times: float = 1.0) -> dict[str, bool]:
@@ -88,3 +117,10 @@ class WaitsTest(ServersTest):
 
     def test_it_is_waited_for_once(self):
         self.finds(waits, functools.partial(waits, TIMES))
+
+
+class EndsTest(ServersTest):
+    """An old owner that is down."""
+
+    def test_requests_that_wait_for_it_end(self):
+        self.finds(ends)
