@@ -61,6 +61,8 @@ class Host:
     is_down: bool = False
     is_lost: bool = False
     nonce: str | None = None
+    # (what it told at its last fence: state, position and view by shard)
+    told: dict[str, list] = field(default_factory=dict)
     settled: set[int] = field(default_factory=set)
     shards: dict[str, At] = field(default_factory=lambda: defaultdict(At))
 
@@ -75,6 +77,11 @@ class Shard:
     tenures: set[tuple[str, int]] = field(default_factory=set)
     alone: dict[str, int] = field(default_factory=dict)
     unjoined: set[str] = field(default_factory=set)
+
+
+def copy_of(slot: list | None) -> tuple[int, int]:
+    """The view and the position of a copy that was told."""
+    return (slot[2], slot[1]) if slot else (0, 0)
 
 
 class Checker:
@@ -140,7 +147,7 @@ class Checker:
         if event["base"] <= host.base:
             self.fault(event, "a fence at or below its base")
         self.counts["fence at work"] += event["at_work"] > 0
-        host.base, host.is_fenced, host.nonce = event["base"], True, event["nonce"]
+        host.base, host.is_fenced, host.nonce, host.told = event["base"], True, event["nonce"], event["slots"] if host.is_known else {}
         self.epoch = max(self.epoch, event["base"])
 
     def on_settle(self, host: Host, event: dict) -> None:
@@ -179,6 +186,9 @@ class Checker:
         """A reopening makes another server the primary, and writes behind its copy are gone. If it names the shard as lost, these may be writes that
         were acknowledged while that server was away."""
         shard = self.shards[name]
+        for other in self.hosts.values():
+            if other.base == host.base and copy_of(other.told.get(name)) > copy_of(host.told.get(name)):
+                self.fault(event, f"it inherits {name}, of which {other.name} has told a greater copy")
         acknowledged = shard.alone.get(host.name, 0)
         if event["base"] in self.named.get(name, ()):
             last = shard.data.length if host.name in shard.unjoined else acknowledged

@@ -104,15 +104,17 @@ class ReopeningStory(Story):
     # Shards without a primary.
 
     async def promote(self, state: Line) -> None:
-        """Makes the secondary that has most writes the primary of each shard that a reopening left without one, each by a plan of its own. A shard
-        whose replicas change roles has none for a moment either: then the plan is refused, as a cell is another one by then, or taken, and the shard
-        is looked at again."""
+        """Makes the secondary with the greatest copy the primary of each shard that a reopening left without one, each by a plan of its own, once all
+        have told theirs. A shard whose replicas change roles has none for a moment either: then the plan is refused, as a cell is another one by then,
+        or taken, and the shard is looked at again."""
         promoted: set[str] = set()
         until = time.monotonic() + self.operator.patience / 6
         while (bare := without_primary(state, promoted)) and time.monotonic() < until:
-            positions = await self.positions()
+            copies = await self.copies()
             for shard in bare:
-                plan = plan_of([promote_stream(shard, most_written(shard, positions))])
+                if any((shard["shard"], it["server"]) not in copies for it in shard["cells"] if it["server"] not in self.lost):
+                    continue
+                plan = plan_of([promote_stream(shard, greatest(shard, copies))])
                 reply = await self.operator.do({"do": "begin", "plan": plan, "name": self.name("promote")})
                 self.tell(f"{shard['shard']} has no primary: {'promoted' if 'begun' in reply else reply}")
                 if "begun" in reply:
@@ -148,12 +150,12 @@ class ReopeningStory(Story):
             await asyncio.sleep(1.0)
         return False
 
-    async def positions(self) -> dict[tuple[str, str], int]:
-        """Returns the last write of each replica, by shard and server, as the servers tell it."""
+    async def copies(self) -> dict[tuple[str, str], tuple[int, int]]:
+        """Returns the view and the last write of each replica, by shard and server, as the servers tell them."""
         found = {}
         for name in sorted(self.alive):
             for slot in (await self.tell_server(name, audit={})).get("audit", {}).get("slots", []):
-                found[slot["shard"], name] = slot["position"]
+                found[slot["shard"], name] = (slot["view"], slot["position"])
         return found
 
 
@@ -176,9 +178,9 @@ def replicas_of(shard: Line) -> int:
     return states.count("secondary") + ("primary" in states or "forwarding" in states)
 
 
-def most_written(shard: Line, positions: dict[tuple[str, str], int]) -> str:
-    """Returns the server whose replica has most writes: another one would lack some that were executed."""
-    return max(sorted(it["server"] for it in shard["cells"]), key=lambda name: positions.get((shard["shard"], name), -1))
+def greatest(shard: Line, copies: dict[tuple[str, str], tuple[int, int]]) -> str:
+    """Returns the server whose replica is the greatest: another one would lack writes that were executed."""
+    return max(sorted(it["server"] for it in shard["cells"]), key=lambda name: copies.get((shard["shard"], name), (-1, -1)))
 
 
 def without(state: Line, document: Line, lost: set[str], emptied: frozenset[str] = frozenset()) -> Line:

@@ -16,6 +16,6 @@ chosen = Agent(Path(LIBRARY).resolve()) if LIBRARY else port
 judge, begin, abandon, commit, seal, has_reached_cut = (
     chosen.judge, chosen.begin, chosen.abandon, chosen.commit, chosen.seal, chosen.has_reached_cut)
 route, fence, take, heed = chosen.route, chosen.fence, chosen.take, chosen.heed
-forget = port.forget
+forget, resumes = port.forget, port.resumes
 
-__all__ = ["VACANT", "judge", "begin", "abandon", "commit", "seal", "has_reached_cut", "route", "fence", "take", "heed", "forget"]
+__all__ = ["VACANT", "judge", "begin", "abandon", "commit", "seal", "has_reached_cut", "route", "fence", "take", "heed", "forget", "resumes"]

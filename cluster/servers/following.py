@@ -7,12 +7,12 @@ import random
 import time
 from typing import TYPE_CHECKING
 
-from smplan.agent import Cell
+from smplan.agent import Cell, ViewStart
 
 from ..wire import Message, line_of, open_lines, read_message
 from . import limits
 from .shard import Entry, Shard
-from .store import Command, Copying
+from .store import Command, Copying, views_of
 
 if TYPE_CHECKING:
     from .server import Server
@@ -115,7 +115,8 @@ class Following:
         reader, self.writer = await asyncio.wait_for(open_lines(self.server.cluster.servers[source].peers), limits.STEP)
         try:
             position, chain = (-1, "") if self.is_fresh else (self.shard.position, self.shard.chain)
-            ask = {"shard": self.shard.name, "from": self.server.name, "position": position, "chain": chain, "takes_over": self.takes_over()}
+            ask = {"shard": self.shard.name, "from": self.server.name, "position": position, "chain": chain, "view": self.shard.copy.view,
+                   "takes_over": self.takes_over()}
             self.writer.write(line_of({"follow": ask, **self.server.hearsay.told()}))
             first = await self.first_message(reader)
             await self.take_all([first or {"nothere": {}}], source)
@@ -177,7 +178,8 @@ class Following:
                     (writes if self.copying is None else self.copying.writes).append(Entry.of(message["write"]))
                 elif "tail" in message:
                     self.shard.away = {}
-                    writes += map(Entry.of, message["tail"])
+                    await self.apply([*writes, *map(Entry.of, message["tail"])], views_of(message["views"]))
+                    writes = []
                 else:
                     await self.apply(writes)
                     writes = []
@@ -208,6 +210,9 @@ class Following:
                 shard.members = set(members)
             if "joined" in message:
                 self.joined.set()
+        elif "views" in message:
+            if self.copying is None:
+                await self.apply([], views_of(message["views"]))
         elif "away" in message:
             shard.away = message["away"]
         elif "seal" in message:
@@ -230,9 +235,10 @@ class Following:
             commands.append(("HSET", "old_owner", shard.name, shard.old_owner))
         for entry in self.meanwhile(copying):
             commands += self.commands_of(entry, self.has(entry, copying))
-        commands += store.member_commands(shard.name, members) + store.mark_commands(shard.name, position, chain)
+        views = views_of(told["views"])
+        commands += store.member_commands(shard.name, members) + store.mark_commands(shard.name, position, chain) + store.view_commands(shard.name, views)
         await store.save(commands, "copy", shard=shard.name, source=source, position=position, bytes=copying.bytes, meanwhile=len(copying.writes))
-        shard.position, shard.chain, shard.members, shard.away = position, chain, members, {}
+        shard.position, shard.chain, shard.views, shard.members, shard.away = position, chain, views, members, {}
         self.copying, self.is_fresh = None, False
         shard.copy_came()
 
@@ -248,18 +254,21 @@ class Following:
         """Executes a write of the source, whose data may be there."""
         return self.store.entry_commands(self.shard.name, entry, is_there)
 
-    async def apply(self, entries: list[Entry]) -> None:
-        """Executes writes of the source, all in one transaction."""
+    async def apply(self, entries: list[Entry], views: tuple[ViewStart, ...] | None = None) -> None:
+        """Executes writes of the source, all in one transaction, with the views of its list if they come up to where it ends."""
         shard, store = self.shard, self.store
         entries = [it for it in entries if it.position > shard.position]
-        if not entries:
+        views = shard.views if views is None else views
+        if not entries and views == shard.views:
             return
-        if entries[0].position != shard.position + 1:
+        if entries and entries[0].position != shard.position + 1:
             raise EOFError
         commands = []
         for entry in entries:
             commands += self.commands_of(entry)
-        last = entries[-1]
-        commands += store.mark_commands(shard.name, last.position, last.chain) + store.trim_commands(shard.name, last.position)
+        position, chain = (entries[-1].position, entries[-1].chain) if entries else (shard.position, shard.chain)
+        commands += store.mark_commands(shard.name, position, chain) + store.trim_commands(shard.name, position)
+        if views != shard.views:
+            commands += store.view_commands(shard.name, views)
         await store.save(commands)
-        shard.position, shard.chain = last.position, last.chain
+        shard.position, shard.chain, shard.views = position, chain, views

@@ -4,7 +4,7 @@ from __future__ import annotations
 import time
 from typing import TYPE_CHECKING
 
-from smplan.agent import Answer, Base, Cell, Restoration, Settlement, Slot
+from smplan.agent import Answer, Base, Cell, Restoration, Settlement, Slot, ViewStart
 
 from ..wire import Failed, Message
 from . import agent, limits
@@ -77,8 +77,8 @@ class Reopenings:
         return {it.name: agent.abandon(it.slot) for it in self.store.shards.values() if it.slot.at_work}
 
     def short_slots(self) -> dict[str, list]:
-        """Cells and positions, for history."""
-        return {it.name: [STATES[Cell(it.slot.cell)], it.position] for it in self.store.shards.values()
+        """Cells, positions and views, for history."""
+        return {it.name: [STATES[Cell(it.slot.cell)], it.position, it.copy.view] for it in self.store.shards.values()
                 if it.slot.cell not in (Cell.ABSENT, Cell.UNKNOWN)}
 
     def inventory(self) -> Message:
@@ -90,7 +90,7 @@ class Reopenings:
     def slot_told(self, shard: Shard) -> Message:
         """A slot as it is told."""
         slot = shard.slot
-        told: Message = {"shard": shard.name, "state": STATES[Cell(slot.cell)], "load": slot.load, "position": shard.position}
+        told: Message = {"shard": shard.name, "state": STATES[Cell(slot.cell)], "load": slot.load, **shard.copy._asdict()}
         if shard.is_in_handover:
             told |= {"other": self.server.party(shard), "handover": slot.handover}
         return told | ({"reached": shard.has_reached_cut} if slot.cell == Cell.PREPARED else {})
@@ -145,24 +145,35 @@ class Reopenings:
         """Makes the base and each slot what they have become, in one transaction. All locks are held."""
         named, opened = assignment.get("nonce"), assignment.get("fence", assignment["base"])
         commands = [*self.store.base_commands(base), ("SET", "opened", opened), ("DEL", "old_owner")]
-        for name, slot in after.items():
-            commands += self.store.slot_commands(name, slot)
+        shards = self.store.shards.values()
+        views = {it.name: self.views_after(it, after[it.name], base.number if kind == "settle" else 0) for it in shards}
+        for shard in shards:
+            slot = after[shard.name]
+            commands += self.store.slot_commands(shard.name, slot)
             if slot.cell == Cell.ABSENT:
-                commands += await self.store.delete_commands(name)
+                commands += await self.store.delete_commands(shard.name)
             elif slot.cell == Cell.PRIMARY:
-                commands += self.store.mark_commands(name, self.store.shard(name).position, self.store.shard(name).chain)
-        positions = {it.name: it.position for it in self.store.shards.values()}
+                commands += self.store.mark_commands(shard.name, shard.position, shard.chain) + self.store.view_commands(shard.name, views[shard.name])
+        positions = {it.name: it.position for it in shards}
         told = {name: [STATES[Cell(it.cell)], positions[name]] for name, it in after.items() if it.cell != Cell.ABSENT}
         await self.store.save(commands, kind, base=base.number, slots=told, nonce=hexadecimal(int(named, 16)) if named else None)
         self.store.base, self.store.opened = base, opened
-        for shard in self.store.shards.values():
-            self.put(shard, after[shard.name])
+        for shard in shards:
+            self.put(shard, after[shard.name], views[shard.name])
         self.server.resume()
 
-    def put(self, shard: Shard, slot: Slot) -> None:
+    @staticmethod
+    def views_after(shard: Shard, slot: Slot, number: int) -> tuple[ViewStart, ...]:
+        """The views of a shard's list once a settle with this number, or a restore (0), has brought a slot: one more if that makes it the primary."""
+        if slot.cell == Cell.ABSENT:
+            return ()
+        is_chosen = slot.cell == Cell.PRIMARY and shard.slot.cell != Cell.PRIMARY
+        return shard.views_from(number) if is_chosen and (number or not shard.has_copy) else shard.views
+
+    def put(self, shard: Shard, slot: Slot, views: tuple[ViewStart, ...]) -> None:
         """Makes a slot what was brought, in memory. Its lock is held."""
         before, has_taken_over = shard.slot, shard.slot.cell == Cell.PREPARED and shard.has_reached_cut
-        shard.slot, shard.old_owner = slot, None
+        shard.slot, shard.old_owner, shard.views = slot, None, views
         shard.is_marked = slot.cell == Cell.PRIMARY or (shard.is_marked and slot.cell != Cell.ABSENT)
         if slot.cell == before.cell == Cell.PRIMARY:
             shard.wake()
@@ -171,7 +182,9 @@ class Reopenings:
         self.server.stop_following(shard, leaves=slot.cell == Cell.ABSENT)
         if slot.cell != Cell.PRIMARY:
             self.server.sources.close(shard)
-        elif not has_taken_over:  # (a new owner that has is a source since then, and knows who is away)
+        elif has_taken_over:  # (it is a source since then, and knows who is away)
+            self.server.sources.tell_views(shard)
+        else:
             shard.expect(shard.members)
         if slot.cell == Cell.ABSENT:
             shard.position, shard.chain, shard.members = 0, "", set()

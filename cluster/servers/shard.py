@@ -10,10 +10,10 @@ import time
 from dataclasses import dataclass, field
 from typing import TYPE_CHECKING, Any
 
-from smplan.agent import Cell, Slot
+from smplan.agent import Cell, Slot, ToldCopy, ViewStart
 
 from ..wire import text_of
-from . import limits
+from . import agent, limits
 
 if TYPE_CHECKING:
     from .following import Following
@@ -67,6 +67,8 @@ class Shard:
     chain: str = ""
     # Whether its position is stored, be it 0: then there is a copy of the shard here.
     is_marked: bool = False
+    # (what made its list's primaries, each with the position from which on that one executed; without any the list is of view 0)
+    views: tuple[ViewStart, ...] = ()
     # (who has to have a write before it is acknowledged, as the last source of writes has told it or as this source has
     # it)
     members: set[str] = field(default_factory=set)
@@ -108,6 +110,19 @@ class Shard:
     def copy_came(self) -> None:
         """A copy has come."""
         self.copies_failed, self.refusal, self.next_copy = 0, "", 0.0
+
+    @property
+    def copy(self) -> ToldCopy:
+        """How far its copy goes."""
+        return ToldCopy(self.views[-1].view if self.views else 0, self.position)
+
+    def resumes(self, copy: ToldCopy) -> bool:
+        """Whether another copy is a beginning of its list, by its view and position. (An empty one is.)"""
+        return copy.position == 0 or agent.resumes(copy, self.views or (ViewStart(0, 0),), self.position)
+
+    def views_from(self, number: int) -> tuple[ViewStart, ...]:
+        """Its views once a primary goes on from its copy, or from nothing, by what has this number."""
+        return (*(self.views if self.has_copy else ()), ViewStart(number, self.position))
 
     @property
     def rest_before_copy(self) -> float:

@@ -7,7 +7,7 @@ import time
 from collections.abc import AsyncIterator
 from typing import TYPE_CHECKING
 
-from smplan.agent import Cell
+from smplan.agent import Cell, ToldCopy
 
 from ..resp import ErrorReply
 from ..wire import Message, line_of, read_message
@@ -91,7 +91,8 @@ class Sources:
                 return None
             if ask["position"] > shard.position:
                 shard.lacking = (ask["position"] - shard.position, name, time.monotonic())
-            tail = await self.store.tail_after(shard, ask["position"], ask["chain"])
+            is_beginning = shard.resumes(ToldCopy(ask["view"], ask["position"]))
+            tail = await self.store.tail_after(shard, ask["position"], ask["chain"]) if is_beginning else None
             if tail is None and time.monotonic() < shard.too_large[1]:
                 writer.write(line_of(self.too_large(shard)))
                 return None
@@ -100,7 +101,7 @@ class Sources:
                 stream.copied_at = time.monotonic()
                 stream.send({"copy": {"position": shard.position, "tail": await self.store.last_writes(shard.name)}, **self.server.hearsay.told()})
             else:
-                stream.send({"tail": [it.text() for it in tail], **self.server.hearsay.told()})
+                stream.send({"tail": [it.text() for it in tail], "views": shard.views, **self.server.hearsay.told()})
             before = shard.streams.get(name)
             if before is not None:
                 before.close()
@@ -129,7 +130,7 @@ class Sources:
         async with shard.lock:
             if shard.streams.get(stream.name) is stream:
                 # (all writes up to this position were sent: no piece has a later one)
-                stream.send({"copied": {"position": shard.position, "chain": shard.chain, "members": sorted(shard.members)}})
+                stream.send({"copied": {"position": shard.position, "chain": shard.chain, "views": shard.views, "members": sorted(shard.members)}})
                 stream.copied_at = None
 
     def pieces(self, shard: Shard) -> AsyncIterator[dict]:
@@ -180,6 +181,11 @@ class Sources:
         shard.members = members
         for stream in shard.streams.values():
             stream.send({"members": sorted(members)})
+
+    def tell_views(self, shard: Shard) -> None:
+        """Tells those who follow the views of its list, behind all that was sent. The shard's lock is held."""
+        for stream in shard.streams.values():
+            stream.send({"views": shard.views})
 
     # -- writes
 

@@ -1,6 +1,6 @@
 """What a server keeps in its store (engines.py). All that belongs together changes in one transaction, with a line of history.
 
-    base          the base, as JSON            slots, mark, members, old_owner    by shard
+    base          the base, as JSON            slots, mark, views, members, old_owner    by shard
     opened        the number of the reopening by which it has its slots
     keys:S        the keys of shard S          d:S:key                 their values
     done:S        by identity, the reply       tail:S                  the last writes, which who follows may lack
@@ -16,7 +16,7 @@ import time
 from dataclasses import astuple, dataclass, field
 from typing import AsyncIterator, Callable, Iterable
 
-from smplan.agent import Base, Slot
+from smplan.agent import Base, Slot, ViewStart
 
 from ..resp import ErrorReply, Part
 from ..wire import text_of
@@ -37,6 +37,11 @@ def data_key(shard: str, key: str) -> bytes:
 def new_key(shard: str, key: str) -> bytes:
     """Where a copy of a shard's key is stored until the copy is whole."""
     return f"new:{shard}:{key}".encode("latin-1")
+
+
+def views_of(told: Iterable[Iterable[int]]) -> tuple[ViewStart, ...]:
+    """The views of a list, as they are stored and sent."""
+    return tuple(ViewStart(*it) for it in told)
 
 
 @dataclass
@@ -85,6 +90,8 @@ class Store:
         for name, text in await self.hash("mark"):
             shard = self.shard(name)
             (shard.position, shard.chain), shard.is_marked = json.loads(text), True
+        for name, text in await self.hash("views"):
+            self.shard(name).views = views_of(json.loads(text))
         for name, text in await self.hash("members"):
             self.shard(name).members = set(json.loads(text))
         for name, text in await self.hash("old_owner"):
@@ -145,6 +152,11 @@ class Store:
         return [("HSET", "mark", shard, json.dumps([position, chain]))]
 
     @staticmethod
+    def view_commands(shard: str, views: tuple[ViewStart, ...]) -> list[Command]:
+        """Stores the views of a shard's list."""
+        return [("HSET", "views", shard, json.dumps(views))]
+
+    @staticmethod
     def member_commands(shard: str, members: set[str]) -> list[Command]:
         """Stores who has to have the shard's writes."""
         return [("HSET", "members", shard, json.dumps(sorted(members)))]
@@ -174,7 +186,7 @@ class Store:
         """Deletes a shard's data; the slot stays."""
         keys = [data_key(shard, it) for it in await self.data_keys(shard)]
         own = [f"{it}:{shard}" for it in ("keys", "done", "tail")]
-        return [("UNLINK", *own, *keys), ("HDEL", "mark", shard), ("HDEL", "members", shard), ("HDEL", "old_owner", shard)]
+        return [("UNLINK", *own, *keys), *(("HDEL", it, shard) for it in ("mark", "views", "members", "old_owner"))]
 
     # -- copies: at the source
 

@@ -6,7 +6,7 @@ import time
 from dataclasses import dataclass
 from typing import TYPE_CHECKING
 
-from smplan.agent import Answer, Base, Call, Cell, Order, Role, Slot
+from smplan.agent import Answer, Base, Call, Cell, Order, Role, Slot, ViewStart
 
 from ..wire import Failed, Message
 from . import agent, limits
@@ -38,6 +38,14 @@ def party_of(told: Message) -> str | None:
     if told["call"] == "prepare_add":
         return told["from"]
     return told["to"] if told["call"] == "prepare_drop" else None
+
+
+def views_after(shard: Shard, slot: Slot, before: Slot, is_empty: bool) -> tuple[ViewStart, ...]:
+    """The views of a shard's list once an order has made a slot of the one before: one more if that makes it the primary, but not in a handover."""
+    views = () if is_empty else shard.views
+    if slot.cell != Cell.PRIMARY or before.cell == Cell.PREPARED:
+        return views
+    return (*views, ViewStart(slot.last, 0 if is_empty else shard.position))
 
 
 class Orders:
@@ -210,12 +218,15 @@ class Orders:
                 commands += self.store.member_commands(shard.name, shard.members)
             if slot.cell == Cell.PRIMARY:  # (from then on there is a copy, be it an empty one)
                 commands += self.store.mark_commands(shard.name, *((0, "") if empty else (shard.position, shard.chain)))
+            views = views_after(shard, slot, before, empty)
+            if slot.cell != Cell.ABSENT and views != shard.views:
+                commands += self.store.view_commands(shard.name, views)
             await self.store.save(
                 self.slot_commands(shard, slot) + commands, "commit", shard=shard.name, number=order.number, call=told["call"],
                 plan=told["plan"], stream=told["stream"], epoch=told.get("epoch"), journal=told["journal"], before=STATES[Cell(before.cell)],
                 state=STATES[Cell(slot.cell)], position=shard.position, load=slot.load, room=order.room,
                 used=self.store.used() - before.load + slot.load)
-            shard.slot, shard.work = slot, None
+            shard.slot, shard.work, shard.views = slot, None, views
             if empty:
                 shard.position, shard.chain, shard.members, shard.old_owner = 0, "", set(), None
             shard.is_marked = slot.cell == Cell.PRIMARY or (shard.is_marked and not empty)

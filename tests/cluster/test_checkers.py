@@ -200,10 +200,10 @@ def order_line(server: str, number: int) -> dict:
     return {"plan": 0, "stream": 0, "number": STEP + number, "server": server, "shard": "s", "call": "prepare_add"}
 
 
-def fenced(it: History) -> History:
-    """Another fence at both."""
+def fenced(it: History, **told: list) -> History:
+    """Another fence at both, with what they tell of the shard."""
     for name in "ab":
-        it.add(name, "fence", base=2 * STEP, slots={}, at_work=0, nonce=f"m{name}")
+        it.add(name, "fence", base=2 * STEP, slots={"s": told[name]} if name in told else {}, at_work=0, nonce=f"m{name}")
     return it
 
 
@@ -314,6 +314,9 @@ RIGHT_SERVERS = {
     "a reopening amid a handover, in which a write is discarded": lambda it: settled(
         fenced(it.write("a").order("b", "prepare_add", "prepared").order("a", "prepare_drop", "forwarding").write("b", passed="a")),
         {"s": ["primary", 1]}, {}).write("a", 2).found(),
+    "a reopening amid a handover that an older list does not inherit, however long it is": lambda it: settled(fenced(
+        it.write("a").order("b", "prepare_add", "prepared").order("a", "prepare_drop", "forwarding").write("b", passed="a"),
+        a=["forwarding", 1, 7], b=["prepared", 2, 6]), {"s": ["primary", 1]}, {}).found(),
     "answers": lambda it: it.order("b", "prepare_add", "prepared").found(orders=[order_line("b", 1)], answered=ANSWERED),
     "a restart of a server that has nothing": lambda it: it.add("b", "permit", down=True).add("b", "permit", down=False).found(),
     "a drop of the last replica, once a server was given up": lambda it: with_secondary(it).add("b", "lost").order("a", "drop", "absent").found(),
@@ -336,6 +339,9 @@ RIGHT_SERVERS = {
     "a new primary that lacks what was acknowledged without it, by name": lambda it: inherited_less(it).found(named={"s": [2 * STEP]}),
 }
 WRONG_SERVERS = {
+    "b has told a greater copy": lambda it: settled(fenced(
+        it.write("a").order("b", "prepare_add", "prepared").order("a", "prepare_drop", "forwarding").write("b", passed="a"),
+        a=["forwarding", 1, 7], b=["prepared", 2, 7]), {"s": ["primary", 1]}, {}).found(),
     "from write 2 of s, 3 were acknowledged, and nobody named it": lambda it: inherited_less(it).found(named={"s": [STEP]}),
     "executed by a server that is absent": lambda it: given_up(it).write("a").found(),
     "a request is executed by a server that is absent": lambda it: given_up(it.add("a", "permit", down=True)).write("a").found(),
