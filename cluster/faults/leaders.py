@@ -23,15 +23,16 @@ class LeaderStory(MemberStory, ReopeningStory):
 
     async def kill_leader(self) -> None:
         """Kills the leading controller, each second time in a write of the map, and starts it again."""
-        leader = await self.leader()
-        if leader is None:
-            return
-        if self.dice.random() < 0.5:
-            await self.kill_at_once()
-            return
-        async with self.slowed(f"etcd {leader} "):
-            await self.wait_for_publication()
-            await self.kill_at_once()
+        async with self.stopping:
+            leader = await self.leader()
+            if leader is None:
+                return
+            if self.dice.random() < 0.5:
+                await self.kill_at_once()
+                return
+            async with self.slowed(f"etcd {leader} "):
+                await self.wait_for_publication()
+                await self.kill_at_once()
 
     async def kill_at_once(self) -> None:
         """Kills the leading controller as it is, and starts it again."""
@@ -70,11 +71,12 @@ class LeaderStory(MemberStory, ReopeningStory):
     async def kill_controllers(self) -> None:
         """Kills all controllers at once, and starts them again."""
         names = self.cluster.shape.controller_names
-        self.tell("kill -9 all controllers at once")
-        self.deaths.append(time.monotonic_ns())
-        await asyncio.gather(*(self.cluster.processes[it].kill() for it in names))
-        self.counts["crashes of all controllers at once"] += 1
-        await self.cluster.processes.start(*names)
+        async with self.stopping:
+            self.tell("kill -9 all controllers at once")
+            self.deaths.append(time.monotonic_ns())
+            await asyncio.gather(*(self.cluster.processes[it].kill() for it in names))
+            self.counts["crashes of all controllers at once"] += 1
+            await self.cluster.processes.start(*names)
 
     async def lose_answers_of_etcd(self) -> None:
         """Loses what etcd answers to the leading controller, which does not know whether its lines are stored."""
@@ -102,9 +104,13 @@ class LeaderStory(MemberStory, ReopeningStory):
     async def freeze_leader(self, seconds: float = 4.0, reopens: bool = False) -> None:
         """Stops the leading controller, while it writes the map, until it is deposed; then lets it go on. Its write is held on its way until another one leads,
         and it hears late that its lease has ended. If it `reopens`, the next leader does, before the write arrives and that one goes on."""
-        leader = await self.leader()
-        if leader is None:
-            return
+        async with self.stopping:
+            leader = await self.leader()
+            if leader is not None:
+                await self.freeze(leader, seconds, reopens)
+
+    async def freeze(self, leader: str, seconds: float, reopens: bool) -> None:
+        """Stops a controller while it writes the map, and lets it go on."""
         try:
             async with self.held(ENTRY_WRITTEN, f"etcd {leader} "):
                 await self.wait_for_held_write()

@@ -45,6 +45,8 @@ class Story:
         # Who takes servers away holds the first, who reopens the second; who gives a server up holds both, in this order.
         self.restarting = asyncio.Lock()
         self.reopening = asyncio.Lock()
+        # Who kills or stops controllers holds it: one that is started again would lead while what it writes is held.
+        self.stopping = asyncio.Lock()
         self.names = 0
         # What the map had shown when etcd's history was compacted last, and at which revision that was.
         self.shown: Shown = {}

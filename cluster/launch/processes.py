@@ -104,6 +104,7 @@ class Process:
     nursery: Nursery | None = None
     running: asyncio.subprocess.Process | Copy | None = None
     starts: int = 0
+    starting: asyncio.Lock = field(default_factory=asyncio.Lock)
 
     @property
     def log(self) -> Path:
@@ -116,7 +117,13 @@ class Process:
         return self.running is not None and self.running.returncode is None
 
     async def start(self, *more: str, timeout: float = 30.0) -> None:
-        """Starts it, and waits until it says `ready`."""
+        """Starts it, unless somebody else has meanwhile, and waits until it says `ready`."""
+        async with self.starting:
+            if not self.is_running:
+                await self.begin(*more, timeout=timeout)
+
+    async def begin(self, *more: str, timeout: float) -> None:
+        """Begins it, and waits until it says `ready`."""
         self.starts += 1
         with self.log.open("ab") as log:
             begin = log.tell()

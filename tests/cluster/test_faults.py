@@ -11,7 +11,7 @@ from collections import Counter
 from pathlib import Path
 from random import Random
 from types import SimpleNamespace
-from unittest.mock import patch
+from unittest.mock import AsyncMock, MagicMock, patch
 
 from scripted import until, until_at_rest
 
@@ -22,12 +22,13 @@ from cluster.controllers.bugs import BUGS as CONTROLLER_BUGS
 from cluster.faults.__main__ import release
 from cluster.faults.dice import Dice, Rates
 from cluster.faults.handovers import HandoverStory
+from cluster.faults.leaders import LeaderStory
 from cluster.faults.parts import EVERY, LOSSES, OUTSIDE, drawn, of_rule, storm_of
 from cluster.faults.proxies import Link, open_proxy, send_late
 from cluster.launch.figures import order_waits, unacknowledged
 from cluster.launch.moving import HANDOVERS, Mover, is_handover
 from cluster.launch.operator import Operator
-from cluster.launch.processes import Ports
+from cluster.launch.processes import Ports, Process
 from cluster.launch.shape import Shape, document_of
 from cluster.launch.situations import SITUATIONS, situations_of
 from cluster.servers.bugs import BUGS as SERVER_BUGS
@@ -286,6 +287,34 @@ class PortsTest(unittest.TestCase):
         one.end()
         self.assertEqual(len(guards), 2)
         self.assertFalse(set(guards) & set(others))
+
+
+class ProcessTest(unittest.IsolatedAsyncioTestCase):
+    """A process that two parts of a story start."""
+
+    async def test_it_is_started_once(self):
+        with tempfile.TemporaryDirectory() as folder:
+            process = Process("p", ["sh", "-c", "echo ready; sleep 600"], Path(folder))
+            await asyncio.gather(process.start(), process.start())
+            running = process.running
+            await process.start()
+            self.assertEqual((process.starts, process.running), (1, running))
+            await process.kill()
+            await process.start()
+            self.assertEqual(process.starts, 2)
+            await process.kill()
+
+    async def test_controllers_are_not_started_while_one_is_stopped(self):
+        done = []
+        processes = MagicMock(start=AsyncMock())
+        processes.__getitem__.return_value.kill = AsyncMock(side_effect=lambda: done.append("killed"))
+        story = LeaderStory(SimpleNamespace(shape=Shape(controllers=1), processes=processes), None, None, 1, lambda text: None)
+        async with story.stopping:
+            killing = asyncio.create_task(story.kill_controllers())
+            await asyncio.sleep(0.05)
+            done.append("goes on")
+        await killing
+        self.assertEqual(done, ["goes on", "killed"])
 
 
 class LoadTest(unittest.TestCase):
