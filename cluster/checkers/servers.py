@@ -193,7 +193,8 @@ class Checker:
         if event["base"] in self.named.get(name, ()):
             last = shard.data.length if host.name in shard.unjoined else acknowledged
             writes = shard.data.writes[position:last]
-            self.gone += [{"t": event["t"], "shard": name, "key": key, "identity": identity, "value": rest[0] if rest else ""} for identity, (_, key, *rest) in writes]
+            self.gone += [{"t": event["t"], "shard": name, "key": key, "identity": identity, "value": rest[0] if rest else ""}
+                          for identity, (_, key, *rest) in writes]
             self.counts["writes gone that were named as lost"] += len(writes)
         elif position < acknowledged:
             self.fault(event, f"it goes on from write {position} of {name}, {acknowledged} were acknowledged, and nobody named it as lost")
