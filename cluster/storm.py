@@ -86,8 +86,8 @@ class Storm:
                 result = await Run(settings).run()
         except (NotReady, NotOpened, OSError, TimeoutError, NoLeader, Failed) as why:
             self.sums.failed.append(f"seed {seed}: {type(why).__name__} {why}")
-            print(f"seed {seed}: {why}", flush=True)
-            shutil.rmtree(directory, ignore_errors=True)
+            print(f"seed {seed}: {type(why).__name__} {why}", flush=True)
+            self.put_aside(directory, seed)
             return
         self.sums.add(seed, result)
         faults = result.verdict.faults
@@ -95,8 +95,14 @@ class Storm:
             self.append_figures(seed, result)
         print(f"seed {seed}: {len(faults)} violations, {result.clients.get('requests', 0)} requests, {result.counts['moves']} moves, "
               f"{result.counts['restarts']} restarts, {len(result.situations)} situations, {time.monotonic() - begun:.0f} s" + "".join(f"\n    {it}" for it in faults[:5]), flush=True)
-        if faults and told.keep:
-            shutil.copytree(directory, told.keep / str(seed), dirs_exist_ok=True, ignore=shutil.ignore_patterns("*.sock", "etcd-*"))
+        if faults:
+            self.put_aside(directory, seed)
+        shutil.rmtree(directory, ignore_errors=True)
+
+    def put_aside(self, directory: Path, seed: int) -> None:
+        """Keeps the folder of a run with violations, or without a verdict, if that is wanted, and deletes it otherwise."""
+        if self.told.keep:
+            shutil.copytree(directory, self.told.keep / str(seed), dirs_exist_ok=True, ignore=shutil.ignore_patterns("*.sock", "etcd-*"))
         shutil.rmtree(directory, ignore_errors=True)
 
     def append_figures(self, seed: int, result: Result) -> None:
@@ -138,7 +144,7 @@ def arguments() -> argparse.Namespace:
     add_load(parser)
     add_directory(parser)
     parser.add_argument("--bug", action="append", default=[])
-    parser.add_argument("--keep", type=Path, metavar="DIR", help="keep the folders of runs with violations there")
+    parser.add_argument("--keep", type=Path, metavar="DIR", help="keep the folders of runs with violations, or without a verdict, there")
     parser.add_argument("--figures", type=Path, metavar="FILE", help="append the figures of each run, a JSON object a line")
     return parser.parse_args()
 
