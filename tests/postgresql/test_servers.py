@@ -824,6 +824,57 @@ class SeveralTest(unittest.TestCase):
         self.its["b"].keeping.leave_out_the_dead()  # (what was not told is seen)
         self.assertEqual(members(), {3: True})
 
+    def followed(self):
+        """Server a is followed by b, which counts there beside c. Server a's database, and b."""
+        self.put("a", Cell.PRIMARY, 5)
+        self.put("b", Cell.SECONDARY, 5)
+        a, b = self.its["a"].database, self.its["b"]
+        streams.make_stream(a, self.shard, 2)
+        with a.transaction() as tx:
+            Records(tx).put_members(self.shard, {2: False, 3: False})
+        with b.database.transaction() as tx:
+            Records(tx).put_source(self.shard, 1, True)
+        return a, b
+
+    def test_who_copies_anew_counts_no_more(self):
+        (a, b), seen = self.followed(), []
+
+        def copy_schema(*_):
+            with a.transaction() as tx, b.database.transaction() as there:
+                seen.append((Records(tx).members(self.shard), Records(there).is_whole(self.shard)))
+            raise streams.Stuck("the schema is not made")
+
+        with mock.patch.object(b.copies, "copy_schema", copy_schema), self.assertRaisesRegex(streams.Stuck, "not made"):
+            b.copies.make(self.shard, 1, lambda: True, lambda _: None)
+        self.assertEqual(seen, [({3: False}, False)])
+        with a.transaction() as tx:
+            self.assertEqual(Records(tx).mark(self.shard).position, 6)
+        streams.drop_streams(a, self.shard)
+
+    def test_a_source_that_was_away_as_it_was_asked_first_is_followed_on(self):
+        a, b = self.followed()
+        with b.database.connection() as c:
+            mine = streams.name_of(c, self.shard, 2)
+            c.execute(streams.said("CREATE SUBSCRIPTION {} CONNECTION 'host=/nowhere' PUBLICATION p WITH (connect = false, slot_name = {})", mine, mine))
+        sound, asked = b.sources.offer, []
+
+        def offer(*words):
+            asked.append(words)
+            if len(asked) == 1:
+                raise psycopg.OperationalError("the database system is starting up")
+            return sound(*words)
+
+        for is_enabled in (True, False):
+            asked.clear()
+            with b.database.transaction() as tx:
+                tx.execute(streams.said("ALTER SUBSCRIPTION {} " + ("ENABLE" if is_enabled else "DISABLE"), mine))
+            with mock.patch.object(b.sources, "offer", offer), mock.patch.object(b, "others", lambda: [1]), mock.patch.object(b.following, "copy_anew") as anew:
+                b.following.look(self.shard)
+            self.assertEqual((anew.called, len(asked) > 1), (not is_enabled, True))
+        with b.database.transaction() as tx:
+            streams.drop_subscription(tx, mine)
+        streams.drop_streams(a, self.shard)
+
     def test_streams_of_another_database(self):
         self.put("a", Cell.PRIMARY, 5)
         a, b = self.its["a"].database, self.its["b"].database

@@ -294,6 +294,20 @@ BEGIN
   RETURN true;
 END $$;
 
+-- A follower that copies the shard anew counts no more until that copy is whole: what it says of its stream meanwhile is not what it would have after a loss.
+-- False if this server knows of no copy.
+CREATE FUNCTION sm.part(in_shard text, follower int) RETURNS bool LANGUAGE plpgsql AS $$
+DECLARE n int;
+BEGIN
+  PERFORM sm.share(in_shard);
+  IF NOT EXISTS (SELECT FROM sm.copied WHERE shard = in_shard AND server = follower) THEN RETURN false; END IF;
+  IF NOT sm.is_adopted(in_shard) THEN RETURN true; END IF;
+  EXECUTE format('DELETE FROM %I.sm_members WHERE NOT was_owner AND server = $1', in_shard) USING follower;
+  GET DIAGNOSTICS n = ROW_COUNT;
+  IF n > 0 THEN PERFORM sm.count(in_shard); END IF;
+  RETURN true;
+END $$;
+
 -- This server asks for leave to drop a shard, under a number that no question had before.
 CREATE FUNCTION sm.begin_leaving(in_shard text, in_question bigint) RETURNS void LANGUAGE plpgsql AS $$
 BEGIN

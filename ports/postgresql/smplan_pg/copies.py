@@ -68,6 +68,8 @@ class Copies:
         since = time.monotonic()
         self.server.say("copies", shard, "from", self.server.names[number])
         with self.telling(there, shard):
+            if not value(there.row("SELECT sm.part(%s, %s)", shard, self.server.number)):
+                raise Stuck("the source has forgotten that a copy begins")
             self.clear(shard, number)
             with self.server.database.connection() as c:
                 mine, publication = streams.name_of(c, shard, self.server.number), streams.name_of(c, shard)

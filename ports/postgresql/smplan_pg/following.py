@@ -226,10 +226,16 @@ class Following:
             self.next_look[shard] = time.monotonic() + AT_REST
             return
         primary = self.server.sources.primary_of(shard, told.base)
-        if primary is None or (told.is_whole and self.refused.get(shard) != primary and self.join(shard, primary)):
+        if primary is None or self.serves_again(shard, told, primary) or (told.is_whole and self.refused.get(shard) != primary and self.join(shard, primary)):
             return
         if told.slot.cell == Cell.SECONDARY and not self.may_get_on(shard, told, primary):
             self.copy_anew(shard, primary, told)
+
+    def serves_again(self, shard: str, told: State, primary: int) -> bool:
+        """Whether the source was away only as it was asked first, as one that starts is: the next look goes on with it."""
+        if primary != told.source or not told.is_whole or self.refused.get(shard) == primary or not self.is_enabled(shard):
+            return False
+        return bool(self.server.sources.offer(primary, shard)["has_stream"])
 
     def may_get_on(self, shard: str, told: State, primary: int) -> bool:
         """Whether a source that serves no more, or is away for a moment, may still bring the last writes."""
