@@ -1,5 +1,6 @@
 """PostgreSQL servers, their smplan-pg, and a controller, as processes on loopback. Whoever imports this ends them with itself, also if it is told to end."""
 import atexit
+import contextlib
 import json
 import os
 import pathlib
@@ -110,6 +111,23 @@ class Postgres(Process):
                 if not self.is_up():
                     self.start()
                 time.sleep(0.1)
+
+    @contextlib.contextmanager
+    def still(self):
+        """All its processes stand still."""
+        stopped = [self.process.pid]
+        try:
+            os.kill(self.process.pid, signal.SIGSTOP)
+            words = ["ps", "--ppid", str(self.process.pid), "-o", "pid="]
+            for it in subprocess.run(words, capture_output=True, text=True, check=True).stdout.split():
+                with contextlib.suppress(ProcessLookupError):
+                    os.kill(int(it), signal.SIGSTOP)
+                    stopped.append(int(it))
+            yield
+        finally:
+            for it in reversed(stopped):
+                with contextlib.suppress(ProcessLookupError):
+                    os.kill(it, signal.SIGCONT)
 
     def query(self, statement, values=()):
         """All rows of a statement."""

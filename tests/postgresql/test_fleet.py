@@ -177,9 +177,11 @@ class FleetTest(unittest.TestCase):
     def test_7_what_a_server_that_was_given_up_brings_back(self):
         owner, other = ("b", "c") if self.is_primary("b") else ("c", "b")
         self.settle(owner, other)
-        for it in (FLEET.agents, FLEET.posts):
-            it[owner].kill()
-        self.command("reopen", "--lost", owner, "--yes", "--accept-loss", "--wait", "60")
+        with FLEET.posts[owner].still():
+            time.sleep(4.0)  # (by then the other one asks it)
+            self.command("reopen", "--lost", owner, "--yes", "--accept-loss", "--wait", "60")
+            for it in (FLEET.agents, FLEET.posts):
+                it[owner].kill()
         FLEET.wait_for("the other one serves", lambda: self.is_primary(other))
         self.write(other, "behind")
         self.assertEqual(FLEET.posts[other].query("SELECT count(*) FROM s.history WHERE request = 'moved'"), [(1,)])

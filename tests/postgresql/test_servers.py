@@ -4,6 +4,7 @@ import itertools
 import os
 import shutil
 import signal
+import socket
 import socketserver
 import struct
 import subprocess
@@ -362,12 +363,21 @@ class StreamTest(Case):
             streams.drop_stream(database, "sm_far", 30.0)
             database.close()
 
+    def test_a_source_that_says_nothing(self):
+        with socket.create_server(("127.0.0.1", 0)) as mute, mock.patch.object(streams, "ASKING", 500):
+            far = f"host=127.0.0.1 port={mute.getsockname()[1]} dbname=it user=it"
+            with self.assertRaises(psycopg.errors.QueryCanceled), DATABASE.connection() as c:
+                streams.follow(c, "sm_mute", "p", far)
+            with self.assertRaises(psycopg.errors.QueryCanceled):
+                streams.follow_behind(DATABASE, "sm_mute", "p", far, "0/1")
+        self.assertEqual(POST.query("SELECT subname FROM pg_subscription"), [])
+
     def test_a_copy_tells_its_source_that_it_goes_on_while_the_schema_is_made(self):
         self.adopt(cell=Cell.PRIMARY)
         server, seen = Server("a", DATABASE, POST.reach, []), []
         server.number, server.peers = 1, {2: Peer(2, "b", "", POST.reach)}
 
-        def copy_schema(there, shard):
+        def copy_schema(there, shard, _):
             time.sleep(3.5)
             seen.extend(there.rows("SELECT clock_timestamp() - seen < interval '2.5 s' AS it FROM sm.copied WHERE shard = %s", shard))
             raise streams.Stuck("the schema is not made")
@@ -381,6 +391,47 @@ class StreamTest(Case):
         with self.assertRaisesRegex(streams.Stuck, "waits for other copies"):
             server.copies.make("elsewhere", 2, lambda: True, lambda _: None, waits=False)
         POST.query("DELETE FROM sm.copied")
+
+
+class StillTest(Case):
+    """Another server's PostgreSQL that stands still is not waited for; its system still takes what comes."""
+
+    def setUp(self):
+        super().setUp()
+        self.server = Server("a", DATABASE, POST.reach, [])
+        self.server.number, self.server.peers = 1, {2: Peer(2, "b", "", POST.reach)}
+        self.there = self.server.peer(2)
+        self.addCleanup(self.there.close)
+
+    def test_a_question_has_no_answer(self):
+        pid, self.there.patience = value(self.there.row("SELECT pg_backend_pid()")), 0.5
+        with ThreadPoolExecutor(1) as pool, mock.patch("smplan_pg.database.STILL", 0.5):
+            try:
+                os.kill(pid, signal.SIGSTOP)
+                asked, until = pool.submit(self.there.row, "SELECT 1"), time.monotonic() + 20.0
+                while not asked.done() and time.monotonic() < until:
+                    self.server.cut_off()
+                    time.sleep(0.05)
+                self.assertTrue(asked.done())
+                self.assertIsInstance(asked.exception(), psycopg.OperationalError)
+            finally:
+                os.kill(pid, signal.SIGCONT)
+        self.assertEqual((value(self.there.row("SELECT 1")), self.there.used), (1, {}))
+
+    def test_a_stream_that_nobody_wants_any_more(self):
+        with ThreadPoolExecutor(1) as pool, psycopg.connect(POST.reach) as other, contextlib.ExitStack() as still:
+            other.execute("SELECT txid_current()")  # (the stream waits for it)
+            making = pool.submit(self.server.copies.begin_stream, self.there, "sm_still", lambda: False, lambda _: still.enter_context(POST.still()))
+            self.assertIsInstance(making.exception(20), copies.GivenUp)
+        streams.drop_stream(self.there, "sm_still", 30.0)
+
+    def test_a_program_that_nobody_wants_any_more(self):
+        begun = time.monotonic()
+        with self.assertRaises(copies.GivenUp):
+            copies.run_while(["sleep", "60"], lambda: False)
+        self.assertLess(time.monotonic() - begun, 20.0)
+        told = copies.run_while(["sh", "-c", "sleep 0.5; echo it; exit 3"], lambda: True)
+        self.assertEqual((told.stdout, told.returncode), (b"it\n", 3))
 
 
 class BeginTest(Case):
@@ -935,22 +986,6 @@ class SilenceTest(unittest.TestCase):
                 self.fail(f"its side ended: {self.told()}")
             time.sleep(0.1)
 
-    @contextlib.contextmanager
-    def silence(self):
-        """All processes of the database stand still."""
-        stopped = [POST.process.pid]
-        try:
-            os.kill(POST.process.pid, signal.SIGSTOP)
-            words = ["ps", "--ppid", str(POST.process.pid), "-o", "pid="]
-            for it in subprocess.run(words, capture_output=True, text=True, check=True).stdout.split():
-                with contextlib.suppress(ProcessLookupError):
-                    os.kill(int(it), signal.SIGSTOP)
-                    stopped.append(int(it))
-            yield
-        finally:
-            for it in reversed(stopped):
-                os.kill(it, signal.SIGCONT)
-
     def goes_on(self):
         """The side tells of the silence's end, and what its database has."""
         self.wait_for("it goes on", lambda: "goes on" in self.told() and self.base() == {"base": 7})
@@ -966,13 +1001,13 @@ class SilenceTest(unittest.TestCase):
         self.wait_for("it waits", lambda: "a waits for its database" in self.told())
 
     def test_1_it_starts(self):
-        with self.silence():
+        with POST.still():
             self.side.start()
             self.waits()
         self.goes_on()
 
     def test_2_it_serves(self):
-        with self.silence():
+        with POST.still():
             self.waits()
             with self.assertRaises(Failure):
                 self.base()

@@ -5,15 +5,15 @@ import subprocess
 import threading
 import time
 from concurrent.futures import Future, wait
-from contextlib import contextmanager, suppress
-from typing import TYPE_CHECKING, Any, Callable, Iterator
+from contextlib import closing, contextmanager, suppress
+from typing import TYPE_CHECKING, Any, Callable, Iterator, List
 
 import psycopg
 from psycopg.conninfo import make_conninfo
 from smplan.agent import Cell
 
 from . import streams
-from .database import OWN, Connection, Database, value
+from .database import OWN, Connection, Database, shut, value
 from .records import Records
 from .streams import Stuck, said
 
@@ -54,6 +54,26 @@ def begun(work: Callable[..., Any], *its: Any) -> "Future[Any]":
     return told
 
 
+def make_patiently(c: Connection, name: str) -> None:
+    """Makes a stream, however long it takes."""
+    c.execute("SET statement_timeout = 0")
+    c.execute("SELECT pg_create_logical_replication_slot(%s, 'pgoutput')", (name,))
+
+
+def run_while(words: List[str], still: Still) -> "subprocess.CompletedProcess[bytes]":
+    """What a program has printed, which is ended if nobody wants the copy any more: its server may stand still."""
+    with subprocess.Popen(words, stdout=subprocess.PIPE, stderr=subprocess.PIPE) as process:
+        while True:
+            with suppress(subprocess.TimeoutExpired):
+                printed = process.communicate(timeout=0.2)
+                return subprocess.CompletedProcess(words, process.returncode, *printed)
+            try:
+                check(still)
+            except BaseException:
+                process.kill()
+                raise
+
+
 class Copies:
     """The copies that this server makes."""
 
@@ -75,7 +95,7 @@ class Copies:
                 mine, publication = streams.name_of(c, shard, self.server.number), streams.name_of(c, shard)
             streams.drop_stream(there, mine)
             self.begin_stream(there, mine, still, said_of)
-            self.copy_schema(there, shard)
+            self.copy_schema(there, shard, still)
             reach = self.server.peers[number].reach
             with self.server.database.connection() as c:
                 c.execute(said("CREATE PUBLICATION {} FOR TABLES IN SCHEMA {} WITH (publish = '')", publication, shard))
@@ -115,15 +135,14 @@ class Copies:
     def begin_stream(self, there: Database, mine: str, still: Still, said_of: Callable[[str], None]) -> None:
         """Makes a stream at its source, which waits for the transactions that run there, however long they take. (No transaction is open here meanwhile, as
         by CREATE SUBSCRIPTION: two servers that copy from each other would wait for ever.)"""
-        with there.connect() as c:
-            c.execute("SET statement_timeout = 0")
-            made = begun(c.execute, "SELECT pg_create_logical_replication_slot(%s, 'pgoutput')", (mine,))
+        with closing(there.connect()) as c:
+            made = begun(make_patiently, c, mine)
             try:
                 while not wait([made], 0.2).done:
                     said_of("waits for transactions that are open at the source")
                     check(still)
             except GivenUp:
-                c.cancel()
+                shut(c)
                 raise
             made.result()
 
@@ -147,10 +166,10 @@ class Copies:
             it.put_source(shard, number, False)
         streams.drop_streams(self.server.database, shard)
 
-    def copy_schema(self, there: Database, shard: str) -> None:
+    def copy_schema(self, there: Database, shard: str, still: Still) -> None:
         """Makes the schema with its tables, indexes and functions, all or nothing of it."""
         dump = ["pg_dump", "-d", make_conninfo(there.reach, options=""), "--schema-only", "--no-publications", "--no-subscriptions", "-n", quoted(shard)]
-        told = subprocess.run(dump, capture_output=True, check=False)
+        told = run_while(dump, still)
         if told.returncode:
             raise Stuck(f"pg_dump: {told.stderr.decode(errors='replace').strip()[-300:]}")
         make = ["psql", "-qX1", "-v", "ON_ERROR_STOP=1", "-d", make_conninfo(self.server.database.reach, options=f"{OWN} -c client_min_messages=warning")]

@@ -5,9 +5,11 @@ the protocol by itself, and has errors outside its documented classes when a ser
 """
 from __future__ import annotations
 
+import os
+import socket
 import threading
 import time
-from contextlib import contextmanager
+from contextlib import contextmanager, suppress
 from typing import Any, Dict, Iterator, List, Optional, Tuple
 
 import psycopg
@@ -35,6 +37,9 @@ OWN = "-c sm.own=on -c synchronous_commit=local -c client_connection_check_inter
 # How soon it is noticed that a server's machine is gone: within some ten seconds.
 ALIVE = {"keepalives_idle": 5, "keepalives_interval": 2, "keepalives_count": 3, "tcp_user_timeout": 10000}
 
+# A server that has not answered so long after its time was up stands still, in seconds: its system takes what comes, so that no timeout of the network's ends it.
+STILL = 5.0
+
 # A connection that has rested for so long, in seconds, is tried before it is used.
 RESTED = 1.0
 
@@ -47,7 +52,8 @@ class Database:
         more = {"connect_timeout": 3, "application_name": "smplan-pg", **({"options": options} if options else {})}
         self.reach = make_conninfo(**{**ALIVE, **conninfo_to_dict(reach), **more})
         self.idle: List[Tuple[Connection, float]] = []
-        self.lock = threading.Lock()
+        self.used: Dict[Connection, float] = {}
+        self.patience, self.lock = patience, threading.Lock()
 
     def connect(self) -> Connection:
         """A new connection. It prepares no statements, so that pgbouncer may stand between."""
@@ -60,17 +66,43 @@ class Database:
     @contextmanager
     def connection(self) -> Iterator[Connection]:
         """A connection, which is kept afterwards if nothing went wrong."""
-        with self.lock:
-            c, rested = self.idle.pop() if self.idle else (None, 0.0)
-        if c is None or (time.monotonic() - rested > RESTED and not is_alive(c)):
-            c = self.connect()
+        c = self.kept() or self.use(self.connect())
         try:
             yield c
         except BaseException:
             c.close()
             raise
+        finally:
+            self.leave(c)
         with self.lock:
             self.idle.append((c, time.monotonic()))
+
+    def kept(self) -> Optional[Connection]:
+        """A connection that was kept and still serves, in use from now on, if there is one."""
+        with self.lock:
+            c, rested = self.idle.pop() if self.idle else (None, 0.0)
+        if c is None or time.monotonic() - rested <= RESTED or is_alive(self.use(c)):
+            return c and self.use(c)
+        self.leave(c)
+        return None
+
+    def use(self, c: Connection) -> Connection:
+        """Notes that a connection is in use from now on."""
+        with self.lock:
+            self.used[c] = time.monotonic()
+        return c
+
+    def leave(self, c: Connection) -> None:
+        """Notes that a connection is in use no more."""
+        with self.lock:
+            self.used.pop(c, None)
+
+    def cut_off(self) -> None:
+        """Ends connections whose server stands still: who waits for an answer there has none, at once."""
+        with self.lock:
+            late = [c for c, since in self.used.items() if self.patience and time.monotonic() - since > self.patience + STILL]
+        for it in late:
+            shut(it)
 
     def close(self) -> None:
         """Closes what is kept."""
@@ -99,6 +131,12 @@ class Database:
         """How many rows a statement has changed, in a transaction of its own."""
         with self.connection() as c:
             return c.execute(statement, values).rowcount
+
+
+def shut(c: Connection) -> None:
+    """Ends a connection on which another thread waits, without a word to its server."""
+    with suppress(OSError, psycopg.Error), socket.socket(fileno=os.dup(c.fileno())) as it:
+        it.shutdown(socket.SHUT_RDWR)
 
 
 def is_alive(c: Connection) -> bool:

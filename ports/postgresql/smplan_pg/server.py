@@ -118,6 +118,13 @@ class Server:
                 self.databases[it.reach] = Database(it.reach, patience=5.0)
             return self.databases[it.reach]
 
+    def cut_off(self) -> None:
+        """Waits no more for servers that stand still."""
+        with self.lock:
+            its = list(self.databases.values())
+        for it in its:
+            it.cut_off()
+
     def learn(self, told: Dict[str, Any]) -> None:
         """Takes the servers that a controller tells of. A number belongs to one name for ever, also if the server is gone."""
         with self.database.transaction() as tx:
@@ -242,7 +249,7 @@ class Server:
         patiently(self.silence, self.database, self.start)
         self.begin((self.keep_own, 1.0), (self.silence.look, 0.5))
         self.find()
-        self.begin((self.look, 2.0), (self.ask_for_slots, 0.5), (self.following.watch, 0.2),
+        self.begin((self.look, 2.0), (self.cut_off, 1.0), (self.ask_for_slots, 0.5), (self.following.watch, 0.2),
                    (self.following.listen, 0.5), (self.keeping.leave_out_the_dead, 1.0), (self.keeping.tidy, 2.0),
                    (self.keeping.tidy_sources, 3.0), (self.keeping.drop_unread, 2.0))
         listen(self.http or self.peers[self.number].url, self.routes, self.token, tls=None)

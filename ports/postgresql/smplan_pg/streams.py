@@ -3,7 +3,8 @@ sm.stream. A subscription that is dropped leaves its slot at the source, so that
 from __future__ import annotations
 
 import time
-from typing import List, Optional
+from contextlib import contextmanager
+from typing import Iterator, List, Optional
 
 import psycopg
 from psycopg import sql
@@ -11,6 +12,9 @@ from psycopg import sql
 from .database import Connection, Database, value
 
 ALL = "insert, update, delete, truncate"
+
+# For how long a source may take to tell what its publication has, in milliseconds.
+ASKING = 30000
 
 
 class Stuck(Exception):
@@ -69,16 +73,25 @@ def drop_subscription(tx: Connection, name: str) -> None:
         tx.execute(said("DROP SUBSCRIPTION {}", name))
 
 
+@contextmanager
+def asking(c: Connection) -> Iterator[Connection]:
+    """A transaction in which this server asks a source, which may stand still."""
+    with c.transaction():
+        c.execute(f"SET LOCAL statement_timeout = {ASKING}")
+        yield c
+
+
 def follow(c: Connection, name: str, publication: str, reach: str) -> None:
     """Copies all that a publication has, and follows it by a stream that is there already."""
-    c.execute(said("CREATE SUBSCRIPTION {} CONNECTION {reach} PUBLICATION {} WITH (slot_name = {name}, create_slot = false, synchronous_commit = 'local')",
-                   name, publication, reach=reach, name=name))
+    with asking(c):
+        c.execute(said("CREATE SUBSCRIPTION {} CONNECTION {reach} PUBLICATION {} WITH (slot_name = {name}, create_slot = false, synchronous_commit = 'local')",
+                       name, publication, reach=reach, name=name))
 
 
 def follow_behind(database: Database, name: str, publication: str, reach: str, place: str) -> None:
     """Makes a subscription that copies nothing, and begins behind a place of the source's log. It is not enabled yet.
     (Its place is stored here: what pg_replication_slot_advance says at the source is forgotten by a crash.)"""
-    with database.transaction() as tx:
+    with database.connection() as c, asking(c) as tx:
         drop_subscription(tx, name)
         tx.execute(said("CREATE SUBSCRIPTION {} CONNECTION {reach} PUBLICATION {} WITH (slot_name = {name}, create_slot = false, copy_data = false, "
                         "enabled = false, synchronous_commit = 'local')", name, publication, reach=reach, name=name))
