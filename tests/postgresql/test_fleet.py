@@ -130,7 +130,7 @@ class FleetTest(unittest.TestCase):
         server.number = 1
         with database.transaction() as tx:  # (as a secondary it tells nothing)
             streams.publish(tx, "s", "")
-        streams.make_stream(database, "s", 2)
+        streams.make_stream(database, "s", 2, 60.0)
         with database.transaction() as tx:
             server.whole.begin_view(tx, "s", Records(tx).mark("s").view + 1, {2: False})
         database.close()

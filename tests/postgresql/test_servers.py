@@ -325,7 +325,7 @@ class StreamTest(Case):
 
     def test_around_a_change_of_the_publication(self):
         self.adopt(cell=Cell.PRIMARY)
-        streams.make_stream(DATABASE, self.shard, 2)
+        streams.make_stream(DATABASE, self.shard, 2, 60.0)
         c = self.client()
         name = streams.name_of(c, self.shard, 2)
         for before, after in (("", streams.ALL), (streams.ALL, "")):
@@ -362,6 +362,16 @@ class StreamTest(Case):
             database = Database(far)
             streams.drop_stream(database, "sm_far", 30.0)
             database.close()
+
+    def test_made_unless_transactions_are_open_for_long(self):
+        self.adopt()
+        with psycopg.connect(POST.reach) as other:
+            other.execute("SELECT txid_current()")
+            self.assertFalse(streams.make_streams(DATABASE, self.shard, [2, 3], 0.5))
+            self.assertEqual(POST.query("SELECT slot_name FROM pg_replication_slots"), [])
+        self.assertTrue(streams.make_streams(DATABASE, self.shard, [2, 3], 60.0))
+        self.assertEqual(len(POST.query("SELECT slot_name FROM pg_replication_slots")), 2)
+        streams.drop_streams(DATABASE, self.shard)
 
     def test_a_source_that_says_nothing(self):
         with socket.create_server(("127.0.0.1", 0)) as mute, mock.patch.object(streams, "ASKING", 500):
@@ -875,12 +885,25 @@ class SeveralTest(unittest.TestCase):
         self.its["b"].keeping.leave_out_the_dead()  # (what was not told is seen)
         self.assertEqual(members(), {3: True})
 
+    def test_who_joined_just_before_the_cut_has_a_stream_behind_it(self):
+        self.put("b", Cell.PREPARED, 5)
+        b, cut = self.its["b"], Cut(handover=7, position=5, party=2, sequences={})
+        with b.database.transaction() as tx:
+            it = Records(tx)
+            it.put_slot(self.shard, Slot(cell=Cell.PREPARED, party=1, handover=7, load=1))
+            it.put_members(self.shard, {2: False, 3: False})
+        b.following.seal(self.shard, cut)
+        with b.database.transaction() as tx:
+            self.assertEqual(Records(tx).members(self.shard), {1: True, 3: False})
+            self.assertTrue(value(tx.execute("SELECT is_joinable FROM sm.offers(%s, 3)", (self.shard,)).fetchone()))
+        streams.drop_streams(b.database, self.shard)
+
     def followed(self):
         """Server a is followed by b, which counts there beside c. Server a's database, and b."""
         self.put("a", Cell.PRIMARY, 5)
         self.put("b", Cell.SECONDARY, 5)
         a, b = self.its["a"].database, self.its["b"]
-        streams.make_stream(a, self.shard, 2)
+        streams.make_stream(a, self.shard, 2, 60.0)
         with a.transaction() as tx:
             Records(tx).put_members(self.shard, {2: False, 3: False})
         with b.database.transaction() as tx:
@@ -931,11 +954,11 @@ class SeveralTest(unittest.TestCase):
         a, b = self.its["a"].database, self.its["b"].database
         with a.transaction() as tx:
             Records(tx).put_members(self.shard, {3: False})
-        streams.make_stream(b, self.shard, 3)
+        self.assertTrue(streams.make_stream(b, self.shard, 3, 60.0))
         self.assertFalse(value(a.row("SELECT sm.has_all(%s, '0/1')", self.shard)))
         self.assertFalse(a.row("SELECT has_stream FROM sm.offers(%s, 3)", self.shard)["has_stream"])
         with self.assertRaises(psycopg.errors.DuplicateObject):
-            streams.make_stream(a, self.shard, 3)
+            streams.make_stream(a, self.shard, 3, 60.0)
         streams.drop_streams(a, self.shard)
         with b.connection() as c:
             streams.drop_stream(a, streams.name_of(c, self.shard, 3))

@@ -3,6 +3,7 @@ from __future__ import annotations
 
 import select
 import time
+from contextlib import suppress
 from dataclasses import dataclass
 from typing import TYPE_CHECKING, Dict, Optional
 
@@ -23,6 +24,9 @@ FOLLOWING = (Cell.PREPARED, Cell.SECONDARY, Cell.FORWARDING)
 
 # For how long a follower waits for the last writes of a source that serves no more, in seconds.
 CUT_COMES = 5.0
+
+# For how long a stream may take to begin while a cut is awaited, in seconds.
+HASTE = 1.0
 
 # How often it is looked whether a source still serves, in seconds. (A cut tells itself.)
 AT_REST = 3.0
@@ -179,12 +183,16 @@ class Following:
             return self.copy_anew(shard, told.slot.party, told)
         if told.cut is not None and (told.cut.handover, told.cut.party) == (told.slot.handover, self.server.number):
             return self.seal(shard, told.cut)
-        with self.server.database.transaction() as tx:
-            members = set(Records(tx).members(shard)) - {self.server.number}
-        for it in members:
-            streams.make_stream(self.server.database, shard, it)
+        self.make_streams(shard)
         streams.advance(self.server.database, shard)
         return None
+
+    def make_streams(self, shard: str) -> None:
+        """Makes streams for all who count, also who began to since it was prepared. It waits shortly for transactions that are open here, since a cut may come."""
+        with self.server.database.transaction() as tx:
+            present = streams.streams_of(tx, shard)
+            lacking = [it for it in Records(tx).members(shard) if it != self.server.number and streams.name_of(tx, shard, it) not in present]
+        streams.make_streams(self.server.database, shard, lacking, HASTE)
 
     def seal(self, shard: str, cut: Cut) -> None:
         """The new owner has all writes. It takes nothing more from the old one, begins the streams of its followers here, and then may execute."""
@@ -193,6 +201,8 @@ class Following:
             mine = streams.name_of(c, shard, self.server.number)
         streams.halt(database, mine)
         halted = time.monotonic()
+        with suppress(psycopg.Error):
+            self.make_streams(shard)
         with database.transaction() as tx:
             it = Records(tx)
             base = it.base("FOR SHARE")

@@ -11,7 +11,7 @@ from smplan.agent import Answer, Call, Cell, Order, Role, Slot
 from smplan.control_agent import order_of
 
 from . import streams
-from .copies import REPLACED, GivenUp, remove, set_aside
+from .copies import REPLACED, GivenUp, check, remove, set_aside
 from .database import Connection, value
 from .leave import Leave, leaving
 from .records import Cut, Mark, Records
@@ -135,8 +135,9 @@ class Orders:
         try:
             self.server.copies.make(shard, source, still, tell)
             if order.call == Call.PREPARE_ADD:
-                for it in others:
-                    streams.make_stream(self.server.database, shard, it)
+                while not streams.make_streams(self.server.database, shard, others, TRYING):
+                    tell("waits for transactions that are open here")
+                    check(still)
             self.commit_copy(shard, order, source)
         except (Stuck, OSError, psycopg.Error):
             with self.server.database.transaction() as tx:
@@ -237,8 +238,9 @@ class Orders:
             self.marks(shard, others)
         elif is_promotion(order):
             self.compare(shard, others)
-            for it in others:
-                streams.make_stream(self.server.database, shard, it)
+            self.server.live(shard).said = "waits for transactions that are open here"
+            if not streams.make_streams(self.server.database, shard, others, self.limits.ending):
+                self.server.say("transactions here are open for long: who follows copies", shard, "anew")
             streams.halt(self.server.database, mine)
 
     def store(self, tx: Connection, shard: str, order: Order, others: List[int], slot: Slot, after: Slot, before: Mark) -> None:

@@ -4,7 +4,7 @@ from __future__ import annotations
 
 import time
 from contextlib import contextmanager
-from typing import Iterator, List, Optional
+from typing import Iterable, Iterator, List, Optional
 
 import psycopg
 from psycopg import sql
@@ -117,12 +117,25 @@ def streams_of(tx: Connection, shard: str) -> List[str]:
     return [it["slot_name"] for it in tx.execute(its, (name_of(tx, shard) + "_",)).fetchall()]
 
 
-def make_stream(database: Database, shard: str, follower: int) -> None:
-    """Makes a stream for a server that will follow this one, if there is none. (It is refused if another database of the cluster has one of this name.)"""
+def make_stream(database: Database, shard: str, follower: int, seconds: float) -> bool:
+    """Makes a stream for a server that will follow this one, if there is none. It waits for all transactions that are open in this PostgreSQL, whatever they
+    write: not for longer than some seconds. Whether there is one. (It is refused if another database of the cluster has one of this name.)"""
     with database.connection() as c:
         name = name_of(c, shard, follower)
-        if name not in streams_of(c, shard):
-            c.execute("SELECT pg_create_logical_replication_slot(%s, 'pgoutput')", (name,))
+        if name in streams_of(c, shard):
+            return True
+        try:
+            with c.transaction():
+                c.execute(f"SET LOCAL statement_timeout = {int(1000 * seconds)}")
+                c.execute("SELECT pg_create_logical_replication_slot(%s, 'pgoutput')", (name,))
+        except psycopg.errors.QueryCanceled:
+            return False
+    return True
+
+
+def make_streams(database: Database, shard: str, followers: Iterable[int], seconds: float) -> bool:
+    """Makes streams for servers that will follow this one, but no more once one has waited in vain: who has none copies the shard anew. Whether all are there."""
+    return all(make_stream(database, shard, it, seconds) for it in followers)
 
 
 def drop_stream(database: Database, name: str, seconds: float = 2.0) -> None:

@@ -130,8 +130,9 @@ class Whole:
                 if not live.hands.acquire(timeout=2.0):
                     raise Stuck(f"the work of {shard} ends")
                 hands.callback(live.hands.release)
+            waits = True
             for shard, slot in after.items():
-                self.prepare(shard, before.get(shard, Slot()), slot)
+                waits = self.prepare(shard, before.get(shard, Slot()), slot, waits)
             with self.server.database.transaction() as tx:
                 it = Records(tx)
                 before, was = it.slots(), it.base("FOR UPDATE")
@@ -151,10 +152,11 @@ class Whole:
                           "WHERE nspname NOT LIKE 'sm\\_aside\\_%'").fetchall()
         return [it["nspname"] for it in rows if tx.execute(Records(tx).own("SELECT FROM {}.sm_views LIMIT 1", it["nspname"])).fetchone() is not None]
 
-    def prepare(self, shard: str, before: Slot, after: Slot) -> None:
-        """What goes before the transaction: a new primary follows nobody any more, and makes streams for those who may follow it."""
+    def prepare(self, shard: str, before: Slot, after: Slot, waits: bool) -> bool:
+        """What goes before the transaction: a new primary follows nobody any more, and makes streams for those who may follow it. Whether they did not wait in
+        vain for transactions that are open here: otherwise none is made for the shards that come then, and who has none copies the shard anew."""
         if after.cell == before.cell == Cell.PRIMARY or after.cell in (Cell.SECONDARY, Cell.PREPARED):
-            return
+            return waits
         with self.server.database.transaction() as tx:
             it = Records(tx)
             mine = streams.name_of(tx, shard, self.server.number)
@@ -162,9 +164,12 @@ class Whole:
         streams.halt(self.server.database, mine)
         for number in members - {self.server.number, 0}:
             try:
-                streams.make_stream(self.server.database, shard, number)
+                waits = waits and streams.make_stream(self.server.database, shard, number, self.server.limits.ending)
             except psycopg.Error as why:  # (who has no stream copies the shard anew)
                 self.server.say("no stream of", shard, "for", number, why)
+        if not waits:
+            self.server.say("transactions here are open for long: who follows copies", shard, "anew")
+        return waits
 
     def store(self, tx: Connection, shard: str, before: Slot, after: Slot, view: int) -> None:
         """Stores a slot, with what becomes of its data."""
