@@ -21,8 +21,8 @@ from smpland_model.numbering import Numbering
 Json = words.Json
 HANDED = (Kind.PREPARED, Kind.FORWARDING)
 
-# A claim to a shard, and of equal claims the view of its copy's list, and its position.
-Standing = tuple[int, int, int]
+# The rank of a claim, the copy's view and position, and the claim; without a view the claim, and then the position.
+Standing = tuple[int, int, int, int]
 
 
 @dataclass(frozen=True, slots=True)
@@ -39,6 +39,12 @@ def claim(cell: Cell, has_reached_cut: bool) -> int:
     """Returns how good a claim to a shard a cell gives."""
     claims = {Kind.ABSENT: 0, Kind.SECONDARY: 2, Kind.FORWARDING: 3, Kind.PRIMARY: 4}
     return claims.get(cell.kind, 3 if has_reached_cut else 1)
+
+
+def standing_by(claim: int, view: int = 0, position: int = 0) -> Standing:
+    """Returns a standing. A primary comes before all others, and who has nothing after them, whatever the copies."""
+    rank = 2 if claim > 3 else 1 if claim > 0 else 0
+    return (rank, view, position, claim) if view > 0 else (rank, view, claim, position)
 
 
 def keeps(told: Cell, settled: Cell) -> bool:
@@ -91,9 +97,14 @@ class NamedReopening(Reopening):
     def standing(self, shard: int, server: int) -> Standing:
         """Returns how well a server may inherit a shard."""
         if self.is_silent(server):
-            return claim(self.recorded(shard, server), False), 0, 0
+            return standing_by(claim(self.recorded(shard, server), False))
         slot = self.told(shard, server)
-        return (claim(slot.cell, slot.has_reached_cut), slot.view, slot.position) if slot else (0, 0, 0)
+        return standing_by(claim(slot.cell, slot.has_reached_cut), slot.view, slot.position) if slot else standing_by(0)
+
+    def claim_of(self, shard: int, server: int) -> int:
+        """Returns the claim of a server to a shard."""
+        standing = self.standing(shard, server)
+        return standing[3] if standing[1] > 0 else standing[2]
 
     def documented(self, shard: int, server: int) -> Cell:
         """Returns what the document has of a shard at a server that is Unknown."""
@@ -122,7 +133,7 @@ class NamedReopening(Reopening):
         if not self.is_led(shard):
             return None
         best = max(self.servers, key=lambda it: (self.standing(shard, it), -it))
-        if self.standing(shard, best)[0] > 0:
+        if self.claim_of(shard, best) > 0:
             return best
         return next((it for it in self.servers if self.documented(shard, it) == PRIMARY), None)
 
@@ -159,7 +170,7 @@ class NamedReopening(Reopening):
 
     def is_bare(self, survey: object, shard: int, successor: int | None) -> bool:
         """Returns whether no server is left that has all of a shard, of which there is or was to be one."""
-        standings = [self.standing(shard, it)[0] for it in self.servers]
+        standings = [self.claim_of(shard, it) for it in self.servers]
         cells = [(self.recorded(shard, it), self.document.cells[shard][it]) for it in self.servers]
         has_been = any(it != (ABSENT, ABSENT) for it in cells)
         has_been = has_been or any(self.may_be_first(shard, it) for it in self.servers)
@@ -197,7 +208,7 @@ class NamedReopening(Reopening):
 
     def has_gone(self, shard: int, server: int) -> bool:
         """Returns whether a server that may have served a shard is lost or Unknown, or tells nothing of it."""
-        has_served = self.may_have_served(shard, server) and self.standing(shard, server)[0] == 0
+        has_served = self.may_have_served(shard, server) and self.claim_of(shard, server) == 0
         if has_served or self.may_be_first(shard, server):
             return True
         return self.has_no_slots(server) and self.may_have_served_any(server)
@@ -210,14 +221,14 @@ class NamedReopening(Reopening):
         """Returns whether a server is the shard's primary, and no other one can have followed it. One that has its
         slots no more may have, by a settle of a replaced reopening, unless this one was sent a settle too."""
         is_alone = server in self.already_settled or not self.has_lost_settled()
-        return self.standing(shard, server)[0] > 3 and is_alone
+        return self.claim_of(shard, server) > 3 and is_alone
 
     def is_named_lost(self, shard: int) -> bool:
         """Returns whether the proposal names a shard as lost: no server is left that has all of it; or it has no
         primary that surely is still one, and one that may have served it is gone."""
         if self.is_bare(None, shard, None):
             return True
-        best = max((self.standing(shard, it)[0] for it in self.servers), default=0)
+        best = max((self.claim_of(shard, it) for it in self.servers), default=0)
         is_served = any(self.is_primary_still(shard, it) for it in self.servers)
         return best >= 2 and not is_served and any(self.has_gone(shard, it) for it in self.servers)
 

@@ -1,5 +1,5 @@
 -- The facts that a settlement keeps: who may be confirmed as a primary, and what stays.
-use Rattle.std.proofs.Common.{◌≡◌, ◌≤◌, ◌⊎◌, ℕ, refl, sym, ap, ◌∙◌, inl, inr, subst, arith, not, Bool, true, false, Option, Some, None}
+use Rattle.std.proofs.Common.{◌≡◌, ◌≤◌, ◌<◌, ◌⊎◌, ℕ, refl, sym, ap, ◌∙◌, inl, inr, subst, arith, not, Bool, true, false, Option, Some, None}
 use Rattle.std.specs.Prelude.{◌&&◌, is_none, if◌then◌else◌}
 use Rattle.std.proofs.lemmas.Bool.{and_parts, cases_Bool, cases_eq, cases_lt}
 use Rattle.sm_server.specs.declared.call.Cell.{Cell}
@@ -120,42 +120,27 @@ module _ (r : Reopening) (w : State) (s : Settlement) (m : MaySettle r w s) wher
     primary : s.place.cells k u ≡ cell.Primary
     primary = (m.handed k v cells reached told hands).1
 
-    -- whoever else has a party of the handover has no better claim
-    no_better : (x : ℕ) (d : ℕ → Cell) (b : ℕ → Bool) → r.told (Server x) ≡ Some (Slots d b) → claim (d k) (b k) ≤ claim_of r w k u
-    no_better x d b t = let e = claim_is k x (Slots d b) t in let c = m.claims k x u primary in omega arith
-
     successor : IsSuccessor r w k u
     successor = elim (cases_Bool (is_carried r w u)) [
-      | inl c ↦ (cell.Primary, inr (c, sym (m.carried k u c) ∙ primary), inl refl)
+      | inl c ↦ (cell.Primary, inr (c, sym (m.carried k u c) ∙ primary), λ z. absurd (cc))
       | inr c ↦ by_told c (r.told (Server u)) refl
     ]
       where
         mine : (claim (cells k) (reached k) ≡ 1) ⊎ (claim (cells k) (reached k) ≡ 3)
         mine = handing_claim (cells k) (reached k) hands
 
-        none : claim_of r w k u ≡ 0 → ⊥
-        none z = let a = no_better v cells reached told in elim mine [ inl q ↦ omega arith | inr q ↦ omega arith ]
+        some : 0 < claim_of r w k v
+        some = let e = claim_is k v (Slots cells reached) told in elim mine [ inl q ↦ omega arith | inr q ↦ omega arith ]
 
-        by_cell : (d : ℕ → Cell) (b : ℕ → Bool) → r.told (Server u) ≡ Some (Slots d b) → (x : Cell) → d k ≡ x → IsSuccessor r w k u
-        by_cell d b t cell.Absent e = absurd (none (claim_is k u (Slots d b) t ∙ ap (λ c. claim c (b k)) e))
-        by_cell d b t cell.Primary e = (cell.Primary, inl (d, b, t, e), inl refl)
-        by_cell d b t (cell.Prepared f n) e = (cell.Prepared f n, inl (d, b, t, e), inr (inl refl))
-        by_cell d b t (cell.Forwarding f n) e = (cell.Forwarding f n, inl (d, b, t, e), inr (inl refl))
-        by_cell d b t cell.Secondary e = (
-          cell.Secondary,
-          inl (d, b, t, e),
-          inr (inr (
-            refl,
-            λ x c a q h.
-                let z : claim_of r w k u ≡ 2 = claim_is k u (Slots d b) t ∙ ap (λ y. claim y (b k)) e in
-                let l = no_better x c a q in
-                elim (handing_claim (c k) (a k) h) [ inl y ↦ y | inr y ↦ absurd (omega arith) ],
-          )),
-        )
+        none : claim_of r w k u ≡ 0 → ⊥
+        none z = let l = m.claims k v u primary some in omega arith
+
+        by_cell : (d : ℕ → Cell) (b : ℕ → Bool) → r.told (Server u) ≡ Some (Slots d b) → IsSuccessor r w k u
+        by_cell d b t = (d k, inl (d, b, t, refl), λ e. none (claim_is k u (Slots d b) t ∙ ap (λ c. claim c (b k)) e))
 
         by_told : is_carried r w u ≡ false → (o : Option Inventory) → r.told (Server u) ≡ o → IsSuccessor r w k u
         by_told c None t = absurd (none (ap (λ b. if b then claim (w.place.cells k u) false else claim_told (r.told (Server u)) k) c ∙ ap (λ o. claim_told o k) t))
-        by_told c (Some (Slots d b)) t = by_cell d b t (d k) refl
+        by_told c (Some (Slots d b)) t = by_cell d b t
         by_told c (Some (Unknown n)) t = absurd (none (claim_is k u (Unknown n) t))
         by_told c (Some Entries) t = absurd (none (claim_is k u Entries t))
 

@@ -139,19 +139,11 @@ primary_there : (k v : ℕ) → brought.place.cells k v ≡ Primary → (k ≡ 0
 primary_there = by_cells (λ s v c. c ≡ Primary → (s ≡ 0) × (v ≡ 0)) row (omega arith)
     (below_three (λ v. slice_index_or row v Absent ≡ Primary → (0 ≡ 0) × (v ≡ 0)) (λ e. (refl, refl)) (λ e. absurd (cc)) (λ e. absurd (cc))) (λ s v e. absurd (cc))
 
-claims_there : (k u v : ℕ) → brought.place.cells k v ≡ Primary → claim_of r w k u ≤ claim_of r w k v
-claims_there k u v e =
+claims_there : (k u v : ℕ) → brought.place.cells k v ≡ Primary → 0 < claim_of r w k u → 0 < claim_of r w k v
+claims_there k u v e some =
     let p = primary_there k v e in
-    subst (λ a. claim_of r w a u ≤ claim_of r w a v) (sym p.0) (subst (λ a. claim_of r w 0 u ≤ claim_of r w 0 a) (sym p.1)
-    (subst (λ (a : ℕ). a ≤ 3) (sym (ap (λ b. if b then claim (w.place.cells 0 u) false else claim_told (r.told (Server u)) 0) (carried_not u))) (low (u == 2) (u == 0))))
-  where
-    carried_not : (u : ℕ) → is_carried r w u ≡ false
-    carried_not u = elim (cases_Bool (is_carried r w u)) [ inl c ↦ absurd (none_carried u c) | inr c ↦ c ]
-
-    low : (b a : Bool) → claim_told (told_by b a) 0 ≤ 3
-    low true a = omega arith
-    low false true = omega arith
-    low false false = omega arith
+    let three : 0 < claim_of r w 0 0 = omega arith in
+    subst (λ a. 0 < claim_of r w a v) (sym p.0) (subst (λ a. 0 < claim_of r w 0 a) (sym p.1) three)
 
 handed_there : (k v : ℕ) (cells : ℕ → Cell) (reached : ℕ → Bool) → r.told (Server v) ≡ Some (Slots cells reached) → is_handing (cells k) ≡ true → (u : ℕ) × (brought.place.cells k u ≡ Primary)
 handed_there k v cells reached e h = (

@@ -18,8 +18,8 @@ Keeps cell.Secondary next = (next ≡ cell.Secondary) ⊎ (next ≡ cell.Primary
 Keeps cell.Absent next = next ≡ cell.Absent
 Keeps _ next = (next ≡ cell.Primary) ⊎ (next ≡ cell.Absent)
 
--- How good a claim to the shard a cell gives: a primary has the best; then an old owner that forwards, and a new one that has reached its
--- cut; then a secondary; then a new owner that has not. A server with a better claim may have acknowledged writes that a lesser one lacks.
+-- The claim to the shard that a cell gives: a primary has the best; then an old owner that forwards, and a new one that has reached its
+-- cut; then a secondary; then a new owner that has not; and who has nothing has none.
 abbrev pub claim : Cell → Bool → ℕ
 claim cell.Absent reached = 0
 claim (cell.Prepared from number) false = 1
@@ -42,7 +42,8 @@ abbrev pub claim_of : Reopening → State → ℕ → ℕ → ℕ
 claim_of r w s v = if is_carried r w v then claim (w.place.cells s v) false else claim_told (r.told (Server v)) s
 
 -- The controller may confirm this settlement: each party has answered, or is a server that is carried over or lost. No primary is
--- moved; no shard goes past who has a better claim to it, be it carried over; and one of whose handover a party is left has a primary.
+-- moved; a shard that goes to a server goes to one with a claim to it, be it carried over, if there is one; and a shard of whose
+-- handover a party is left has a primary.
 pub record MaySettle (r : Reopening) (w : State) (s : Settlement) : Type 0 where
   pub first : r.settlement ≡ None
   pub opening : IsOpening s.setup s.place s.room
@@ -53,7 +54,7 @@ pub record MaySettle (r : Reopening) (w : State) (s : Settlement) : Type 0 where
   pub carried : (k v : ℕ) → is_carried r w v ≡ true → s.place.cells k v ≡ w.place.cells k v
   pub down : (v : ℕ) → is_carried r w v ≡ true → v < length s.setup.servers → s.place.down v ≡ true
   pub lost : (k v : ℕ) → r.lost v ≡ true → s.place.cells k v ≡ cell.Absent
-  pub claims : (k u v : ℕ) → s.place.cells k v ≡ cell.Primary → claim_of r w k u ≤ claim_of r w k v
+  pub claims : (k u v : ℕ) → s.place.cells k v ≡ cell.Primary → 0 < claim_of r w k u → 0 < claim_of r w k v
   pub handed : (k v : ℕ) (cells : ℕ → Cell) (reached : ℕ → Bool) → r.told (Server v) ≡ Some (Slots cells reached) → is_handing (cells k) ≡ true →
       (u : ℕ) × (s.place.cells k u ≡ cell.Primary)
 
@@ -270,10 +271,9 @@ IsKnownAs r w s v c =
 abbrev pub IsAtRest : Reopening → ℕ → Type 0
 IsAtRest r s = (v : ℕ) (cells : ℕ → Cell) (reached : ℕ → Bool) → r.told (Server v) ≡ Some (Slots cells reached) → is_handing (cells s) ≡ false
 
--- who is primary once a handover is settled: the primary that there was, a party, or a secondary if the parties left have not reached their cuts
+-- who is primary once a handover is settled: who is known to have something of the shard
 abbrev pub IsSuccessor : Reopening → State → ℕ → ℕ → Type 0
-IsSuccessor r w s u = (c : Cell) × IsKnownAs r w s u c × ((c ≡ cell.Primary) ⊎ ((is_handing c ≡ true) ⊎ ((c ≡ cell.Secondary) ×
-    ((v : ℕ) (cells : ℕ → Cell) (reached : ℕ → Bool) → r.told (Server v) ≡ Some (Slots cells reached) → is_handing (cells s) ≡ true → claim (cells s) (reached s) ≡ 1))))
+IsSuccessor r w s u = (c : Cell) × IsKnownAs r w s u c × (c ≢ cell.Absent)
 
 -- A shard with no handover under way, whose primary is there, keeps the cells of its survivors; one of whose handover a party is left
 -- has one primary.

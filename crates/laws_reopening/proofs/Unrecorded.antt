@@ -1,5 +1,5 @@
 -- If each server that is asked has told, none is carried over: so nothing rests on the record.
-use Rattle.std.proofs.Common.{◌≡◌, ◌≤◌, ℕ, refl, sym, ap, ◌∙◌, inl, subst, Bool, true, false, Option, Some, None}
+use Rattle.std.proofs.Common.{◌≡◌, ◌<◌, ◌≤◌, ℕ, refl, sym, ap, ◌∙◌, inl, subst, Bool, true, false, Option, Some, None}
 use Rattle.std.specs.Prelude.{◌&&◌, not, is_none, is_some, if◌then◌else◌}
 use Rattle.laws_network.specs.Words.{State}
 use Rattle.laws_network.specs.Reopening.{Inventory, Reopening, Server, is_asked}
@@ -39,7 +39,7 @@ settles_without_record r w other s all may = record {
   carried = λ k v c. let z = sym c ∙ none_carried r other all v in absurd (cc);
   down = λ v c small. let z = sym c ∙ none_carried r other all v in absurd (cc);
   lost = may.lost;
-  claims = λ k u v primary. subst (λ n. n ≤ claim_of r other k v) (claim_is r w all k u ∙ sym (claim_is r other all k u))
-      (subst (λ n. claim_of r w k u ≤ n) (claim_is r w all k v ∙ sym (claim_is r other all k v)) (may.claims k u v primary));
+  claims = λ k u v primary some. subst (λ (n : ℕ). 0 < n) (claim_is r w all k v ∙ sym (claim_is r other all k v))
+      (may.claims k u v primary (subst (λ (n : ℕ). 0 < n) (claim_is r other all k u ∙ sym (claim_is r w all k u)) some));
   handed = may.handed;
 }

@@ -191,8 +191,8 @@ module _ (r : Reopening) (w : State) (setup : Setup) (a : AreAnswers r) (p : Has
         go None e = refl
         go (Some i) e = absurd (let z = (a.asked v (ap is_some e)).1 in cc)
 
-    best : (k u v : ℕ) → cells k v ≡ cell.Primary → claim_of r w k u ≤ claim_of r w k v
-    best k u v e = elim (inherits k v) [
+    best : (k u v : ℕ) → cells k v ≡ cell.Primary → 0 < claim_of r w k u → 0 < claim_of r w k v
+    best k u v e some = elim (inherits k v) [
       | inl h ↦ (let x = claim_is k u in let y = claim_is k v in let z = none_better k u v h.0 in omega arith)
       | inr h ↦ absurd (left_no_primary (told k v) (sym h.1 ∙ e))
     ]

@@ -24,7 +24,7 @@ use Rattle.sm_reopening.specs.States.{FitsShards, fits_told, fresh_state, is_gon
 use Rattle.sm_reopening.specs.Ongoing.{first_awaited, is_waited_for, is_complete, left_out_of, may_carry, told_copies, past_state, recorded_place, recorded_setup, net_reopening, shards_of, inventory_slot, told_slot}
 use Rattle.sm_reopening.specs.Survivors.{standing_of, stands_above}
 use Rattle.sm_reopening.specs.Faults.{IsFairAt, IsFairCell, IsFairSlot, IsTimely, KeepsSlot, MayConfirm, is_appointed, is_barred}
-use Rattle.sm_reopening.proofs.Standings.{below_claim}
+use Rattle.sm_reopening.proofs.Standings.{below_claims}
 
 -- a server past all numbers is as one that has told nothing
 state_past : (x : OngoingReopening) (v : ℕ) → length x.servers.items ≤ v → state_by x.servers.items v ≡ fresh_state Member
@@ -129,7 +129,7 @@ may_confirm x s ready timely fair =
         carried = λ k v e. (fair k v).0.carried e;
         down = timely.down;
         lost = λ k v e. (fair k v).0.lost e;
-        claims = λ k u v e. below_claim (standing_of x k u) (standing_of x k v) ((fair k v).0.best e u);
+        claims = λ k u v e some. below_claims (standing_of x k u) (standing_of x k v) ((fair k v).0.best e u) some;
         handed = λ k v cells reached e h. (fair k v).1.handed (record { cell = cells k; copy = told_copies x k v; reached = reached k }) (ap (λ t. inventory_slot t (told_copies x k v) k) e) h;
       };
       best = λ k u v e. (fair k v).0.best e u;

@@ -5,12 +5,12 @@ use Rattle.std.specs.List.{range_with_len}
 use Rattle.std.proofs.lemmas.Bool.{and_from, cases_Bool, cases_eq, cases_lt, lt-ltb}
 use Rattle.laws_network.specs.Reopening.{Inventory, Server}
 use Rattle.laws_network.specs.ReopeningLaws.{claim, claim_told}
-use Rattle.sm_copies.specs.Order.{is_greater}
 use Rattle.sm_reopening.specs.declared.ongoing.OngoingReopening.{OngoingReopening}
 use Rattle.sm_reopening.specs.declared.survivors.Standing.{Standing}
+use Rattle.sm_copies.specs.declared.order.ToldCopy.{ToldCopy}
 use Rattle.sm_reopening.specs.Ongoing.{recorded_place, net_reopening}
 use Rattle.sm_reopening.specs.Survivors.{HasNoSurvivor, IsSuccessorOf, successor_of, is_best, standing_of, stands_above}
-use Rattle.sm_reopening.proofs.Standings.{above_all, above_means, below_claim, not_above, not_above_itself, not_greater, still_below}
+use Rattle.sm_reopening.proofs.Standings.{above_all, above_claims, below_claims, none_above, not_above, not_above_itself, still_below}
 use Rattle.std.proofs.lemmas.List.{get_or_past}
 use Rattle.sm_placement.specs.Opening.{first_below}
 use Rattle.sm_placement.proofs.Searches.{cases_Option, find_filter, first_listed, first_none, first_none_from}
@@ -47,13 +47,14 @@ better_next x s i successor best new e view position b above = record {
 }
   where
     has_claim : (o : Option ℕ) → successor ≡ o → 0 < new.claim
-    has_claim None h = let a = b.nobody h in let n = b.nothing h in elim (above_means new best above) [
-      | inl l ↦ omega arith
-      | inr m ↦
-          let less : is_greater new.copy best.copy ≡ false = ap (is_greater new.copy) a ∙ not_greater new.copy _ view position in
-          absurd (let z = sym less ∙ m.1 in cc)
+    has_claim None h = let n = b.nothing h in elim (cases_lt 0 new.claim) [
+      | inl some ↦ some
+      | inr none ↦
+          let views : new.copy.view ≤ best.copy.view = subst (λ (c : ToldCopy). new.copy.view ≤ c.view) (sym (b.nobody h)) view in
+          let positions : new.copy.position ≤ best.copy.position = subst (λ (c : ToldCopy). new.copy.position ≤ c.position) (sym (b.nobody h)) position in
+          absurd (let z = sym (not_above new best (omega arith) views positions) ∙ above in cc)
     ]
-    has_claim (Some u) h = let a = b.claims u h in elim (above_means new best above) [ inl l ↦ omega arith | inr m ↦ let p = m.0 in omega arith ]
+    has_claim (Some u) h = above_claims new best above (b.claims u h)
 
 -- one more server, which does not
 pub same_next : (x : OngoingReopening) (s i : ℕ) (successor : Option ℕ) (best : Standing) → IsBestBelow x s i successor best → stands_above (standing_of x s i) best ≡ false → IsBestBelow x s (i + 1) successor best
@@ -83,7 +84,7 @@ inherits x s u successor best b e = let here = b.standing u e in record {
     | inr l ↦
         let none = no_claim_past x s v l in
         let some : 0 < (standing_of x s u).claim = subst (λ (t : Standing). 0 < t.claim) here (b.claims u e) in
-        not_above (standing_of x s v) (standing_of x s u) (omega arith) (λ q. absurd (omega arith))
+        none_above (standing_of x s v) (standing_of x s u) (omega arith) some
   ];
   first = λ v l. subst (λ (t : Standing). stands_above t (standing_of x s v) ≡ true) here (b.first u v e l);
 }
@@ -94,7 +95,10 @@ none_inherits x s successor best b = (none_there, nobody_there successor refl)
   where
     none_there : successor ≡ None → HasNoSurvivor x s
     none_there e v = elim (cases_lt v (length x.servers.items)) [
-      | inl l ↦ let c = below_claim (standing_of x s v) best (b.best v l) in let n = b.nothing e in omega arith
+      | inl l ↦ elim (cases_lt 0 (standing_of x s v).claim) [
+        | inl some ↦ absurd (let c = below_claims (standing_of x s v) best (b.best v l) some in let n = b.nothing e in omega arith)
+        | inr none ↦ omega arith
+      ]
       | inr l ↦ no_claim_past x s v l
     ]
 
@@ -109,8 +113,9 @@ none_better x s v none u = elim (cases_lt u (length x.servers.items)) [
   | inr l ↦
       let claim = no_claim_past x s u l in
       let copy : (standing_of x s u).copy ≡ no_copy = ap (λ (t : ServerState). told_copy t.told s) (get_or_past x.servers.items u (fresh_state Member) l) in
-      not_above (standing_of x s u) (standing_of x s v) (omega arith)
-      (λ q. ap (λ c. is_greater c (standing_of x s v).copy) copy ∙ not_greater no_copy (standing_of x s v).copy (omega arith) (omega arith))
+      let view : (standing_of x s u).copy.view ≡ 0 = ap (λ (c : ToldCopy). c.view) copy in
+      let position : (standing_of x s u).copy.position ≡ 0 = ap (λ (c : ToldCopy). c.position) copy in
+      not_above (standing_of x s u) (standing_of x s v) (omega arith) (omega arith) (omega arith)
 ]
 
 -- one server inherits at most

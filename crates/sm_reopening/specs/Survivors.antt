@@ -1,7 +1,6 @@
 -- The successors of a shard: the survivors, by what they told or are recorded to have.
 -- `slot_claim` is internal: you need not read it for the public contracts.
-use Rattle.std.specs.Prelude.{◌≡◌, ◌<◌, ℕ, ◌&&◌, ◌||◌, ◌==◌, Bool, true, false, Option, Some, None, is_none, nat_lt}
-use Rattle.sm_copies.specs.Order.{is_greater}
+use Rattle.std.specs.Prelude.{◌≡◌, ◌<◌, ℕ, ◌&&◌, ◌||◌, ◌==◌, Bool, true, false, Option, Some, None, if◌then◌else◌, is_none, nat_lt}
 use Rattle.sm_placement.specs.Opening.{first_below}
 use Rattle.laws_network.specs.ReopeningLaws.{claim, claim_of}
 use Rattle.sm_reopening.specs.declared.ongoing.OngoingReopening.{OngoingReopening}
@@ -9,9 +8,24 @@ use Rattle.sm_reopening.specs.declared.survivors.Standing.{Standing}
 use Rattle.sm_reopening.specs.Ongoing.{told_copies, past_state, net_reopening}
 use Rattle.sm_reopening.specs.declared.party.FoundSlot.{FoundSlot}
 
--- The first stands above the second: it has a better claim, or an equal one with the greater copy.
+-- The rank of a claim, which counts before copies do: a primary stays, and who has something comes before who has nothing.
+abbrev pub rank_of : ℕ → ℕ
+rank_of claim = if nat_lt 3 claim then 2 else if nat_lt 0 claim then 1 else 0
+
+-- The first number is greater, or it is the same and this decides.
+abbrev pub exceeds : ℕ → ℕ → Bool → Bool
+exceeds a b deeper = nat_lt b a || ((a == b) && deeper)
+
+-- Of two copies of one view the first is longer, or as long with the better claim. View 0 is that of who tells none: there the claim comes
+-- first, since the longer list may be one that a former primary went on with alone.
+abbrev pub has_more_in_view : Standing → Standing → Bool
+has_more_in_view a b =
+    if a.copy.view == 0 then exceeds a.claim b.claim (nat_lt b.copy.position a.copy.position)
+    else exceeds a.copy.position b.copy.position (nat_lt b.claim a.claim)
+
+-- The first stands above the second: by its rank; of two of the same rank by the view of its copy; and in one view by what is said above.
 abbrev pub stands_above : Standing → Standing → Bool
-stands_above a b = nat_lt b.claim a.claim || ((a.claim == b.claim) && is_greater a.copy b.copy)
+stands_above a b = exceeds (rank_of a.claim) (rank_of b.claim) (exceeds a.copy.view b.copy.view (has_more_in_view a b))
 
 -- the claim that what was told of a shard gives
 abbrev pub slot_claim : Option FoundSlot → ℕ

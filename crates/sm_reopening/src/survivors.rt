@@ -1,40 +1,67 @@
 //! Survivors: who inherits a shard.
 ghost use Rattle.std.specs.Prelude.{◌≡◌, ◌<◌, ◌^◌, ◌↔◌, IfSome};
 ghost use Rattle.laws_network.specs.ReopeningLaws.{claim};
-ghost use Rattle.sm_copies.specs.Order.{is_greater};
 ghost use Rattle.sm_reopening.specs.States.{slot_in};
 ghost use Rattle.sm_reopening.specs.Ongoing.{told_copies, recorded_place, told_slot};
-ghost use Rattle.sm_reopening.specs.Survivors.{HasNoSurvivor, IsSuccessorOf, slot_claim, standing_of, stands_above};
+ghost use Rattle.sm_reopening.specs.Survivors.{HasNoSurvivor, IsSuccessorOf, exceeds, has_more_in_view, rank_of};
+ghost use Rattle.sm_reopening.specs.Survivors.{slot_claim, standing_of, stands_above};
 
 use crate::ongoing::OngoingReopening;
 use crate::party::{FoundSlot, Inventory, NO_COPY};
-use sm_copies::{ToldCopy, compare};
+use sm_copies::ToldCopy;
 use sm_server::{Cell, ServerId, ShardId};
-use std::cmp::Ordering;
 
 /// The claim of a server to inherit a shard.
 #[derive(Clone, Copy, Debug, PartialEq, Eq)]
 pub struct Standing {
-    /// The rank of its claim, 0 for none.
+    /// Its claim by its role, 0 for none.
     pub claim: u8,
-    /// Its copy of the shard, which decides between equal claims.
+    /// Its copy of the shard, which decides unless it is the primary.
     pub copy: ToldCopy,
 }
 
-/// Whether the first copy is greater.
-fn is_greater(one: &ToldCopy, other: &ToldCopy) -> bool
-    ensures { result ≡ is_greater one.now other.now }
+/// Whether the first number is greater, or it is the same and this decides.
+fn exceeds(one: u64, other: u64, deeper: bool) -> bool
+    ensures { result ≡ exceeds one other deeper }
 {
-    compare(one, other) == Ordering::Greater
+    one > other || (one == other && deeper)
+}
+
+/// The rank of a claim, which counts before copies do.
+fn rank_of(claim: u8) -> u64
+    ensures { result ≡ rank_of claim }
+{
+    if claim > 3 {
+        2
+    } else if claim > 0 {
+        1
+    } else {
+        0
+    }
 }
 
 impl Standing {
-    /// Whether this one stands above another one.
+    /// Whether this one has the longer copy of the view that both have, or as long a one and the better claim. Where no
+    /// view is told (0), the claim comes first.
+    fn has_more_in_view(&self, other: &Standing) -> bool
+        ensures { result ≡ has_more_in_view self.now other.now }
+    {
+        let is_longer = self.copy.position > other.copy.position;
+        let has_claim = self.claim > other.claim;
+        if self.copy.view == 0 {
+            return exceeds(self.claim as u64, other.claim as u64, is_longer);
+        }
+        exceeds(self.copy.position, other.copy.position, has_claim)
+    }
+
+    /// Whether this one stands above another one: a primary above all others, then the later view, and then whoever has
+    /// more; who has nothing stands below.
     pub(crate) fn is_above(&self, other: &Standing) -> bool
         ensures { result ≡ stands_above self.now other.now }
     {
-        self.claim > other.claim
-            || (self.claim == other.claim && is_greater(&self.copy, &other.copy))
+        let more = self.has_more_in_view(other);
+        let later = exceeds(self.copy.view, other.copy.view, more);
+        exceeds(rank_of(self.claim), rank_of(other.claim), later)
     }
 }
 
