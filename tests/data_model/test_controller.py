@@ -118,7 +118,7 @@ class Losses(unittest.TestCase):
         above = Told(BASE_STEP, 4)
         for slot in (SlotFound(SECONDARY, above, None, False), SlotFound(SECONDARY, None, above, False)):
             refused = controller.apply(Fenced(1, BASE_STEP, Inventory((slot,)))).reply
-            self.assertEqual(refused, Refused("EpochTooLow", server=1))
+            self.assertEqual(refused, Refused("Number", server=1))
 
     def test_a_journal_gives_the_same_controller(self):
         play = Play(SOUND, TWO, want=2, copies=2)

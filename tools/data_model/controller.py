@@ -232,7 +232,7 @@ class Controller(base.Controller):
         """Takes the first answer of a server to the fence."""
         reopening = self.need_reopening(command.base)
         if self.rules.views_below and reopening.is_above(command.found):
-            raise refuse("EpochTooLow", server=command.server)
+            raise refuse("Number", server=command.server)
         return super().fenced(command)
 
     def confirm(self, command: Confirm) -> Outcome:

@@ -150,6 +150,14 @@ def slot_faults(value: Json, place: str, needed: dict[str, tuple[str, ...]]) -> 
         yield from by_name(own_faults("slots", rows, entry, inner), inner)
 
 
+def view_faults(value: Json) -> Iterator[Fault]:
+    """Yields the faults of views at a fence: a copy did not begin by a later reopening."""
+    for entry, inner in entries(value, "slots", "$"):
+        if entry.get("view", 0) >= value["base"]:
+            words = f"{entry['view']} is not below {value['base']}, the reopening's base"
+            yield from by_name([Fault(FaultKind.NUMBER, "view", f"{inner}.view", words)], inner)
+
+
 def chosen_faults(value: Json, place: str, known: Names) -> Iterator[Fault]:
     """Yields the faults of the cells that are to be settled."""
     rows = [one("shard", known.shard), one("cells", keyed("server"))]
@@ -287,3 +295,5 @@ def read(line: bytes, known: Known) -> Json:
 def read_inside(command: Json, known: Known) -> None:
     """Looks at the objects inside a command. Raises `BadLine` if one has a fault."""
     refuse_bad(inner_faults(command, known), command.get("id"))
+    if command["do"] == "fenced":
+        refuse_bad(view_faults(command), command.get("id"))

@@ -1,12 +1,11 @@
 -- What comes of lines on a reopening: what has counted is what was asked for, and all else changes nothing.
-use Rattle.std.proofs.Common.{◌≡◌, ◌∙◌, ◌⊎◌, ◌↔◌, ℕ, Bool, true, false, Bor, List, Option, Some, None, ap, inl, inr, refl, subst, sym}
+use Rattle.std.proofs.Common.{◌≡◌, ◌∙◌, ◌⊎◌, ℕ, true, false, Bor, List, Option, Some, None, ap, inl, inr, refl, subst, sym}
 use Rattle.std.specs.Prelude.{is_some}
 use Rattle.json_tree.specs.declared.tree.Tree.{Tree}
-use Rattle.laws_network.specs.Reopening.{Inventory, Party, Told, Took, entered, is_first}
+use Rattle.laws_network.specs.Reopening.{Party}
 use Rattle.laws_network.specs.ReopeningLaws.{AllTook}
 use Rattle.sm_reopening.specs.Ongoing.{net_reopening}
-use Rattle.sm_reopening.specs.Settles.{is_due_settle}
-use Rattle.smpland_reopening.specs.Reopening.{IsUnder, ReopeningModel}
+use Rattle.smpland_reopening.specs.Reopening.{ReopeningModel}
 use Rattle.smpland_lines.specs.declared.command.InventoryText.{InventoryText}
 use Rattle.smpland_reopening_lines.specs.Outcomes.{DoesConfirm, DoesFenced, DoesFencedOf, DoesOf, DoesSettled, DoesSettledOf, has_counted}
 use Rattle.smpland_reopening_lines.specs.Taken.{ConfirmsAt, TakesFenced, TakesSettledBy, TakesSettledOf, TakesToldBy, party_named}

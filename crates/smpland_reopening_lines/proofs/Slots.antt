@@ -1,8 +1,9 @@
 -- Slots as rows tell them, one after the other.
 use Rattle.std.proofs.Common.{◌≡◌, ◌∙◌, ◌⊎◌, ◌↔◌, ◌+◌, ◌<◌, ◌++◌, ◌∷◌, [], ℕ, Bool, true, false, List, Option, Some, None, ap, ap₂, get_or, inl, inr, length, refl, subst, sym, take}
-use Rattle.std.specs.Prelude.{option_and_then, unwrap_or, if◌then◌else◌, All, is_some}
+use Rattle.std.specs.List.{list_all}
+use Rattle.std.specs.Prelude.{◌&&◌, option_and_then, nat_lt, unwrap_or, if◌then◌else◌, All, is_some}
 use Rattle.std.specs.Option.{option_map_or, option_or}
-use Rattle.std.proofs.lemmas.Bool.{eq-eqb, ne_eqb}
+use Rattle.std.proofs.lemmas.Bool.{and_parts, eq-eqb, ltb-true, ne_eqb}
 use Rattle.std.proofs.lemmas.List.{take_more}
 use Rattle.std.proofs.lemmas.List.Elements.{All-head, All-tail}
 use Rattle.serde_json.specs.Data.{Data}
@@ -19,22 +20,21 @@ use Rattle.smpland_reopening.specs.Reopening.{IsUnder, ReopeningModel}
 use Rattle.smpland_lines.specs.declared.command.InventoryText.{InventoryText}
 use Rattle.smpland_lines.specs.declared.command.InventoryText.TheVariants as text
 use Rattle.sm_copies.specs.declared.order.ToldCopy.{ToldCopy}
-use Rattle.sm_reopening.specs.States.{net_inventory, no_copy, no_slot, slot_in, told_copy}
+use Rattle.sm_reopening.specs.States.{net_inventory, no_copy, no_slot, told_copy}
 use Rattle.sm_reopening.specs.declared.party.Inventory.{Inventory as Told}
 use Rattle.sm_reopening.specs.declared.party.Inventory.TheVariants as told
 use Rattle.sm_reopening.specs.declared.party.FoundSlot.{FoundSlot}
 use Rattle.smpland_lines.specs.Slots.{IsSlotFor, TellSlots, TellsParty, TellsSlot, is_handover, is_named}
-use Rattle.smpland_lines.specs.Values.{text_at, truth_at, whole_at}
+use Rattle.smpland_lines.specs.Values.{whole_at}
 use Rattle.smpland_lines.specs.declared.command_member.CommandMember.TheVariants as at
 use Rattle.smpland_lines.specs.declared.slots.CellKind.{CellKind}
 use Rattle.smpland_lines.specs.declared.slots.CellKind.TheVariants as kind
 use Rattle.smpland_lines.specs.declared.slots.PartyText.{PartyText}
 use Rattle.smpland_lines.specs.declared.slots.PartyText.TheVariants.{Missing, Null, Name}
-use Rattle.smpland_lines.specs.declared.slots.SlotNeeds.{SlotNeeds}
 use Rattle.smpland_lines.specs.declared.slots.SlotNeeds.TheVariants as needs
 use Rattle.smpland_lines.specs.declared.slots.SlotText.{SlotText}
-use Rattle.smpland_reopening_lines.specs.Slots.{AreSlotsOf, IsCellOf, IsPartyOf, IsSlotOf, IsToldByRow, cell_by, cell_told, is_row_of, is_text_of, last_with, party_told, slot_by, slot_told}
-use Rattle.smpland_reopening_lines.specs.Taken.{IsToldAs, KeepsCopies, ListsSlots, TakesToldBy}
+use Rattle.smpland_reopening_lines.specs.Slots.{AreSlotsOf, IsCellOf, IsPartyOf, IsSlotOf, IsToldByRow, cell_by, copy_said, is_row_of, is_text_of, last_with, party_told, slot_by, slot_told}
+use Rattle.smpland_reopening_lines.specs.Taken.{BeganBelow, IsToldAs, KeepsCopies, ListsSlots, TakesToldBy}
 use Rattle.smpland_reopening_lines.specs.Told.{HasEachSlot}
 
 -- ---- the last of a list's items
@@ -164,6 +164,40 @@ lists_told numbering found rows slots items inventory same is tell needed has =
         subst (λ slot. IsToldByRow numbering (last_with (is_row_of numbering s) rows) slot) (sym (has s)) (slots_are numbering rows slots tell needed s)
     by_kind (told.Unknown nonce) has = absurd has
 
+-- ---- views
+
+-- what passes a test that all pass, passes it
+last_passes : {A : Type 0} (p q : A → Bool) (xs : List A) (x : A) → list_all q xs ≡ true → last_with p xs ≡ Some x → q x ≡ true
+last_passes {A = A} p q [] x all is = absurd (let z = is in cc)
+last_passes {A = A} p q (y ∷ xs) x all is = by_rest (last_with p xs) refl (λ e. last_passes p q xs x parts.1 e)
+  where
+    parts : (q y ≡ true) × (list_all q xs ≡ true)
+    parts = and_parts (q y) (list_all q xs) all
+
+    by_test : (b : Bool) → (if b then Some y else None) ≡ Some x → q x ≡ true
+    by_test true same = subst (λ z. q z ≡ true) (cc) parts.0
+    by_test false same = absurd (let z = same in cc)
+
+    -- what comes last, with a rest that has this last one
+    last_of : (o : Option A) → last_with p xs ≡ o → option_or o (if p y then Some y else None) ≡ Some x
+    last_of o e = sym (ap (λ r. option_or r (if p y then Some y else None)) e) ∙ is
+
+    by_rest : (o : Option A) → last_with p xs ≡ o → (last_with p xs ≡ Some x → q x ≡ true) → q x ≡ true
+    by_rest (Some z) e rest = rest (e ∙ last_of (Some z) e)
+    by_rest None e rest = by_test (p y) (last_of None e)
+
+-- if each slot tells a copy that began below a number, so did the copy of each shard
+pub told_began_below : (numbering : Setup) (slots : List SlotText) (base : ℕ) (inventory : Told) → list_all (λ slot. nat_lt (copy_said slot).view base) slots ≡ true →
+    HasEachSlot (slot_by numbering slots) inventory → (s : ℕ) → BeganBelow base (told_copy (Some inventory) s)
+told_began_below numbering slots base (told.Unknown nonce) all has s = absurd has
+told_began_below numbering slots base (told.Slots found) all has s =
+    subst (λ (c : ToldCopy). BeganBelow base c) (sym (ap (λ (slot : FoundSlot). slot.copy) (has s))) (by_last (last_with (is_text_of numbering s) slots) refl)
+  where
+    by_last : (o : Option SlotText) → last_with (is_text_of numbering s) slots ≡ o → BeganBelow base (option_map_or (slot_told numbering) o no_slot).copy
+    by_last None e = inl refl
+    by_last (Some slot) e =
+        inr (ltb-true (copy_said slot).view base (last_passes (is_text_of numbering s) (λ slot. nat_lt (copy_said slot).view base) slots slot all e))
+
 -- ---- what a server has told once it is taken
 
 -- what is told stays so under the same names, with the same copies
@@ -226,17 +260,25 @@ not_old effect (inr is) old = absurd (let e : effects.Complete ≡ effects.Old =
 pub takes_told : (told : InventoryText) (v base : ℕ) (inventory : Told) (old new : ReopeningModel)
     (effect : FencedEffect) →
     IsToldAs old.numbering told (net_inventory inventory) (told_copy (Some inventory)) →
+    ((s : ℕ) → BeganBelow base (told_copy (Some inventory) s)) →
     ((effect ≡ effects.Old) ↔ (is_first (net_reopening old.ongoing) (Server v) base ≡ false)) → (effect ≡ effects.Old → ⊥) →
     net_reopening new.ongoing ≡ entered (ToldAt (Server v) base (net_inventory inventory)) (net_reopening old.ongoing) →
     told_copies new.ongoing ≡ copies_after old.ongoing v base inventory → IsUnder old new → new.next ≡ old.next → TakesToldBy (Server v) base told old new
-takes_told told v base inventory old new effect is first counts taken copies under next =
+takes_told told v base inventory old new effect is below first counts taken copies under next =
     let once = first_time (is_first (net_reopening old.ongoing) (Server v) base) (λ f. counts (first.1 f)) in (
       net_inventory inventory,
       told_still old.numbering new.numbering told (net_inventory inventory) (told_copy (Some inventory)) (λ s. told_copies new.ongoing s v) under.numbering
           (copy_is old.ongoing new.ongoing v base inventory once copies) is,
-      record { first = once; taken = taken; copies = told_keeps old.ongoing new.ongoing v base inventory once copies; under = under; next = next },
+      record { first = once; taken = taken; copies = told_keeps old.ongoing new.ongoing v base inventory once copies; below = began once; under = under; next = next },
     )
   where
+    one_server : (a b : ℕ) → Server a ≡ Server b → b ≡ a
+    one_server a b is = cc
+
+    began : is_first (net_reopening old.ongoing) (Server v) base ≡ true → (s u : ℕ) → Server v ≡ Server u → BeganBelow base (told_copies new.ongoing s u)
+    began once s u same = subst (λ (c : ToldCopy). BeganBelow base c)
+        (sym (ap (λ w. told_copies new.ongoing s w) (one_server v u same) ∙ copy_is old.ongoing new.ongoing v base inventory once copies s)) (below s)
+
     first_time : (b : Bool) → (b ≡ false → ⊥) → b ≡ true
     first_time true not = refl
     first_time false not = absurd (not refl)

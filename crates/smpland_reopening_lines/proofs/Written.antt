@@ -7,7 +7,7 @@ use Rattle.std.proofs.lemmas.List.FromFn.{map-range_with_len_more}
 use Rattle.json.specs.Token.{Token}
 use Rattle.sm_placement.specs.Place.{Place}
 use Rattle.sm_placement.specs.Setup.{Setup}
-use Rattle.laws_network.specs.Reopening.{Message, Settle, Settlement}
+use Rattle.laws_network.specs.Reopening.{Message, Settlement}
 use Rattle.sm_reopening.specs.Ongoing.{net_reopening}
 use Rattle.sm_reopening.specs.Settles.{net_party, settle_messages, settle_sent, what_settles}
 use Rattle.sm_reopening.specs.declared.party.Party.{Party}

@@ -1,4 +1,4 @@
--- What may be confirmed, as a reply tells it.
+-- The proposal in replies: the replicas, the shards that may be lost, the floors that are not met, and the servers that stay as recorded.
 use Rattle.std.specs.Prelude.{◌≡◌, ℕ, List, [], ◌∷◌, ◌++◌, Option, Some, None, codes, length}
 use Rattle.std.specs.List.{flat_map, range_with_len}
 use Rattle.json.specs.Token.{Token, string}

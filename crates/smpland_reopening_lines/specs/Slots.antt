@@ -1,4 +1,4 @@
--- The slots that a server tells at a fence: what rows tell, by the names that have numbers.
+-- A server's slots as it tells them at a fence: the slot of each shard is what the row with the shard's name tells.
 -- `party_told`, `cell_by`, `cell_told`, `copy_said`, `slot_told`, `is_text_of` and `slot_by` are internal: you need not read them for the public contracts.
 use Rattle.std.specs.Prelude.{◌≡◌, ℕ, Bool, List, [], ◌∷◌, Option, Some, None, false, option_and_then, unwrap_or, if◌then◌else◌}
 use Rattle.std.specs.Option.{option_map_or, option_or}
@@ -99,7 +99,7 @@ cell_told numbering slot = cell_by slot.cell (party_told numbering slot.party) (
 abbrev pub copy_said : SlotText → ToldCopy
 copy_said slot = record { view = unwrap_or slot.view 0; position = unwrap_or slot.position 0 }
 
--- what a slot tells
+-- the slot that a row tells
 abbrev pub slot_told : Setup → SlotText → FoundSlot
 slot_told numbering slot =
     record { cell = cell_told numbering slot; copy = copy_said slot; reached = unwrap_or slot.reached false }

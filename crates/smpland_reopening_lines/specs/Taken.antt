@@ -1,5 +1,5 @@
 -- The effects of lines on a reopening.
-use Rattle.std.specs.Prelude.{◌≡◌, ◌≢◌, ℕ, List, [], Option, Some, None, map, option_and_then, option_map, true, unwrap_or}
+use Rattle.std.specs.Prelude.{◌≡◌, ◌≢◌, ◌<◌, ◌⊎◌, ℕ, List, [], Option, Some, None, map, option_and_then, option_map, true, unwrap_or}
 use Rattle.std.specs.Borrow.{Bor}
 use Rattle.json_tree.specs.declared.tree.Tree.{Tree}
 use Rattle.sm_server.specs.declared.call.Role.{Role}
@@ -28,11 +28,16 @@ pub record KeepsCopies (party : Party) (inventory : Inventory) (old new : ℕ �
   pub others : (s v : ℕ) → party ≢ Server v → new s v ≡ old s v
   pub unknown : (s v nonce : ℕ) → party ≡ Server v → inventory ≡ Unknown nonce → new s v ≡ no_copy
 
--- A party has told what it has, for the first time at the fence with this base.
+-- a copy that is told began below this number; one of view 0 is of no list that a reopening or an order began
+abbrev pub BeganBelow : ℕ → ToldCopy → Type 0
+BeganBelow base copy = (copy.view ≡ 0) ⊎ (copy.view < base)
+
+-- A party has told what it has, for the first time at the fence with this base: copies that began below it.
 pub record TakesToldOf (party : Party) (base : ℕ) (inventory : Inventory) (old new : ReopeningModel) : Type 0 where
   pub first : is_first (net_reopening old.ongoing) party base ≡ true
   pub taken : net_reopening new.ongoing ≡ entered (Told party base inventory) (net_reopening old.ongoing)
   pub copies : KeepsCopies party inventory (told_copies old.ongoing) (told_copies new.ongoing)
+  pub below : (s v : ℕ) → party ≡ Server v → BeganBelow base (told_copies new.ongoing s v)
   pub under : IsUnder old new
   pub next : new.next ≡ old.next
 

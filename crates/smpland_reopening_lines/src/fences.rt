@@ -18,7 +18,7 @@ pub(crate) fn party_name<'r>(reopening: &'r DocumentReopening, party: Party) -> 
     }
 }
 
-/// Writes to whom a message goes, and in which reopening of which journal.
+/// Writes the head of a message to a party: the party, and the journal and the base of the reopening.
 pub(crate) fn write_head(
     writer: &mut Writer,
     reopening: &DocumentReopening,

@@ -51,19 +51,25 @@ fn refuse_missing(
     }
 }
 
-/// Writes what is wrong with the cell of a shard at a server.
+/// The place of a cell: a shard, and a server.
+#[derive(Clone, Copy)]
+struct CellPlace {
+    shard: ShardId,
+    server: ServerId,
+}
+
+/// Writes what is wrong with a cell.
 fn refuse_cell(
     writer: &mut Writer,
     alloc: Global,
     numbering: &Config,
     kind: &str,
-    shard: ShardId,
-    server: ServerId,
+    at: CellPlace,
 ) -> Result<(), AllocError>
     ensures { OnOk result (TellsRefused writer.old.tokens writer.new.tokens) }
 {
-    let shard = Field::Name("shard", shard_name(numbering, shard));
-    let server = Field::Name("server", server_name(numbering, server));
+    let shard = Field::Name("shard", shard_name(numbering, at.shard));
+    let server = Field::Name("server", server_name(numbering, at.server));
     refuse(writer, alloc, kind, &[shard, server])
 }
 
@@ -86,22 +92,28 @@ fn refuse_cells(
             refuse(writer, alloc, "CarriedUp", &[server])
         }
         ConfirmFault::CarriedOver { shard, server } => {
-            refuse_cell(writer, alloc, numbering, "CarriedOver", shard, server)
+            let at = CellPlace { shard, server };
+            refuse_cell(writer, alloc, numbering, "CarriedOver", at)
         }
         ConfirmFault::AtLost { shard, server } => {
-            refuse_cell(writer, alloc, numbering, "AtLost", shard, server)
+            let at = CellPlace { shard, server };
+            refuse_cell(writer, alloc, numbering, "AtLost", at)
         }
         ConfirmFault::StillThere { shard, server } => {
-            refuse_cell(writer, alloc, numbering, "StillThere", shard, server)
+            let at = CellPlace { shard, server };
+            refuse_cell(writer, alloc, numbering, "StillThere", at)
         }
         ConfirmFault::Primary { shard, server } => {
-            refuse_cell(writer, alloc, numbering, "Primary", shard, server)
+            let at = CellPlace { shard, server };
+            refuse_cell(writer, alloc, numbering, "Primary", at)
         }
         ConfirmFault::Moved { shard, server } => {
-            refuse_cell(writer, alloc, numbering, "Moved", shard, server)
+            let at = CellPlace { shard, server };
+            refuse_cell(writer, alloc, numbering, "Moved", at)
         }
         ConfirmFault::LowerChoice { shard, server } => {
-            refuse_cell(writer, alloc, numbering, "LowerChoice", shard, server)
+            let at = CellPlace { shard, server };
+            refuse_cell(writer, alloc, numbering, "LowerChoice", at)
         }
         ConfirmFault::NoPrimary { shard } => {
             let shard = Field::Name("shard", shard_name(numbering, shard));

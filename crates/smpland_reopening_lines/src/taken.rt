@@ -1,5 +1,5 @@
 //! The lines that a reopening takes once it has begun.
-ghost use Rattle.std.specs.Prelude.{◌≡◌, IfOk, List, Some, map, option_map, true};
+ghost use Rattle.std.specs.Prelude.{◌≡◌, ℕ, IfOk, List, Some, map, option_map, true};
 ghost use Rattle.json_tree.specs.View.{items_view};
 ghost use Rattle.json_tree.specs.declared.tree.Tree.{Tree};
 ghost use Rattle.smpland_lines.specs.Choices.{AreChoicesSaid};
@@ -10,17 +10,18 @@ ghost use Rattle.sm_reopening.specs.Ongoing.{net_reopening, shards_of};
 ghost use Rattle.sm_reopening.specs.Settles.{net_party};
 ghost use Rattle.smpland_reopening_lines.specs.Outcomes.{DoesConfirm, DoesFenced, DoesFencedOf, DoesSettled};
 ghost use Rattle.smpland_reopening_lines.specs.Outcomes.{DoesSettledOf};
-ghost use Rattle.smpland_reopening_lines.specs.Taken.{IsToldAs, choice_made, choice_said, party_named};
+ghost use Rattle.smpland_reopening_lines.specs.Taken.{BeganBelow, IsToldAs, choice_made, choice_said, party_named};
 ghost use Rattle.smpland_reopening_lines.specs.Taken.{replica_said, shard_told};
 
 use crate::outcome::ReopeningOutcome;
-use crate::told::{Told, told_by_slots, told_unknown};
+use crate::told::{Told, began_below, first_later, told_by_slots, told_unknown};
 use json_tree::Tree;
 use sm_placement::Config;
 use sm_reopening::{FencedEffect, Party, SettledEffect};
 use sm_server::{Role, ServerId, ShardId};
 use smpland_lines::{
-    BadLine, CellChoice, InventoryText, ShardChoice, SlotNeeds, read_choices, read_slots,
+    BadLine, CellChoice, CommandMember, InventoryText, ShardChoice, SlotNeeds, read_choices,
+    read_slots,
 };
 use smpland_reopening::{Choice, ConfirmRefusal, DocumentReopening};
 use std::alloc::{AllocError, Global};
@@ -38,22 +39,32 @@ fn party_named(reopening: &DocumentReopening, server: Option<&str>) -> Option<Pa
     }
 }
 
-/// Returns what a server tells, or the fault of its line.
+/// Returns what a server tells at a fence with this base, or the fault of its line.
 fn read_told<'a>(
     alloc: Global,
     reopening: &DocumentReopening,
+    base: u64,
     told: InventoryText<'_, 'a>,
 ) -> Result<Result<Told, BadLine<'a>>, AllocError>
     ensures fits { IfOk result (λ read. IfOk read (λ t.
         fits_told (shards_of reopening.now.ongoing) (Some t.inventory) ≡ true)) }
     ensures said { IfOk result (λ read. IfOk read (λ t.
         IsToldAs reopening.now.numbering told.entry (net_inventory t.inventory) (told_copy (Some t.inventory)))) }
+    ensures below { IfOk result (λ read. IfOk read (λ t.
+        (s : ℕ) → BeganBelow base (told_copy (Some t.inventory) s))) }
 {
     let numbering = reopening.numbering();
     match told {
         InventoryText::Unknown { nonce } => Ok(Ok(told_unknown(alloc, nonce))),
         InventoryText::Slots(entries) => match read_slots(alloc, entries, SlotNeeds::Fence)? {
-            Ok(slots) => Ok(Ok(told_by_slots(alloc, numbering, slots.as_slice())?)),
+            Ok(slots) => {
+                let rows = slots.as_slice();
+                if !began_below(rows, base) {
+                    let later = first_later(rows, base);
+                    return Ok(Err(BadLine::Number(later, CommandMember::View)));
+                }
+                Ok(Ok(told_by_slots(alloc, numbering, rows)?))
+            }
             Err(bad) => Ok(Err(bad)),
         },
         InventoryText::Map => Ok(Ok(told_by_slots(alloc, numbering, &[])?)),
@@ -70,7 +81,7 @@ fn take_told<'a>(
 ) -> Result<ReopeningOutcome<'a>, AllocError>
     ensures { IfOk result (λ came. DoesFencedOf base told.entry (Server server) reopening.old came reopening.new) }
 {
-    match read_told(alloc, reopening, told)? {
+    match read_told(alloc, reopening, base, told)? {
         Ok(
             Told {
                 inventory,

@@ -1,15 +1,17 @@
 //! A server's account of its slots, as a reopening takes it.
-ghost use Rattle.std.specs.Prelude.{◌≡◌, ◌==◌, ◌<◌, ℕ, IfOk, OnOk, Some, if◌then◌else◌, length, true};
+ghost use Rattle.std.specs.List.{list_all};
+ghost use Rattle.std.specs.Prelude.{◌≡◌, ◌==◌, ◌<◌, ℕ, IfOk, OnOk, Some, if◌then◌else◌, length, nat_lt, true};
 ghost use Rattle.laws_network.specs.Reopening.{Unknown};
-ghost use Rattle.sm_reopening.specs.States.{fits_told, net_inventory, no_slot, slot_in};
+ghost use Rattle.sm_reopening.specs.States.{fits_told, net_inventory, no_slot, slot_in, told_copy};
 ghost use Rattle.smpland_reopening_lines.specs.Slots.{cell_told, copy_said, is_text_of, party_told, slot_by, slot_told};
+ghost use Rattle.smpland_reopening_lines.specs.Taken.{BeganBelow};
 ghost use Rattle.smpland_reopening_lines.specs.Told.{HasEachSlot};
 
 use sm_copies::ToldCopy;
 use sm_placement::Config;
 use sm_reopening::{FoundSlot, Inventory};
 use sm_server::{Cell, ServerId, ShardId};
-use smpland_lines::{CellKind, PartyText, SlotText};
+use smpland_lines::{CellKind, CommandMember, LinePart, PartyText, SlotText};
 use std::alloc::{AllocError, Global};
 
 /// A server's account: slots of shards that have numbers, and the names of other shards that it has.
@@ -33,7 +35,7 @@ fn party_of(numbering: &Config, party: PartyText<'_>) -> ServerId
     }
 }
 
-/// Returns the cell that a slot tells.
+/// The cell that a slot tells.
 fn cell_told(numbering: &Config, slot: &SlotText<'_>) -> Cell
     ensures { result ≡ cell_told numbering.now slot.now }
 {
@@ -63,7 +65,7 @@ fn copy_said(slot: &SlotText<'_>) -> ToldCopy
     }
 }
 
-/// What a slot tells.
+/// The slot that a row tells: its cell, its copy, and whether the cut is reached.
 fn slot_told(numbering: &Config, slot: &SlotText<'_>) -> FoundSlot
     ensures { result ≡ slot_told numbering.now slot.now }
 {
@@ -145,10 +147,28 @@ pub(crate) fn told_by_slots(
     })
 }
 
+/// Whether each copy that slots tell began below a reopening's base.
+pub(crate) fn began_below(slots: &[SlotText<'_>], base: u64) -> bool
+    ensures { result ≡ list_all (λ slot. nat_lt (copy_said slot).view base) slots.now }
+{
+    slots.iter().all(|slot| copy_said(slot).view < base)
+}
+
+/// The first slot whose copy did not begin below a base, as a part of its line.
+pub(crate) fn first_later(slots: &[SlotText<'_>], base: u64) -> LinePart {
+    for (place, slot) in slots.iter().enumerate() {
+        if copy_said(slot).view >= base {
+            return LinePart::Entry(CommandMember::Slots, place);
+        }
+    }
+    LinePart::Line
+}
+
 /// Returns what a server tells that has lost its slots.
 pub(crate) fn told_unknown(alloc: Global, nonce: u64) -> Told
     ensures fits { (shards : ℕ) → fits_told shards (Some result.inventory) ≡ true }
     ensures nonce { net_inventory result.inventory ≡ Unknown nonce }
+    ensures below { (base s : ℕ) → BeganBelow base (told_copy (Some result.inventory) s) }
 {
     Told {
         inventory: Inventory::Unknown { nonce },

@@ -1,6 +1,4 @@
-use Rattle.std.proofs.Common.{ap}
 use Rattle.smpland_lines.proofs.Written.{next}
-use Rattle.smpland_reopening_lines.specs.Progress.{progress_members}
 use Rattle.smpland_reopening_lines.proofs.progress.write_progress.Goals as goal
 
 pub returns : goal.returns

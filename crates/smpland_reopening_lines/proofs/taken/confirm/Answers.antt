@@ -1,7 +1,6 @@
-use Rattle.std.proofs.Common.{◌≡◌, ◌∙◌, ℕ, List, ap, map, refl, subst, sym}
+use Rattle.std.proofs.Common.{◌≡◌, ◌∙◌, ℕ, List, ap, map, refl, subst}
 use Rattle.sm_placement.specs.Setup.{Setup}
 use Rattle.smpland_reopening.specs.Proposal.{NamesLost}
-use Rattle.smpland_reopening.specs.declared.choice.Choice.{Choice}
 use Rattle.smpland_reopening_lines.specs.Taken.{choice_made, shard_told}
 use Rattle.smpland_reopening_lines.proofs.taken.confirm.Goals as goal
 

@@ -18,6 +18,7 @@ returns-in-Waiting c told =
         first = first_time (is_first (net_reopening c.args.reopening.now.ongoing) MapOwner c.args.base) (λ f. not_old _ c.in-Waiting.is (is.old.1 f));
         taken = is.reopening;
         copies = map_keeps Entries _ _ is.copies;
+        below = λ s v same. absurd (let z = same in cc);
         under = is.under;
         next = is.next;
       },
