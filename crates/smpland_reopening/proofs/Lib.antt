@@ -15,3 +15,4 @@ pub mod Awaited
 pub mod Written
 pub mod Settled
 pub mod Proposed
+pub mod Unknown

@@ -1,4 +1,5 @@
--- What a confirmation settles, by the reopening and an operator's choice.
+-- A settlement as an operator confirms it: its roles are those that were chosen, and servers are down that are recorded so or that the document
+-- calls so.
 use Rattle.std.specs.Prelude.{◌≡◌, ◌&&◌, ◌||◌, ℕ, Bool, List, Some, length, map, nat_lt, not, slice_get, slice_index_or}
 use Rattle.std.specs.List.{list_any}
 use Rattle.sm_placement.specs.Layout.{PlacementModel}

@@ -5,6 +5,7 @@ pub mod Faults
 pub mod Numbers
 pub mod Roles
 pub mod Told
+pub mod Unknown
 pub mod RoleGrids
 pub mod Reopening
 pub mod Begun

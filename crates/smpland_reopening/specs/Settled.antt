@@ -22,7 +22,7 @@ roles_within shards servers roles s v = if nat_lt s shards && nat_lt v servers t
 abbrev pub live_by : ℕ → RolesGiven → (ℕ → Bool) → ℕ → ℕ
 live_by servers roles down s = count_below servers (λ v. not (down v) && is_some (roles s v))
 
--- a shard whose floor is lowered to so many live replicas, if it is higher
+-- a shard with its floor lowered to this number of live replicas, where it is higher
 abbrev pub shard_with_live : ShardRow → ℕ → ShardRow
 shard_with_live row live = record row { cap = max row.cap (row.want - live) }
 

@@ -8,6 +8,7 @@ ghost use Rattle.sm_reopening.specs.Settles.{is_due_settle, net_party, settle_me
 ghost use Rattle.sm_reopening.specs.Settles.{what_settles};
 ghost use Rattle.smpland_reopening.specs.Reopening.{IsUnder};
 ghost use Rattle.smpland_reopening.specs.Told.{has_told_of};
+ghost use Rattle.smpland_reopening.specs.Unknown.{IsFirstUnknown};
 
 use crate::reopening::DocumentReopening;
 use crate::unknown_shard::UnknownShard;
@@ -26,6 +27,20 @@ fn note(
         unknown_shards.push(UnknownShard { server, shard })?;
     }
     Ok(())
+}
+
+/// The first shard that a server has and nobody knows, of the lowest server that has one.
+fn first_of_lowest(unknown_shards: &[UnknownShard]) -> Option<&UnknownShard>
+    ensures { IsFirstUnknown unknown_shards.now (option_map (λ first. first.now) result) }
+{
+    let mut first: Option<&UnknownShard> = None;
+    for unknown_shard in unknown_shards {
+        match first {
+            Some(lowest) if lowest.server.number() <= unknown_shard.server.number() => {}
+            _ => first = Some(unknown_shard),
+        }
+    }
+    first
 }
 
 impl DocumentReopening {
@@ -151,15 +166,10 @@ impl DocumentReopening {
         self.ongoing.settled(party, base)
     }
 
-    /// Returns the first shard that a server has and nobody knows, of the lowest server that has one.
-    pub fn first_unknown_shard(&self) -> Option<&UnknownShard> {
-        let mut first: Option<&UnknownShard> = None;
-        for unknown_shard in &self.unknown_shards {
-            match first {
-                Some(lowest) if lowest.server.number() <= unknown_shard.server.number() => {}
-                _ => first = Some(unknown_shard),
-            }
-        }
-        first
+    /// The first shard that a server has and nobody knows, of the lowest server that has one.
+    pub fn first_unknown_shard(&self) -> Option<&UnknownShard>
+        ensures { IsFirstUnknown self.now.unknown_shards (option_map (λ first. first.now) result) }
+    {
+        first_of_lowest(&self.unknown_shards)
     }
 }

@@ -1,5 +1,6 @@
 //! The beginning of a reopening under a document: its numbers, and its parties.
-ghost use Rattle.std.specs.Prelude.{◌≡◌, ◌+◌, ◌<◌, [], ℕ, IfOk, OnOk, if◌then◌else◌, length, map};
+ghost use Rattle.std.specs.Prelude.{◌≡◌, ◌≢◌, ◌+◌, ◌<◌, [], ℕ, IfErr, IfOk, OnOk, Some, None, if◌then◌else◌, length};
+ghost use Rattle.std.specs.Prelude.{map};
 ghost use Rattle.sm_placement.specs.Layout.{place_of};
 ghost use Rattle.sm_placement.specs.Setup.{IsSetup};
 ghost use Rattle.sm_placement.specs.Config.{setup_of};
@@ -10,6 +11,7 @@ ghost use Rattle.sm_driver.specs.Orders.{epoch_base};
 ghost use Rattle.sm_driver.specs.Permits.{AreEarlierPermits};
 ghost use Rattle.smpland_reopening.specs.Begun.{BeginsUnder, HasRecorded, IsBegun, IsGround, IsNumberedGround};
 ghost use Rattle.smpland_reopening.specs.Begun.{is_cell_at, members_under, roles_by};
+ghost use Rattle.smpland_reopening.specs.Faults.{cell_fault, document_fault, fault_of_cells};
 ghost use Rattle.smpland_reopening.specs.RoleGrids.{role_at};
 ghost use Rattle.smpland_reopening.specs.Roles.{role_by_cell};
 
@@ -40,8 +42,10 @@ pub(crate) struct Begun {
     pub ground: Ground,
 }
 
-/// Returns why a document may not begin a reopening, by why its placement is not opened.
-fn cell_fault(fault: OpenFault) -> Option<ReopenFault> {
+/// The fault for which a document may not begin a reopening, by that for which its placement is not opened.
+fn cell_fault(fault: OpenFault) -> Option<ReopenFault>
+    ensures { result ≡ cell_fault fault }
+{
     match fault {
         OpenFault::NoMemory => Some(ReopenFault::NoMemory),
         OpenFault::DoubleCell { shard, server } => Some(ReopenFault::DoubleCell { shard, server }),
@@ -50,16 +54,22 @@ fn cell_fault(fault: OpenFault) -> Option<ReopenFault> {
     }
 }
 
-/// Returns why the cells of a document may not begin a reopening.
-fn fault_of_cells(alloc: Global, document: &Document) -> Option<ReopenFault> {
+/// The fault of a document's cells for which it may not begin a reopening, before which want of memory may come.
+fn fault_of_cells(alloc: Global, document: &Document) -> Option<ReopenFault>
+    ensures { result ≢ Some ReopenFault.NoMemory → result ≡ fault_of_cells document.now }
+{
     match document.open(alloc) {
         Ok(_placement) => None,
         Err(fault) => cell_fault(fault),
     }
 }
 
-/// Returns why a document may not begin a reopening, whatever is recorded.
-fn check_document(alloc: Global, document: &Document, lost: &[&str]) -> Result<(), ReopenFault> {
+/// Refuses a document that may not begin a reopening, whatever is recorded.
+fn check_document(alloc: Global, document: &Document, lost: &[&str]) -> Result<(), ReopenFault>
+    ensures ok { OnOk result (document_fault document.now (map (λ n. n.now) lost.now) ≡ None) }
+    ensures refused { IfErr result (λ fault. fault ≢ ReopenFault.NoMemory
+        → document_fault document.now (map (λ n. n.now) lost.now) ≡ Some fault) }
+{
     if let Some(fault) = fault_of_cells(alloc, document) {
         return Err(fault);
     }

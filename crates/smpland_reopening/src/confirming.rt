@@ -13,6 +13,7 @@ ghost use Rattle.smpland_reopening.specs.Chosen.{IsAsChosen, chosen_role};
 ghost use Rattle.smpland_reopening.specs.Confirmed.{KeepsChosen, SettlesChosen, down_in_order, is_down_next};
 ghost use Rattle.smpland_reopening.specs.Confirmed.{is_still_down, roles_chosen, roles_in_order};
 ghost use Rattle.smpland_reopening.specs.Eased.{IsEased};
+ghost use Rattle.smpland_reopening.specs.Faults.{IsRefusedWithUnknown};
 ghost use Rattle.smpland_reopening.specs.Proposal.{NamesLost};
 ghost use Rattle.smpland_reopening.specs.Reopening.{IsRenumbered, IsUnder};
 ghost use Rattle.smpland_reopening.specs.RoleGrids.{role_at};
@@ -240,11 +241,14 @@ impl DocumentReopening {
         self.confirm_placement(settlement, next)
     }
 
-    /// Returns why a settlement may not be confirmed as long as servers have shards that nobody knows.
+    /// The refusal of a settlement as long as servers have shards that nobody knows.
     fn fault_with_unknown_shards(&self, settlement: &Placement) -> ConfirmRefusal
         requires settled { IsSettled (sizes_of settlement.now.setup) (place_of settlement.now) }
         requires servers { names_of_servers settlement.now.setup ≡ names_of_servers self.now.numbering }
         requires shards { names_of_shards settlement.now.setup ≡ names_of_shards self.now.numbering }
+        ensures { IsRefusedWithUnknown self.now.ongoing
+            (record { setup = settlement.now.setup; place = place_of settlement.now; room = self.now.document.log })
+            result }
     {
         match self.ongoing.fault_of(settlement, self.document.log) {
             Some(fault) => ConfirmRefusal::Cells(fault),

@@ -2,7 +2,7 @@
 ghost use Rattle.std.specs.Prelude.{◌≡◌, IfOk, length, map};
 ghost use Rattle.std.specs.List.{list_any, range_with_len};
 ghost use Rattle.std.specs.Str.{bytes_eq};
-ghost use Rattle.smpland_reopening.specs.Members.{is_named_among, membership_of, membership_at};
+ghost use Rattle.smpland_reopening.specs.Members.{first_lost, is_named_among, membership_of, membership_at};
 
 use sm_placement::Config;
 use sm_reopening::Membership;
@@ -57,8 +57,11 @@ pub(crate) fn members_of(
     Ok(members)
 }
 
-/// Returns the first server of a document that is said to be lost.
-pub(crate) fn first_lost(document: &Config, lost: &[&str]) -> Option<ServerId> {
+/// The first server of a document that is said to be lost.
+#[tactic(auto, using(sm_placement::proofs::Searches::find_range_more))]
+pub(crate) fn first_lost(document: &Config, lost: &[&str]) -> Option<ServerId>
+    ensures { result ≡ first_lost document.now (map (λ n. n.now) lost.now) }
+{
     for number in 0..document.server_count() {
         let server = ServerId::new(number);
         if is_among(&document.server(server).name, lost) {

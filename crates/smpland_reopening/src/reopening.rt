@@ -10,6 +10,7 @@ ghost use Rattle.sm_driver.specs.Orders.{epoch_base};
 ghost use Rattle.sm_driver.specs.Permits.{AreEarlierPermits};
 ghost use Rattle.smpland_reopening.specs.Begun.{BeginsUnder, HasRecorded, IsBegun, IsNumberedGround};
 ghost use Rattle.smpland_reopening.specs.Begun.{NumbersUnder};
+ghost use Rattle.smpland_reopening.specs.Proposal.{has_shard};
 
 use crate::beginning::{Begun, Ground, begin_over_driver, begin_over_nothing, ground_of};
 use crate::fault::ReopenFault;
@@ -22,6 +23,13 @@ use sm_reopening::OngoingReopening;
 use sm_server::{ServerId, ShardId};
 use std::alloc::Global;
 use std::marker::Model;
+
+/// The epoch that a reopening opens, in its journal.
+#[derive(Clone, Copy)]
+pub(crate) struct OpenedEpoch {
+    pub journal: u64,
+    pub epoch: u32,
+}
 
 /// A reopening under way, whose servers and shards have names. Those that are recorded keep their numbers, those of
 /// reopenings that were replaced keep theirs, and the new ones of the document follow in its order.
@@ -95,21 +103,21 @@ impl DocumentReopening {
 }
 
 impl DocumentReopening {
-    /// Puts a reopening together whose fences are to be sent.
+    /// The reopening that has begun under a document, with these permits of the servers that are recorded down. Its
+    /// fences are to be sent.
     fn new(
         alloc: Global,
         begun: Begun,
         document: Document,
         permits: Vec<Option<u64>>,
-        journal: u64,
-        epoch: u32,
+        opened: OpenedEpoch,
     ) -> DocumentReopening
-        requires begun { IsBegun document.config epoch begun }
-        requires permits { AreEarlierPermits (epoch_base epoch) permits.items }
+        requires begun { IsBegun document.config opened.epoch begun }
+        requires permits { AreEarlierPermits (epoch_base opened.epoch) permits.items }
         ensures ongoing { result.ongoing ≡ begun.ongoing }
         ensures numbering { result.numbering ≡ begun.ground.numbering }
-        ensures journal { result.journal ≡ journal }
-        ensures epoch { result.epoch ≡ epoch }
+        ensures journal { result.journal ≡ opened.journal }
+        ensures epoch { result.epoch ≡ opened.epoch }
         ensures document { result.document ≡ document }
         ensures permits { result.permits ≡ permits.items }
         ensures numbered { (numbered : Setup)
@@ -126,8 +134,8 @@ impl DocumentReopening {
         } = ground;
         DocumentReopening {
             ongoing,
-            journal,
-            epoch,
+            journal: opened.journal,
+            epoch: opened.epoch,
             document,
             numbering,
             servers,
@@ -164,10 +172,9 @@ impl DocumentReopening {
         ensures back { IfErr result (λ e. e.0 ≡ document) }
     {
         let journal = driver.journal();
+        let opened = OpenedEpoch { journal, epoch };
         match begin_over_driver(alloc, driver, &document, lost, epoch) {
-            Ok((begun, permits)) => {
-                Ok(Self::new(alloc, begun, document, permits, journal, epoch))
-            }
+            Ok((begun, permits)) => Ok(Self::new(alloc, begun, document, permits, opened)),
             Err(fault) => Err((document, fault)),
         }
     }
@@ -194,10 +201,11 @@ impl DocumentReopening {
         ensures document { IfOk result (λ r. r.document ≡ document) }
         ensures back { IfErr result (λ e. e.0 ≡ document) }
     {
+        let opened = OpenedEpoch { journal, epoch };
         match begin_over_nothing(alloc, &document, lost, epoch) {
             Ok(begun) => {
                 let permits = Vec::new(alloc);
-                Ok(Self::new(alloc, begun, document, permits, journal, epoch))
+                Ok(Self::new(alloc, begun, document, permits, opened))
             }
             Err(fault) => Err((document, fault)),
         }
@@ -229,7 +237,8 @@ impl DocumentReopening {
         match self.replaced(alloc, &document, lost, epoch) {
             Ok((begun, permits)) => {
                 let journal = self.journal;
-                Ok(Self::new(alloc, begun, document, permits, journal, epoch))
+                let opened = OpenedEpoch { journal, epoch };
+                Ok(Self::new(alloc, begun, document, permits, opened))
             }
             Err(fault) => Err((document, fault)),
         }
@@ -283,8 +292,10 @@ impl DocumentReopening {
         self.epoch
     }
 
-    /// Returns how many places the document gives the log.
-    pub fn log_room(&self) -> u32 {
+    /// The number of places that the document gives the log.
+    pub fn log_room(&self) -> u32
+        ensures { result ≡ self.now.document.log }
+    {
         self.document.log
     }
 
@@ -303,8 +314,10 @@ impl DocumentReopening {
         &self.document.config
     }
 
-    /// Returns whether the document has a shard that has a number.
-    pub fn has_shard(&self, shard: ShardId) -> bool {
+    /// Whether the document has a shard that has a number.
+    pub fn has_shard(&self, shard: ShardId) -> bool
+        ensures { result ≡ has_shard self.now shard }
+    {
         self.shards.contains(&shard)
     }
 }
