@@ -1,4 +1,5 @@
 -- What comes of a line to a session, and the reply that tells it: command, outcome, change and reply are of one exchange.
+-- (The clause `told` of `Session::apply` says so, by `IsLineReply` of Replies.antt.)
 -- `IsNoObject`, `ReadsObject`, `TellsClosed`, `TellsExchange`, `KnowsAll`, `Replies` and `Exchanges` are internal: you need not read them for the
 -- public contracts.
 use Rattle.std.specs.Prelude.{◌≡◌, ◌<◌, ◌⊎◌, ℕ, Bool, true, false, List, [], ◌++◌, IfSome, Ok, Err, Option, Some, None, Result, codes, if◌then◌else◌, is_some, length}

@@ -3,6 +3,7 @@ pub mod Asked
 pub mod Begins
 pub mod Changes
 pub mod Checks
+pub mod Closed
 pub mod Declines
 pub mod Exchanges
 pub mod Lost

@@ -1,6 +1,8 @@
 -- The outcomes of commands on an open journal, and the replies that tell them.
--- `TellsDecline`, `TellsOutcome`, `KnowsServers`, `StartOutcome` and `HasMovedWith` are internal: you need not read them for the public contracts.
+-- `TellsDecline`, `TellsOutcome`, `KnowsServers`, `StartOutcome`, `HasMovedWith`, `is_down_under` and `why_not_ended` are internal: you need not
+-- read them for the public contracts.
 use Rattle.std.specs.Prelude.{◌≡◌, ◌<◌, ℕ, ◌&&◌, ◌||◌, Bool, true, false, List, ◌++◌, Option, Some, None, IfSome, bytes_eq, codes, if◌then◌else◌, not, string_bytes}
+use Rattle.std.specs.List.{list_any}
 use Rattle.std.specs.Option.{IsSomeAnd}
 use Rattle.json.specs.Token.{Token}
 use Rattle.serde_json.specs.Data.{Data}
@@ -10,6 +12,7 @@ use Rattle.sm_reservation.specs.declared.stream_id.StreamId.{StreamId}
 use Rattle.sm_plan_code.specs.Plan.{PlanModel}
 use Rattle.sm_verifier.specs.Plan.{IsCheckedPlan}
 use Rattle.smpland_state.specs.Names.{value_of}
+use Rattle.laws_network.specs.Controller.{is_permitted}
 use Rattle.sm_driver.specs.Driver.{DriverModel, HasApproved, HasBegunPlan, HasEndedRestart, HasRestored, HasTakenStep, is_due, is_past, record_of}
 use Rattle.sm_driver.specs.Restores.{is_last_restore}
 use Rattle.sm_refusals.specs.Plans.{check_refusal}
@@ -162,6 +165,14 @@ ApproveOutcome name by is_reopening old (outcome.Declined (decline.OtherServer a
     (value_of old.approvals by ≡ Some at) × AgainOutcome name old at (outcome.Declined (decline.OtherServer at)) × (new ≡ old)
 ApproveOutcome name by is_reopening old (outcome.Declined why) new = (value_of old.approvals by ≡ None) × (new ≡ old)
 ApproveOutcome name by is_reopening old _ new = ⊥
+
+-- a server is down under this permit, of these by the servers' numbers
+abbrev pub is_down_under : List (Option ℕ) → ℕ → Bool
+is_down_under permits permit = list_any (λ given. is_permitted given permit) permits
+
+-- why no restart ends by this permit while a reopening is under way: it has to wait, if a server is down under it; otherwise it has ended before
+abbrev pub why_not_ended : List (Option ℕ) → ℕ → Decline
+why_not_ended permits permit = if is_down_under permits permit then decline.Reopening else decline.Ignored ignored.Old
 
 -- the restart that has this permit has ended, of a server with this base; or none has
 abbrev pub RestartedOutcome : ℕ → Option ℕ → Bool → JournalState → DriverOutcome → JournalState → Type 0

@@ -55,7 +55,9 @@ impl From<AllocError> for NotOpened {
 
     ghost from_gives = { λ _ why. why ≡ NoMemory };
 
-    fn from(_error: AllocError) -> Self {
+    fn from(_error: AllocError) -> Self
+        ensures { result ≡ NotOpened.NoMemory }
+    {
         NotOpened::NoMemory
     }
 }

@@ -41,7 +41,9 @@ impl From<AllocError> for NotBegun {
 
     ghost from_gives = { λ _ why. why ≡ NoMemory };
 
-    fn from(_error: AllocError) -> Self {
+    fn from(_error: AllocError) -> Self
+        ensures { result ≡ NotBegun.NoMemory }
+    {
         NotBegun::NoMemory
     }
 }

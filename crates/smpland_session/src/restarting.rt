@@ -1,6 +1,6 @@
 //! Ends of restarts.
 ghost use Rattle.std.specs.Prelude.{◌≡◌};
-ghost use Rattle.smpland_session.specs.Outcomes.{RestartedOutcome};
+ghost use Rattle.smpland_session.specs.Outcomes.{RestartedOutcome, is_down_under, why_not_ended};
 
 use crate::command_context::CommandContext;
 use crate::decline::{Decline, Ignored};
@@ -8,9 +8,21 @@ use crate::driver_outcome::DriverOutcome;
 use sm_driver::RestartEffect;
 use smpland_state::JournalState;
 
+/// Whether a server is down under this permit.
+fn is_down_under(permits: &[Option<u64>], permit: u64) -> bool
+    ensures { result ≡ is_down_under permits.now permit }
+{
+    permits.iter().any(|given| match given {
+        Some(given) => *given == permit,
+        None => false,
+    })
+}
+
 /// The reason why no restart ends while a reopening is under way: it has to wait, or has ended before.
-fn wait_for_reopening(opened: &JournalState, permit: u64) -> Decline {
-    if opened.driver.permits().contains(&Some(permit)) {
+fn wait_for_reopening(opened: &JournalState, permit: u64) -> Decline
+    ensures { result ≡ why_not_ended opened.now.driver.permits permit }
+{
+    if is_down_under(opened.driver.permits(), permit) {
         Decline::Reopening
     } else {
         Decline::Ignored(Ignored::Old)

@@ -5,6 +5,7 @@ pub mod Audits
 pub mod Begun
 pub mod Bits
 pub mod Calls
+pub mod Carryovers
 pub mod Cells
 pub mod Copies
 pub mod Denied
@@ -13,6 +14,7 @@ pub mod Failed
 pub mod Given
 pub mod History
 pub mod Messages
+pub mod Notes
 pub mod Notices
 pub mod Permits
 pub mod Published

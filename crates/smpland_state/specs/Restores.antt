@@ -1,12 +1,15 @@
 -- Replies to servers that have lost all they had.
-use Rattle.std.specs.Prelude.{◌≡◌, ◌==◌, ◌&&◌, ℕ, List, ◌∷◌, ◌++◌, Bool, IfSome, Option, Some, None, bytes_eq, codes, if◌then◌else◌, is_some, option_map}
-use Rattle.std.specs.List.{find}
+-- `last_told`, `told_to`, `told_in_epoch`, `was_told` and `latest_told` are internal: you need not read them for the public contracts.
+use Rattle.std.specs.Prelude.{◌≡◌, ◌==◌, ◌&&◌, ℕ, List, [], ◌∷◌, ◌++◌, Bool, IfSome, Option, Some, None, bytes_eq, codes, if◌then◌else◌, is_some, length, not, option_map}
+use Rattle.std.specs.List.{filter, find, flat_map, list_any, range_with_len}
+use Rattle.std.specs.Option.{option_map_or}
 use Rattle.json.specs.Token.{Token, key}
 use Rattle.sm_driver.specs.Driver.{DriverModel}
 use Rattle.sm_driver.specs.Restores.{RestoreModel, restore_at}
 use Rattle.smpland_lines.specs.Members.{number_member, object, server_text, text_member}
 use Rattle.smpland_state.specs.Bits.{bits_member}
 use Rattle.smpland_state.specs.Cells.{slots_member}
+use Rattle.smpland_state.specs.Copies.{good_tokens}
 use Rattle.smpland_state.specs.Told.{ToldModel}
 use Rattle.smpland_state.specs.declared.journal_state.JournalState.{JournalState}
 
@@ -29,6 +32,32 @@ restore_object d v restore = object (restore_members d v restore)
 abbrev pub TellsKept : DriverModel → ℕ → List Token → List Token → Type 0
 TellsKept d v before after =
     IfSome (restore_at d.restores v) (λ restore. after ≡ before ++ key (codes "restore") ∷ restore_object d v restore)
+
+-- ---- what is kept of it in the next epoch
+
+-- the restore that a server is told, under the server's name: its tokens up to the first that is bad
+abbrev pub last_told : DriverModel → ℕ → RestoreModel → ToldModel
+last_told d v restore = record {
+  server = server_text d.machine.placement.setup v;
+  nonce = restore.nonce;
+  restore = good_tokens (restore_object d v restore);
+}
+
+-- what a server was told last in the driver's epoch, if it was told something
+abbrev pub told_to : DriverModel → ℕ → List ToldModel
+told_to d v = option_map_or (λ restore. last_told d v restore ∷ []) (restore_at d.restores v) []
+
+-- the same of all servers
+abbrev pub told_in_epoch : DriverModel → List ToldModel
+told_in_epoch d = flat_map (told_to d) (range_with_len 0 (length d.machine.placement.setup.servers))
+
+-- one of these restores is of the server of this name
+abbrev pub was_told : List ToldModel → List ℕ → Bool
+was_told told name = list_any (λ t. bytes_eq t.server name) told
+
+-- of each server the latest restore: one of the present epoch, or otherwise one before
+abbrev pub latest_told : List ToldModel → List ToldModel → List ToldModel
+latest_told now before = now ++ filter (λ t. not (was_told now t.server)) before
 
 -- ---- what is told again
 

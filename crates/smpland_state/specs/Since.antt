@@ -6,9 +6,8 @@ use Rattle.json.specs.Token.{Token, number}
 use Rattle.sm_driver.specs.Driver.{record_of}
 use Rattle.sm_driver.specs.Orders.{awaiting_of}
 use Rattle.smpland_lines.specs.Members.{list_member, number_member, object_member, text_member}
-use Rattle.smpland_state.specs.declared.history.History.{History}
 use Rattle.smpland_state.specs.declared.journal_state.JournalState.{JournalState}
-use Rattle.smpland_state.specs.History.{ended_at, later_streams, published_at}
+use Rattle.smpland_state.specs.History.{HistoryModel, ended_at, later_streams, published_at}
 use Rattle.smpland_state.specs.Messages.{orders_member}
 use Rattle.smpland_state.specs.Published.{entry_text}
 
@@ -32,11 +31,11 @@ abbrev pub number_if_later : ℕ → ℕ → Option ℕ → List Token
 number_if_later place k ended = option_map_or (λ at. if nat_lt place at then number (decimal k) ∷ [] else []) ended []
 
 -- those of the plans of the epoch
-abbrev pub ended_later : History → ℕ → List Token
-ended_later h place = flat_map (λ k. number_if_later place k (ended_at h k)) (range_with_len 0 (length h.plans.items))
+abbrev pub ended_later : HistoryModel → ℕ → List Token
+ended_later h place = flat_map (λ k. number_if_later place k (ended_at h k)) (range_with_len 0 (length h.plans))
 
 -- the same as a member
-abbrev pub ended_since : History → ℕ → List Token
+abbrev pub ended_since : HistoryModel → ℕ → List Token
 ended_since h place = list_member (codes "ended") (ended_later h place)
 
 -- the messages and the entries that came up after a place, and the plans that ended after it

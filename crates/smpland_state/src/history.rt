@@ -1,11 +1,14 @@
 //! The history: what happened at which place. A place counts the commands that changed something.
-ghost use Rattle.std.specs.Prelude.{◌≡◌, length, slice_index_or};
+ghost use Rattle.std.specs.Prelude.{◌≡◌, IfOk, OnErr, OnOk, length, slice_index_or, slice_set};
 ghost use Rattle.smpland_state.specs.History.{ended_at, ordered_at, published_at, recorded_at};
+ghost use Rattle.smpland_state.specs.History.{history_of_next_epoch, opened_history, with_begun, with_ended};
+ghost use Rattle.smpland_state.specs.History.{with_moved, with_published, with_recorded};
 
 use indexmap::IndexMap;
 use sm_reservation::StreamId;
 use sm_server::{ServerId, ShardId};
 use std::alloc::{AllocError, Global};
+use std::marker::Model;
 
 /// The cell of a shard at a server.
 #[derive(Clone, Copy, Debug, PartialEq, Eq, Hash)]
@@ -19,6 +22,14 @@ struct CellAt {
 struct PlanPlaces {
     ordered: Vec<u64>,
     ended: Option<u64>,
+}
+
+impl Model for PlanPlaces {
+    ghost use Rattle.smpland_state.specs.History.{PlanPlacesModel};
+
+    ghost Value = { PlanPlacesModel };
+
+    ghost view = { λ p. record { ordered = p.ordered.items; ended = p.ended } };
 }
 
 /// The places where present orders came up, where entries of the map and cells changed, and where plans of the epoch
@@ -35,6 +46,44 @@ pub struct History {
     plans: Vec<PlanPlaces>,
 }
 
+impl Model for History {
+    ghost use Rattle.smpland_state.specs.History.{HistoryModel};
+
+    ghost Value = { HistoryModel };
+
+    ghost view = { λ h. record {
+      mapped = h.mapped;
+      published = h.published.items;
+      recorded = h.recorded.entries;
+      plans = h.plans.items;
+    } };
+}
+
+impl PlanPlaces {
+    /// Notes that a stream has come to where it stands at a place.
+    fn note_moved(&mut self, place: u64, stream: u32)
+        ensures { self.new ≡ record self.old { ordered = slice_set self.old.ordered stream place } }
+    {
+        set_place(&mut self.ordered, stream as usize, place);
+    }
+
+    /// Notes that the plan has ended at a place.
+    fn note_ended(&mut self, place: u64)
+        ensures { self.new ≡ record self.old { ended = Some place } }
+    {
+        self.ended = Some(place);
+    }
+}
+
+/// Sets the place at an index, if there is one.
+fn set_place(places: &mut [u64], index: usize, place: u64)
+    ensures { places.new ≡ slice_set places.old index place }
+{
+    if index < places.len() {
+        places[index] = place;
+    }
+}
+
 /// The place at an index, 0 if there is none.
 fn place_at(places: &[u64], index: usize) -> u64
     ensures { result ≡ slice_index_or places.now index 0 }
@@ -47,31 +96,31 @@ fn place_at(places: &[u64], index: usize) -> u64
 
 impl History {
     /// Returns the history of a journal that is opened at a place, over a number of shards.
-    pub fn new(alloc: Global, shards: u32, place: u64) -> Result<Self, AllocError> {
-        let mut published = Vec::new(alloc);
-        for _ in 0..shards {
-            published.push(place)?;
-        }
+    pub fn new(alloc: Global, shards: u32, place: u64) -> Result<Self, AllocError>
+        ensures { IfOk result (λ history. history ≡ opened_history shards place) }
+    {
         Ok(History {
             alloc,
             mapped: place,
-            published,
+            published: vec![in alloc; place; shards as usize]?,
             recorded: IndexMap::new(alloc),
             plans: Vec::new(alloc),
         })
     }
 
     /// Turns to the next epoch, which has no plans yet.
-    pub fn begin_epoch(&mut self) {
+    pub fn begin_epoch(&mut self)
+        ensures { self.new ≡ history_of_next_epoch self.old }
+    {
         self.plans.clear();
     }
 
     /// Notes that the next plan has begun at a place, with a number of streams.
-    pub fn note_begun(&mut self, place: u64, streams: u64) -> Result<(), AllocError> {
-        let mut ordered = Vec::new(self.alloc);
-        for _ in 0..streams {
-            ordered.push(place)?;
-        }
+    pub fn note_begun(&mut self, place: u64, streams: u64) -> Result<(), AllocError>
+        ensures noted { OnOk result (self.new ≡ with_begun self.old place streams) }
+        ensures unchanged { OnErr result (self.new ≡ self.old) }
+    {
+        let ordered = vec![in self.alloc; place; streams as usize]?;
         self.plans.push(PlanPlaces {
             ordered,
             ended: None,
@@ -80,26 +129,30 @@ impl History {
     }
 
     /// Notes that a stream has come to where it stands at a place.
-    pub fn note_moved(&mut self, place: u64, id: StreamId) {
-        if let Some(plan) = self.plans.get_mut(id.plan as usize) {
-            if let Some(ordered) = plan.ordered.get_mut(id.stream as usize) {
-                *ordered = place;
-            }
+    pub fn note_moved(&mut self, place: u64, id: StreamId)
+        ensures { self.new ≡ with_moved self.old place id }
+    {
+        let plan = id.plan as usize;
+        if plan < self.plans.len() {
+            self.plans[plan].note_moved(place, id.stream);
         }
     }
 
     /// Notes that a plan has ended at a place.
-    pub fn note_ended(&mut self, place: u64, number: u32) {
-        if let Some(plan) = self.plans.get_mut(number as usize) {
-            plan.ended = Some(place);
+    pub fn note_ended(&mut self, place: u64, number: u32)
+        ensures { self.new ≡ with_ended self.old place number }
+    {
+        let plan = number as usize;
+        if plan < self.plans.len() {
+            self.plans[plan].note_ended(place);
         }
     }
 
     /// Notes that a shard's entry of the map has changed at a place.
-    pub fn note_published(&mut self, place: u64, shard: ShardId) {
-        if let Some(published) = self.published.get_mut(shard.number() as usize) {
-            *published = place;
-        }
+    pub fn note_published(&mut self, place: u64, shard: ShardId)
+        ensures { self.new ≡ with_published self.old place shard }
+    {
+        set_place(&mut self.published, shard.number() as usize, place);
     }
 
     /// Notes that what a server has of a shard has changed at a place.
@@ -108,7 +161,9 @@ impl History {
         place: u64,
         shard: ShardId,
         server: ServerId,
-    ) -> Result<(), AllocError> {
+    ) -> Result<(), AllocError>
+        ensures { OnOk result (self.new ≡ with_recorded self.old place shard server) }
+    {
         let _ = self.recorded.insert(CellAt { shard, server }, place)?;
         Ok(())
     }
@@ -125,7 +180,7 @@ impl History {
 
     /// The number of plans that have begun in the present epoch.
     pub fn plan_count(&self) -> usize
-        ensures { result ≡ length self.now.plans.items }
+        ensures { result ≡ length self.now.plans }
     {
         self.plans.len()
     }

@@ -5,6 +5,7 @@ ghost use Rattle.smpland_lines.specs.Members.{list_member};
 ghost use Rattle.smpland_state.specs.Replies.{moved_members, plan_members};
 ghost use Rattle.smpland_state.specs.Begun.{begun_again_members, begun_member, begun_members, begun_plan};
 ghost use Rattle.smpland_state.specs.Begun.{nothing_new, plan_members_again, size_of_plan};
+ghost use Rattle.smpland_state.specs.Carryovers.{CarriesOver};
 
 use crate::begun_plan::BegunPlan;
 use crate::given_permits::{GivenAt, GivenPermits};
@@ -136,7 +137,9 @@ impl JournalState {
     }
 
     /// Ends the driver, and returns what is kept when the journal is opened anew.
-    fn into_carryover(self, alloc: Global) -> Result<Carryover, AllocError> {
+    fn into_carryover(self, alloc: Global) -> Result<Carryover, AllocError>
+        ensures { IfOk result (CarriesOver self) }
+    {
         let told_now = last_restores(&self, alloc);
         let JournalState {
             driver,

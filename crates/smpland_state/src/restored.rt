@@ -1,10 +1,13 @@
 //! Restores in replies.
-ghost use Rattle.std.specs.Prelude.{◌≡◌, ◌<◌, ◌++◌, OnOk};
+ghost use Rattle.std.specs.Prelude.{◌≡◌, ◌<◌, ◌++◌, IfOk, OnOk, not};
+ghost use Rattle.std.specs.List.{filter};
 ghost use Rattle.std.specs.Option.{option_copied};
+ghost use Rattle.std.specs.Str.{IsUtf8};
+ghost use Rattle.json.specs.Lex.{tokens};
 ghost use Rattle.smpland_lines.specs.Members.{server_text};
 ghost use Rattle.sm_driver.specs.Driver.{record_of};
-ghost use Rattle.smpland_state.specs.Restores.{TellsAgain, TellsKept, is_told, restore_members, restore_object};
-ghost use Rattle.smpland_state.specs.Restores.{told_under};
+ghost use Rattle.smpland_state.specs.Restores.{TellsAgain, TellsKept, is_told, latest_told, restore_members};
+ghost use Rattle.smpland_state.specs.Restores.{last_told, restore_object, told_in_epoch, told_to, told_under, was_told};
 
 use crate::bits::write_bits;
 use crate::cells::write_slots;
@@ -12,7 +15,7 @@ use crate::copying::copy_text;
 use crate::journal_state::JournalState;
 use sm_driver::ServerRestore;
 use sm_server::ServerId;
-use smpland_lines::{Writer, server_name, write_number, write_text};
+use smpland_lines::{Writer, write_number, write_text};
 use std::alloc::{AllocError, Global};
 use std::marker::Model;
 
@@ -76,51 +79,92 @@ impl Model for LastRestore {
     ghost invariant = { λ r. IsUtf8 r.text.items };
 }
 
+/// The text of the restore of a server.
+fn restore_text(
+    opened: &JournalState,
+    alloc: Global,
+    server: ServerId,
+    restore: &ServerRestore,
+) -> Result<Vec<u8>, AllocError>
+    ensures reads { IfOk result (λ text. tokens text.items ≡ restore_object opened.now.driver server restore.now) }
+    ensures utf8 { IfOk result (λ text. IsUtf8 text.items) }
+{
+    let mut writer = Writer::new(alloc);
+    write_restore(opened, alloc, &mut writer, server, restore)?;
+    let text = writer.into_text();
+    Ok(text)
+}
+
 /// A restore with its reply's text.
 fn told_restore(
     opened: &JournalState,
     alloc: Global,
     server: ServerId,
     restore: &ServerRestore,
-) -> Result<LastRestore, AllocError> {
-    let config = opened.driver.machine().config();
-    let mut writer = Writer::new(alloc);
-    write_restore(opened, alloc, &mut writer, server, restore)?;
+) -> Result<LastRestore, AllocError>
+    ensures { IfOk result (λ told. told ≡ last_told opened.now.driver server restore.now) }
+{
+    let text = restore_text(opened, alloc, server, restore)?;
+    let name = String::from_str(alloc, opened.name_of(server))?;
     Ok(LastRestore {
-        server: String::from_str(alloc, server_name(config, server))?,
+        server: name,
         nonce: restore.nonce(),
-        text: writer.into_text(),
+        text,
     })
 }
 
+/// Adds what a server was told last in the present epoch of a journal, if it was told something.
+fn push_told(
+    told: &mut Vec<LastRestore>,
+    opened: &JournalState,
+    alloc: Global,
+    server: ServerId,
+) -> Result<(), AllocError>
+    requires { server < (record_of opened.now.driver).sizes.servers }
+    ensures { OnOk result (told.new.items ≡ told.old.items ++ told_to opened.now.driver server) }
+{
+    if let Some(restore) = opened.driver.restored(server) {
+        told.push(told_restore(opened, alloc, server, restore)?)?;
+    }
+    Ok(())
+}
+
 /// The restores that servers were told last in the present epoch of a journal.
-pub fn last_restores(opened: &JournalState, alloc: Global) -> Result<Vec<LastRestore>, AllocError> {
+pub fn last_restores(opened: &JournalState, alloc: Global) -> Result<Vec<LastRestore>, AllocError>
+    ensures { IfOk result (λ told. told.items ≡ told_in_epoch opened.now.driver) }
+{
     let mut told = Vec::new(alloc);
     for number in 0..opened.driver.machine().config().server_count() {
-        let server = ServerId::new(number);
-        if let Some(restore) = opened.driver.restored(server) {
-            told.push(told_restore(opened, alloc, server, restore)?)?;
-        }
+        push_told(&mut told, opened, alloc, ServerId::new(number))?;
     }
     Ok(told)
+}
+
+/// Whether one of these restores is of the server of this name.
+fn was_told(told: &[LastRestore], name: &str) -> bool
+    ensures { result ≡ was_told told.now name.now }
+{
+    told.iter().any(|told| told.server.as_str() == name)
+}
+
+/// Keeps those of earlier restores whose servers were told nothing later.
+fn keep_earlier(earlier: &mut Vec<LastRestore>, later: &[LastRestore])
+    ensures { earlier.new.items ≡ filter (λ t. not (was_told later.now t.server)) earlier.old.items }
+{
+    earlier.retain(|told| !was_told(later, told.server.as_str()));
 }
 
 /// The latest restores of servers: those of the present epoch, and for other servers those before.
 pub fn told_last(
     now: Vec<LastRestore>,
     before: Vec<LastRestore>,
-) -> Result<Vec<LastRestore>, AllocError> {
+) -> Result<Vec<LastRestore>, AllocError>
+    ensures { IfOk result (λ told. told.items ≡ latest_told now.items before.items) }
+{
     let mut told = now;
-    let count = told.len();
-    for earlier in before {
-        let is_later = told
-            .iter()
-            .take(count)
-            .any(|later| later.server.as_str() == earlier.server.as_str());
-        if !is_later {
-            told.push(earlier)?;
-        }
-    }
+    let mut earlier = before;
+    keep_earlier(&mut earlier, told.as_slice());
+    told.append(&mut earlier)?;
     Ok(told)
 }
 
