@@ -1,4 +1,5 @@
 -- How copies compare: by view and position, and by nothing else.
+-- `is_greater` is internal: you need not read it for the public contracts.
 use Rattle.std.specs.Prelude.{◌≡◌, ◌<◌, ◌⊎◌, ◌&&◌, ◌||◌, ◌==◌, Bool, nat_lt}
 use Rattle.sm_copies.specs.declared.order.ToldCopy.{ToldCopy}
 
