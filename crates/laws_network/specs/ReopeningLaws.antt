@@ -18,8 +18,8 @@ Keeps cell.Secondary next = (next ≡ cell.Secondary) ⊎ (next ≡ cell.Primary
 Keeps cell.Absent next = next ≡ cell.Absent
 Keeps _ next = (next ≡ cell.Primary) ⊎ (next ≡ cell.Absent)
 
--- The claim to the shard that a cell gives: a primary has the best; then an old owner that forwards, and a new one that has reached its
--- cut; then a secondary; then a new owner that has not; and who has nothing has none.
+-- The claim to the shard that a cell gives: a primary has the best; then an old owner that forwards, and a new one that
+-- has reached its cut; then a secondary; then a new owner that has not. An absent cell gives none.
 abbrev pub claim : Cell → Bool → ℕ
 claim cell.Absent reached = 0
 claim (cell.Prepared from number) false = 1
@@ -41,9 +41,9 @@ claim_told _ s = 0
 abbrev pub claim_of : Reopening → State → ℕ → ℕ → ℕ
 claim_of r w s v = if is_carried r w v then claim (w.place.cells s v) false else claim_told (r.told (Server v)) s
 
--- The controller may confirm this settlement: each party has answered, or is a server that is carried over or lost. No primary is
--- moved; a shard that goes to a server goes to one with a claim to it, be it carried over, if there is one; and a shard of whose
--- handover a party is left has a primary.
+-- The controller may confirm this settlement: each party has answered, or is a server that is carried over or lost. No
+-- primary is moved. If a server has a claim to a shard, be it carried over, the shard's primary has one. A shard has a
+-- primary if a party of its handover is left.
 pub record MaySettle (r : Reopening) (w : State) (s : Settlement) : Type 0 where
   pub first : r.settlement ≡ None
   pub opening : IsOpening s.setup s.place s.room

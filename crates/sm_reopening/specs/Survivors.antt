@@ -8,7 +8,8 @@ use Rattle.sm_reopening.specs.declared.survivors.Standing.{Standing}
 use Rattle.sm_reopening.specs.Ongoing.{told_copies, past_state, net_reopening}
 use Rattle.sm_reopening.specs.declared.party.FoundSlot.{FoundSlot}
 
--- The rank of a claim, which counts before copies do: a primary stays, and who has something comes before who has nothing.
+-- The rank of a claim counts before copies do: a primary stays, and a server that has something comes before one that
+-- has nothing.
 abbrev pub rank_of : ℕ → ℕ
 rank_of claim = if nat_lt 3 claim then 2 else if nat_lt 0 claim then 1 else 0
 
@@ -16,14 +17,15 @@ rank_of claim = if nat_lt 3 claim then 2 else if nat_lt 0 claim then 1 else 0
 abbrev pub exceeds : ℕ → ℕ → Bool → Bool
 exceeds a b deeper = nat_lt b a || ((a == b) && deeper)
 
--- Of two copies of one view the first is longer, or as long with the better claim. View 0 is that of who tells none: there the claim comes
--- first, since the longer list may be one that a former primary went on with alone.
+-- The first of two copies of one view is longer, or as long with the better claim. A server that tells no view has
+-- view 0: there the claim comes first, since a former primary may have gone on alone with the longer list.
 abbrev pub has_more_in_view : Standing → Standing → Bool
 has_more_in_view a b =
     if a.copy.view == 0 then exceeds a.claim b.claim (nat_lt b.copy.position a.copy.position)
     else exceeds a.copy.position b.copy.position (nat_lt b.claim a.claim)
 
--- The first stands above the second: by its rank; of two of the same rank by the view of its copy; and in one view by what is said above.
+-- The first stands above the second: by its rank; in one rank by the view of its copy; and in one view by the copy and
+-- the claim.
 abbrev pub stands_above : Standing → Standing → Bool
 stands_above a b = exceeds (rank_of a.claim) (rank_of b.claim) (exceeds a.copy.view b.copy.view (has_more_in_view a b))
 

@@ -64,7 +64,8 @@ pub record NumbersUnder (numbered : Setup) (r : ReopeningModel) : Type 0 where
   pub shards : AreNumbered (names_of_shards r.numbering) r.shards (names_of_shards r.document.config)
   pub roles : documented_roles r ≡ roles_by r.numbering r.shards r.servers r.document.cells.items
 
--- A reopening has this configuration and this place recorded of the epoch before. So many shards have numbers, and no copy is told yet.
+-- A reopening has this configuration and this place recorded of the epoch before. This many shards have numbers, and no
+-- copy is told yet.
 pub record HasRecorded (before : Setup) (p : Place) (n : ℕ) (o : OngoingReopening) : Type 0 where
   pub setup : recorded_setup o ≡ before
   pub place : recorded_place o ≡ p

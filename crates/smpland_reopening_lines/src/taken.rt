@@ -39,7 +39,7 @@ fn party_named(reopening: &DocumentReopening, server: Option<&str>) -> Option<Pa
     }
 }
 
-/// Returns what a server tells at a fence with this base, or the fault of its line.
+/// What a server tells at a fence with this base, or the fault of its line.
 fn read_told<'a>(
     alloc: Global,
     reopening: &DocumentReopening,
