@@ -92,7 +92,7 @@ pub data Event : Type 0 where
   Ends : (number : ℕ) → Event
   -- A replica becomes primary by an order, with a view of its own; the former primary has told it its copy.
   Succeeds : (server view former : ℕ) → Event
-  -- A replica that was told of no primary gets leave: each of the others has told that it has all its writes.
+  -- A replica without a primary gets leave: each of the others has told that it has all its writes.
   Releases : (server : ℕ) (others : ℕ → Bool) → Event
   -- Without a primary a server has another copy of all that some server has, made beside the one that it had, if any.
   Takes : (server source : ℕ) → Event

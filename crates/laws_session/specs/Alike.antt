@@ -17,7 +17,8 @@ AreDriversAlike None None = Unit {0}
 AreDriversAlike (Some d) (Some e) = AreAlike d e
 AreDriversAlike _ _ = ⊥
 
--- To the laws of the network both reopenings are one. The same copies were told, the same is recorded, and the same servers are left out.
+-- To the laws of the network both reopenings are one. The same copies were told, the same is recorded, and the same
+-- servers are left out.
 pub record AreOngoingAlike (x y : OngoingReopening) : Type 0 where
   pub reopening : net_reopening y ≡ net_reopening x
   pub copies : told_copies y ≡ told_copies x

@@ -32,7 +32,7 @@ abbrev pub net_inventory : Told → Inventory
 net_inventory (told.Slots slots) = Slots (λ s. (slot_in slots.items s).cell) (λ s. (slot_in slots.items s).reached)
 net_inventory (told.Unknown nonce) = Unknown nonce
 
--- the copy that is told of a shard
+-- the copy of a shard that an inventory tells
 abbrev pub told_copy : Option Told → ℕ → ToldCopy
 told_copy (Some (told.Slots slots)) s = (slot_in slots.items s).copy
 told_copy _ s = no_copy

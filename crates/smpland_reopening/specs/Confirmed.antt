@@ -1,5 +1,5 @@
--- A settlement as an operator confirms it: its roles are those that were chosen, and servers are down that are recorded so or that the document
--- calls so.
+-- A settlement as an operator confirms it: its roles are those that were chosen, and a server is down if the record or
+-- the document says so.
 use Rattle.std.specs.Prelude.{◌≡◌, ◌&&◌, ◌||◌, ℕ, Bool, List, Some, length, map, nat_lt, not, slice_get, slice_index_or}
 use Rattle.std.specs.List.{list_any}
 use Rattle.sm_placement.specs.Layout.{PlacementModel}

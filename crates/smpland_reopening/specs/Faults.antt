@@ -1,5 +1,6 @@
 -- Why a reopening does not begin, and why nothing is confirmed.
--- `cell_fault`, `fault_of_cells`, `document_fault` and `IsRefusedWithUnknown` are internal: you need not read them for the public contracts.
+-- `cell_fault`, `fault_of_cells`, `document_fault` and `IsRefusedWithUnknown` are internal: you need not read them for
+-- the public contracts.
 use Rattle.std.specs.Prelude.{ℕ, List, Option, None, Some, option_and_then, option_map}
 use Rattle.std.specs.Option.{option_or}
 use Rattle.sm_placement.specs.Opening.{open_fault}
@@ -20,7 +21,7 @@ use Rattle.smpland_reopening.specs.declared.fault.ReopenFault.TheVariants as reo
 
 -- ---- why a reopening does not begin
 
--- a fault of a placement's cells keeps a reopening from beginning; one of what the document lists, or of loads and floors, does not
+-- A fault of a placement's cells keeps a reopening from beginning. A fault of listed servers, loads or floors does not.
 abbrev pub cell_fault : OpenFault → Option ReopenFault
 cell_fault opening.NoMemory = Some reopen.NoMemory
 cell_fault (opening.DoubleCell s v) = Some (reopen.DoubleCell s v)
@@ -31,8 +32,8 @@ cell_fault _ = None
 abbrev pub fault_of_cells : Document → Option ReopenFault
 fault_of_cells document = option_and_then cell_fault (open_fault (sizes_of document.config) (opening_of (rows_of document)))
 
--- the fault for which a document begins no reopening, whatever is recorded: that of its cells, or else that of the first of its servers that is
--- said to be lost
+-- A document with this fault begins no reopening, whatever is recorded: its cells have one, or otherwise the first of its
+-- servers that is said to be lost.
 abbrev pub document_fault : Document → List (List ℕ) → Option ReopenFault
 document_fault document lost = option_or (fault_of_cells document) (option_map reopen.LostServer (first_lost document.config lost))
 

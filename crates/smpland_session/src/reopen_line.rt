@@ -23,7 +23,7 @@ struct NextEpoch {
     epoch: u32,
 }
 
-/// What a reopening begins with beside its document: the servers that are lost, and the epoch that it opens.
+/// The servers that a reopening gives up as lost, and the epoch that it opens.
 #[derive(Clone, Copy)]
 struct ReopeningStart<'l, 'n> {
     lost: &'l [&'n str],

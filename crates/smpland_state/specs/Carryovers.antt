@@ -1,4 +1,4 @@
--- What is kept of a journal that is opened anew.
+-- A journal that is opened anew keeps its names, its permits, and each server's latest restore.
 -- `CarriesOver` is internal: you need not read it for the public contracts.
 use Rattle.std.specs.Prelude.{◌≡◌}
 use Rattle.smpland_state.specs.Restores.{latest_told, told_in_epoch}

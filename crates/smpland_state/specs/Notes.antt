@@ -1,4 +1,4 @@
--- What a journal notes of the commands that change something, beside its driver.
+-- The notes of a journal on commands that change something, beside its driver.
 use Rattle.std.specs.Prelude.{◌==◌, ℕ, List, fold, if◌then◌else◌}
 use Rattle.std.specs.List.{list_any}
 use Rattle.sm_reservation.specs.declared.stream_id.StreamId.{StreamId}

@@ -103,7 +103,7 @@ pub fn tells_if_some(config: &Config, slot: &Option<SlotText<'_>>, cell: &Option
     }
 }
 
-/// What is recorded of a shard at a server, with the base in a handover's number.
+/// The recorded cell of a shard at a server, with the base in a handover's number.
 pub fn recorded_cell(driver: &Driver, shard: ShardId, server: ServerId) -> Cell
     requires { server < (record_of driver.now).sizes.servers }
     ensures { result ≡ recorded_cell driver.now shard server }

@@ -35,7 +35,7 @@ fn put_slot<'s>(items: &mut Vec<Option<SlotText<'s>>>, config: &Config, slot: Sl
     }
 }
 
-/// The slot that is told of each shard, by the shards' numbers.
+/// The told slot of each shard, by the shards' numbers.
 pub fn slots_by_shard<'s>(
     alloc: Global,
     config: &Config,

@@ -1,4 +1,4 @@
-//! What an audit has found, as it is told.
+//! The reply to an audit.
 ghost use Rattle.std.specs.Prelude.{◌≡◌, ◌++◌, [], OnOk, Some, codes};
 ghost use Rattle.std.specs.Option.{option_map_or};
 ghost use Rattle.smpland_lines.specs.Members.{number_member, object, object_member};
@@ -58,7 +58,7 @@ fn write_told_slot(writer: &mut Writer, slot: SlotText<'_>) -> Result<(), AllocE
     Ok(())
 }
 
-/// Writes the same, also of a shard of which no slot is told.
+/// Writes the same, also of a shard without a told slot.
 fn write_found_members(writer: &mut Writer, slot: Option<SlotText<'_>>) -> Result<(), AllocError>
     ensures { OnOk result (writer.new.tokens ≡ writer.old.tokens ++ found_members slot.entry) }
 {
