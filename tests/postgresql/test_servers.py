@@ -273,6 +273,54 @@ class RouteTest(Case):
         self.assertEqual(wrong[:3], [])
 
 
+# What schema sm has, in words.
+MADE = """SELECT pg_get_functiondef(oid) FROM pg_proc WHERE pronamespace = 'sm'::regnamespace
+  UNION ALL SELECT concat_ws(' ', attrelid::regclass, attnum, attname, format_type(atttypid, atttypmod), attnotnull, pg_get_expr(adbin, adrelid))
+    FROM pg_attribute a JOIN pg_class c ON c.oid = attrelid LEFT JOIN pg_attrdef ON adrelid = attrelid AND adnum = attnum
+    WHERE relnamespace = 'sm'::regnamespace AND attnum > 0 AND NOT attisdropped
+  UNION ALL SELECT concat_ws(' ', conrelid::regclass, pg_get_constraintdef(oid)) FROM pg_constraint WHERE connamespace = 'sm'::regnamespace
+  UNION ALL SELECT concat_ws(' ', evtname, evtevent, evtfoid::regproc) FROM pg_event_trigger ORDER BY 1"""
+
+# The commits with the texts of version 1.0, from that on whose shards have the tables of now.
+FIRST = ("86969a7b1d8d4e0dc1b4166589172c8e9bde755c", "c21182cef3621f23d2135508f3de08a1418b0f11", "a9d2eeeb3f3e3fc9afa5e9d6fd16f83db2bb4b27",
+         "2604bc8e5185c110b56af0183e6ab5509ce82694", "a3322cdeae32ff7122f6d9a762e90490cf446412")
+
+
+class UpgradeTest(unittest.TestCase):
+    """A schema sm that an older text has made becomes as one that is made now, and keeps what is in it."""
+
+    def database(self, name):
+        POST.query(f"CREATE DATABASE {name}")
+        its = Database(POST.reach.replace("dbname=postgres", f"dbname={name}"))
+        self.addCleanup(POST.query, f"DROP DATABASE {name}")
+        self.addCleanup(its.close)
+        return its
+
+    def made(self, database):
+        with database.transaction() as tx:
+            adopt.install(tx)
+            return [value(it) for it in tx.execute(MADE).fetchall()]
+
+    def test_from_older_texts(self):
+        wanted = self.made(self.database("now"))
+        for commit in FIRST:
+            words = ["git", "-C", str(servers.ROOT), "show", f"{commit}:ports/postgresql/extension/smplan--1.0.sql"]
+            told = subprocess.run(words, capture_output=True, text=True, check=False)
+            if told.returncode:
+                self.skipTest("the repository has no history here")
+            database = self.database(f"from_{commit[:8]}")
+            with database.transaction() as tx:
+                tx.execute(told.stdout)
+                tx.execute(TABLES.format("it") + "; SELECT sm.adopt('it'); UPDATE sm.state SET known = 1; INSERT INTO sm.slots VALUES ('it', 4, 0, 0, 0, 0, 1, 0, 0)")
+                self.assertEqual(adopt.version_of(tx), adopt.FIRST)
+            self.assertEqual(self.made(database), wanted)
+            self.assertEqual(self.made(database), wanted)
+            with database.transaction() as tx:
+                self.assertEqual(adopt.version_of(tx), adopt.VERSION)
+                self.assertEqual(tx.execute("SELECT answer FROM sm.enter('it', 'r1')").fetchone(), {"answer": 12})
+                tx.execute("INSERT INTO it.things (word) VALUES ('x')")
+
+
 class RecordTest(Case):
     """Bases, slots and a shard's own tables."""
 

@@ -2,13 +2,15 @@
 from __future__ import annotations
 
 from pathlib import Path
-from typing import List
+from typing import List, Tuple
 
 from smplan.failure import Failure
 
 from .database import Connection, Database, value
 
-EXTENSION = Path(__file__).resolve().parents[1] / "extension" / "smplan--1.0.sql"
+# The version of schema sm that this program needs, and its text; the first one, which tells none; and no schema's.
+VERSION, FIRST, NONE = (1, 1), (1, 0), ()
+EXTENSION = Path(__file__).resolve().parents[1] / "extension" / "smplan--1.1.sql"
 
 # What can't be moved, and what helps: a query over the schema %(shard)s whose rows each are one thing.
 CHECKS = (
@@ -51,14 +53,35 @@ def refuse_server(tx: Connection) -> None:
 
 
 def install(tx: Connection) -> None:
-    """Puts schema sm into a database that has none, as an extension if its files are installed."""
+    """Puts schema sm into a database that has none, or an older one, as an extension if its files are installed."""
+    version = version_of(tx)
+    if version >= VERSION:
+        return
+    name, is_old = ".".join(str(it) for it in VERSION), tx.execute("SELECT FROM pg_extension WHERE extname = 'smplan'").fetchone() is not None
+    if not is_old and (version > NONE or not is_available(tx, "smplan")):
+        tx.execute(EXTENSION.read_text(encoding="utf-8"))
+    elif tx.execute("SELECT FROM pg_available_extension_versions WHERE name = 'smplan' AND version = %s", (name,)).fetchone() is None:
+        raise Failure(f"the files of the extension smplan are older than {name}: make -C ports/postgresql/extension install. Nothing was changed", 1)
+    elif is_old:
+        tx.execute(f"ALTER EXTENSION smplan UPDATE TO '{name}'")
+    else:
+        tx.execute(f"CREATE EXTENSION smplan VERSION '{name}'")
+        if is_available(tx, "smplan_agent"):
+            tx.execute("CREATE EXTENSION smplan_agent")
+
+
+def version_of(tx: Connection) -> Tuple[int, ...]:
+    """The version of a database's schema sm."""
     if value(tx.execute("SELECT to_regclass('sm.state') IS NULL").fetchone()):
-        if tx.execute("SELECT FROM pg_available_extensions WHERE name = 'smplan'").fetchone() is not None:
-            tx.execute("CREATE EXTENSION smplan")
-            if tx.execute("SELECT FROM pg_available_extensions WHERE name = 'smplan_agent'").fetchone() is not None:
-                tx.execute("CREATE EXTENSION smplan_agent")
-        else:
-            tx.execute(EXTENSION.read_text(encoding="utf-8"))
+        return NONE
+    if value(tx.execute("SELECT to_regprocedure('sm.version()') IS NULL").fetchone()):
+        return FIRST
+    return tuple(value(tx.execute("SELECT sm.version()").fetchone()))
+
+
+def is_available(tx: Connection, extension: str) -> bool:
+    """Whether an extension's files are installed."""
+    return tx.execute("SELECT FROM pg_available_extensions WHERE name = %s", (extension,)).fetchone() is not None
 
 
 def faults_of(tx: Connection, shard: str) -> List[str]:

@@ -2,24 +2,30 @@
 --
 -- What a server keeps stands in schema sm. What belongs to a shard stands in its schema, and moves with its data: sm_requests, sm_counters, sm_cut,
 -- sm_views, sm_begun, sm_members. `smplan-pg serve` changes all of it; clients call sm.enter, sm.reply and sm.acknowledged.
-CREATE SCHEMA sm;
+--
+-- The text also brings what an older one has made up to this one: smplan--1.0--1.1.sql is the same. So each statement may find its effect there, and what has
+-- other columns or arguments than before is changed, or dropped first.
+CREATE SCHEMA IF NOT EXISTS sm;
+
+-- The text's version: who changes the text raises it, and the files' names.
+CREATE OR REPLACE FUNCTION sm.version() RETURNS int[] LANGUAGE sql IMMUTABLE PARALLEL SAFE AS $$ SELECT ARRAY[1, 1] $$;
 
 -- ---- what a server keeps
 
 -- The base of the server, its number and name, and the last reopening that it has heard of. 64-bit numbers stand as signed ones of the same bits.
-CREATE TABLE sm.state (
+CREATE TABLE IF NOT EXISTS sm.state (
   one bool PRIMARY KEY DEFAULT true CHECK (one),
   me int, name text,
   journal bigint NOT NULL DEFAULT 0, number bigint NOT NULL DEFAULT 0, nonce bigint NOT NULL DEFAULT 0,
   known int NOT NULL DEFAULT 0, fenced int NOT NULL DEFAULT 0, heard bigint NOT NULL DEFAULT 0);
-INSERT INTO sm.state DEFAULT VALUES;
+INSERT INTO sm.state DEFAULT VALUES ON CONFLICT DO NOTHING;
 
 -- All servers, and how others reach their databases. A number belongs to one name for ever.
-CREATE TABLE sm.servers (number int PRIMARY KEY, name text NOT NULL UNIQUE, url text NOT NULL, reach text);
+CREATE TABLE IF NOT EXISTS sm.servers (number int PRIMARY KEY, name text NOT NULL UNIQUE, url text NOT NULL, reach text);
 
 -- The slots, and beside them: whom the shard is followed from; whether the copy here is whole; and for those who will follow this server the place in
 -- its log behind which all writes are its own, with the view and the position at which its copy was then.
-CREATE TABLE sm.slots (
+CREATE TABLE IF NOT EXISTS sm.slots (
   shard text PRIMARY KEY,
   cell int NOT NULL, party int NOT NULL, handover bigint NOT NULL, last bigint NOT NULL, at_work bigint NOT NULL, load bigint NOT NULL,
   cut bigint NOT NULL, has_cut int NOT NULL,
@@ -27,43 +33,43 @@ CREATE TABLE sm.slots (
 
 -- The copies that this server makes: what they have left behind is its own to delete. An old copy stands beside, under the name `kept`, until the new
 -- one is whole.
-CREATE TABLE sm.copying (shard text PRIMARY KEY, source int NOT NULL, since timestamptz NOT NULL DEFAULT now(), kept text);
+CREATE TABLE IF NOT EXISTS sm.copying (shard text PRIMARY KEY, source int NOT NULL, since timestamptz NOT NULL DEFAULT now(), kept text);
 
 -- Streams that the copying of tables may have left at a source, by the beginning of their names.
-CREATE TABLE sm.left_behind (source int, streams text, PRIMARY KEY (source, streams));
+CREATE TABLE IF NOT EXISTS sm.left_behind (source int, streams text, PRIMARY KEY (source, streams));
 
 -- The copies that others make from here; they tell every second that they go on.
-CREATE TABLE sm.copied (shard text, server int, since timestamptz NOT NULL DEFAULT now(), seen timestamptz NOT NULL DEFAULT now(), PRIMARY KEY (shard, server));
+CREATE TABLE IF NOT EXISTS sm.copied (shard text, server int, since timestamptz NOT NULL DEFAULT now(), seen timestamptz NOT NULL DEFAULT now(), PRIMARY KEY (shard, server));
 
 -- Data that was set aside, and not deleted: `smplan-pg drop --aside` deletes it.
-CREATE TABLE sm.asides (schema text PRIMARY KEY, shard text NOT NULL, since timestamptz NOT NULL DEFAULT now(), why text NOT NULL);
+CREATE TABLE IF NOT EXISTS sm.asides (schema text PRIMARY KEY, shard text NOT NULL, since timestamptz NOT NULL DEFAULT now(), why text NOT NULL);
 
 -- The changes of shards' schemas that were made here by `smplan-pg ddl`.
-CREATE TABLE sm.changes (shard text, name text, at timestamptz NOT NULL DEFAULT now(), PRIMARY KEY (shard, name));
+CREATE TABLE IF NOT EXISTS sm.changes (shard text, name text, at timestamptz NOT NULL DEFAULT now(), PRIMARY KEY (shard, name));
 
 -- The shards that this server wants to drop: the number of its question for leave, which is open until the drop is committed or given up.
-CREATE TABLE sm.leaving (shard text PRIMARY KEY, question bigint NOT NULL);
+CREATE TABLE IF NOT EXISTS sm.leaving (shard text PRIMARY KEY, question bigint NOT NULL);
 
 -- The name of a shard's publication, and with a server's number that of the stream by which the server follows it.
-CREATE FUNCTION sm.stream(in_shard text, server int DEFAULT NULL) RETURNS text LANGUAGE sql IMMUTABLE PARALLEL SAFE AS $$
+CREATE OR REPLACE FUNCTION sm.stream(in_shard text, server int DEFAULT NULL) RETURNS text LANGUAGE sql IMMUTABLE PARALLEL SAFE AS $$
   SELECT 'sm_' || left(regexp_replace(lower(in_shard), '[^a-z0-9]', '_', 'g'), 34) || '_' || left(md5(in_shard), 8) || coalesce('_' || server, '')
 $$;
 
 -- The lock of a shard: each request shares it until its transaction ends, and an order that must find none running takes it whole. (Row locks would
 -- starve: sharers of rows pass whoever waits.)
-CREATE FUNCTION sm.share(in_shard text) RETURNS void LANGUAGE sql AS $$ SELECT pg_advisory_xact_lock_shared(1936531056, hashtext(in_shard)) $$;
-CREATE FUNCTION sm.hold(in_shard text) RETURNS void LANGUAGE sql AS $$ SELECT pg_advisory_xact_lock(1936531056, hashtext(in_shard)) $$;
+CREATE OR REPLACE FUNCTION sm.share(in_shard text) RETURNS void LANGUAGE sql AS $$ SELECT pg_advisory_xact_lock_shared(1936531056, hashtext(in_shard)) $$;
+CREATE OR REPLACE FUNCTION sm.hold(in_shard text) RETURNS void LANGUAGE sql AS $$ SELECT pg_advisory_xact_lock(1936531056, hashtext(in_shard)) $$;
 
 -- The lock of leave: one question or answer about a shard after the other. Who takes both takes that of the shard first.
-CREATE FUNCTION sm.lock_leave(in_shard text) RETURNS void LANGUAGE sql AS $$ SELECT pg_advisory_xact_lock(1936531059, hashtext(in_shard)) $$;
+CREATE OR REPLACE FUNCTION sm.lock_leave(in_shard text) RETURNS void LANGUAGE sql AS $$ SELECT pg_advisory_xact_lock(1936531059, hashtext(in_shard)) $$;
 
 -- ---- a shard's own tables
 
-CREATE FUNCTION sm.is_adopted(in_shard text) RETURNS bool LANGUAGE sql STABLE AS $$
+CREATE OR REPLACE FUNCTION sm.is_adopted(in_shard text) RETURNS bool LANGUAGE sql STABLE AS $$
   SELECT to_regclass(format('%I.sm_counters', in_shard)) IS NOT NULL
 $$;
 
-CREATE FUNCTION sm.adopt(in_shard text) RETURNS void LANGUAGE plpgsql AS $$
+CREATE OR REPLACE FUNCTION sm.adopt(in_shard text) RETURNS void LANGUAGE plpgsql AS $$
 BEGIN
   EXECUTE format('
     CREATE TABLE %1$I.sm_requests (id text PRIMARY KEY, reply text, at timestamptz NOT NULL DEFAULT now());
@@ -83,7 +89,7 @@ BEGIN
 END $$;
 
 -- Guards the tables of a shard that have no guard yet.
-CREATE FUNCTION sm.guard_tables(in_shard text) RETURNS void LANGUAGE plpgsql AS $$
+CREATE OR REPLACE FUNCTION sm.guard_tables(in_shard text) RETURNS void LANGUAGE plpgsql AS $$
 DECLARE it regclass;
 BEGIN
   FOR it IN SELECT c.oid FROM pg_class c WHERE relnamespace = quote_ident(in_shard)::regnamespace AND relkind IN ('r', 'p') AND relname NOT LIKE 'sm\_%'
@@ -93,7 +99,7 @@ BEGIN
 END $$;
 
 -- Undoes what sm.adopt did.
-CREATE FUNCTION sm.release(in_shard text) RETURNS void LANGUAGE plpgsql AS $$
+CREATE OR REPLACE FUNCTION sm.release(in_shard text) RETURNS void LANGUAGE plpgsql AS $$
 DECLARE it record;
 BEGIN
   FOR it IN SELECT tgrelid::regclass AS tab FROM pg_trigger JOIN pg_class c ON c.oid = tgrelid
@@ -104,11 +110,11 @@ BEGIN
     in_shard, sm.stream(in_shard));
 END $$;
 
-CREATE FUNCTION sm.tell_cut() RETURNS trigger LANGUAGE plpgsql AS $$ BEGIN PERFORM pg_notify('sm_cut', TG_TABLE_SCHEMA); RETURN NULL; END $$;
+CREATE OR REPLACE FUNCTION sm.tell_cut() RETURNS trigger LANGUAGE plpgsql AS $$ BEGIN PERFORM pg_notify('sm_cut', TG_TABLE_SCHEMA); RETURN NULL; END $$;
 
 -- The position of a copy: how many transactions it has that wrote into the schema, be it into the shard's own tables alone. So two copies of one view
 -- and position are the same. Of counters each transaction takes a free one, so that writers do not queue.
-CREATE FUNCTION sm.position(in_shard text) RETURNS bigint LANGUAGE plpgsql AS $$
+CREATE OR REPLACE FUNCTION sm.position(in_shard text) RETURNS bigint LANGUAGE plpgsql AS $$
 DECLARE total bigint;
 BEGIN
   IF NOT sm.is_adopted(in_shard) THEN RETURN 0; END IF;
@@ -117,7 +123,7 @@ BEGIN
 END $$;
 
 -- The view of a copy: the number of what made the last primary of its list.
-CREATE FUNCTION sm.view(in_shard text) RETURNS bigint LANGUAGE plpgsql AS $$
+CREATE OR REPLACE FUNCTION sm.view(in_shard text) RETURNS bigint LANGUAGE plpgsql AS $$
 DECLARE last bigint;
 BEGIN
   IF NOT sm.is_adopted(in_shard) THEN RETURN 0; END IF;
@@ -128,7 +134,7 @@ END $$;
 -- A server that begins to write stores what its copy had by then, as the first thing that its stream tells. A follower whose copy is another one takes nothing
 -- of it: a subscription that was on while its stream was dropped and made again, or while its source was none, would go on behind a gap. (Tables that are copied
 -- still have nothing to be compared: who copies has made the stream himself.)
-CREATE FUNCTION sm.check_begun() RETURNS trigger LANGUAGE plpgsql AS $$
+CREATE OR REPLACE FUNCTION sm.check_begun() RETURNS trigger LANGUAGE plpgsql AS $$
 DECLARE view bigint := sm.view(TG_TABLE_SCHEMA); "position" bigint := sm.position(TG_TABLE_SCHEMA);
 BEGIN
   IF (view, "position") <> (NEW.view, NEW.position) AND (SELECT count(*) FROM pg_subscription_rel WHERE srsubstate = 'r' AND srrelid IN
@@ -139,7 +145,7 @@ BEGIN
 END $$;
 
 -- Counts a write. What a transaction has counted has to be durable when others see it.
-CREATE FUNCTION sm.count(in_shard text) RETURNS void LANGUAGE plpgsql AS $$
+CREATE OR REPLACE FUNCTION sm.count(in_shard text) RETURNS void LANGUAGE plpgsql AS $$
 DECLARE n int;
 BEGIN
   IF current_setting('synchronous_commit') = 'off' THEN PERFORM set_config('synchronous_commit', 'local', true); END IF;
@@ -153,7 +159,7 @@ END $$;
 -- ---- requests
 
 -- Where a request is executed: `sm_route` of include/sm_agent.h, by its numbers (12 execute, 13 pass on, 14 not here, 15 not yet).
-CREATE FUNCTION sm.route(known int, base_fenced int, s sm.slots, applied bigint, is_passed bool, passed_handover bigint, passed_cut bigint, passed_by int)
+CREATE OR REPLACE FUNCTION sm.route(known int, base_fenced int, s sm.slots, applied bigint, is_passed bool, passed_handover bigint, passed_cut bigint, passed_by int)
 RETURNS int LANGUAGE sql IMMUTABLE AS $$
   SELECT CASE
     WHEN known = 0 OR s.cell IS NULL OR s.cell IN (0, 1, 3) THEN 14
@@ -167,7 +173,7 @@ $$;
 -- The first statement of a request. Answers 12: the statements that follow are the request, and sm.reply stores its reply; 11: it was executed before,
 -- with this reply; 13: send it to server `party`, with `handover`, `cut` and the number of this server; 14: look at the map again; 15: wait a moment.
 -- A request that only reads has no identity, NULL.
-CREATE FUNCTION sm.enter(in_shard text, request text, passed_handover bigint DEFAULT 0, passed_cut bigint DEFAULT 0, passed_by int DEFAULT NULL,
+CREATE OR REPLACE FUNCTION sm.enter(in_shard text, request text, passed_handover bigint DEFAULT 0, passed_cut bigint DEFAULT 0, passed_by int DEFAULT NULL,
   OUT answer int, OUT reply text, OUT party int, OUT handover bigint, OUT cut bigint, OUT me int) LANGUAGE plpgsql AS $$
 DECLARE b sm.state; s sm.slots; n int;
 BEGIN
@@ -198,13 +204,13 @@ BEGIN
 END $$;
 
 -- Stores the reply of a request, in its transaction.
-CREATE FUNCTION sm.reply(in_shard text, request text, told text) RETURNS void LANGUAGE plpgsql AS $$
+CREATE OR REPLACE FUNCTION sm.reply(in_shard text, request text, told text) RETURNS void LANGUAGE plpgsql AS $$
 BEGIN EXECUTE format('UPDATE %I.sm_requests SET reply = $2 WHERE id = $1', in_shard) USING request, told; END $$;
 
 -- Called behind the commit of a request, or of a read: true once all members have what it saw. False: send the request again, under its identity.
 -- (Members and slot are read together: one transaction changes both. synchronous_standby_names would make all shards of a server wait for the
 -- slowest follower of any.)
-CREATE FUNCTION sm.acknowledged(in_shard text, patience interval DEFAULT '10 s') RETURNS bool LANGUAGE plpgsql AS $$
+CREATE OR REPLACE FUNCTION sm.acknowledged(in_shard text, patience interval DEFAULT '10 s') RETURNS bool LANGUAGE plpgsql AS $$
 DECLARE until pg_lsn := pg_current_wal_flush_lsn(); ends timestamptz := clock_timestamp() + patience; served bool; lacking bool; steps int := 0;
 BEGIN
   LOOP
@@ -220,7 +226,7 @@ BEGIN
 END $$;
 
 -- Whether all members have what this server's log has up to a place.
-CREATE FUNCTION sm.has_all(in_shard text, until pg_lsn) RETURNS bool LANGUAGE plpgsql AS $$
+CREATE OR REPLACE FUNCTION sm.has_all(in_shard text, until pg_lsn) RETURNS bool LANGUAGE plpgsql AS $$
 DECLARE lacking bool;
 BEGIN
   EXECUTE format('SELECT EXISTS (SELECT FROM %I.sm_members m LEFT JOIN pg_replication_slots r ON r.slot_name = sm.stream($1, m.server) AND r.database = current_database()
@@ -229,7 +235,7 @@ BEGIN
 END $$;
 
 -- Deletes the identities of requests that are older than a time, some at once, as one more write. How many.
-CREATE FUNCTION sm.forget_requests(in_shard text, keeping interval, most int DEFAULT 1000) RETURNS int LANGUAGE plpgsql AS $$
+CREATE OR REPLACE FUNCTION sm.forget_requests(in_shard text, keeping interval, most int DEFAULT 1000) RETURNS int LANGUAGE plpgsql AS $$
 DECLARE n int;
 BEGIN
   PERFORM sm.share(in_shard);
@@ -243,7 +249,7 @@ END $$;
 
 -- For clients that know nothing of this: each statement that writes is refused where the shard is not served. Their requests have no identities, and
 -- wait for nobody. (Triggers like this one do not fire for what replication applies.)
-CREATE FUNCTION sm.guard() RETURNS trigger LANGUAGE plpgsql AS $$
+CREATE OR REPLACE FUNCTION sm.guard() RETURNS trigger LANGUAGE plpgsql AS $$
 DECLARE b sm.state; s sm.slots;
 BEGIN
   IF current_setting('sm.entered', true) = TG_TABLE_SCHEMA OR current_setting('sm.own', true) = 'on' THEN RETURN NULL; END IF;
@@ -260,7 +266,7 @@ END $$;
 -- ---- for other servers
 
 -- What a follower needs to know of its source. A stream that is past the place where this server's own writes begin can't be joined any more.
-CREATE FUNCTION sm.offers(in_shard text, follower int, OUT cell int, OUT has_cut int, OUT at_work bigint, OUT journal bigint, OUT number bigint, OUT known int,
+CREATE OR REPLACE FUNCTION sm.offers(in_shard text, follower int, OUT cell int, OUT has_cut int, OUT at_work bigint, OUT journal bigint, OUT number bigint, OUT known int,
   OUT fenced int, OUT place pg_lsn, OUT view bigint, OUT "position" bigint, OUT has_stream bool, OUT is_joinable bool, OUT is_member bool, OUT party int) LANGUAGE plpgsql AS $$
 DECLARE b sm.state; s sm.slots; r record;
 BEGIN
@@ -280,7 +286,7 @@ BEGIN
 END $$;
 
 -- A follower counts from now on. False if this server does not serve the shard. (A new owner that is fenced will begin anew, with what it has by then.)
-CREATE FUNCTION sm.join(in_shard text, follower int) RETURNS bool LANGUAGE plpgsql AS $$
+CREATE OR REPLACE FUNCTION sm.join(in_shard text, follower int) RETURNS bool LANGUAGE plpgsql AS $$
 DECLARE n int;
 BEGIN
   PERFORM sm.share(in_shard);
@@ -296,7 +302,7 @@ END $$;
 
 -- A follower that copies the shard anew counts no more until that copy is whole: what it says of its stream meanwhile is not what it would have after a loss.
 -- False if this server knows of no copy.
-CREATE FUNCTION sm.part(in_shard text, follower int) RETURNS bool LANGUAGE plpgsql AS $$
+CREATE OR REPLACE FUNCTION sm.part(in_shard text, follower int) RETURNS bool LANGUAGE plpgsql AS $$
 DECLARE n int;
 BEGIN
   PERFORM sm.share(in_shard);
@@ -309,14 +315,14 @@ BEGIN
 END $$;
 
 -- This server asks for leave to drop a shard, under a number that no question had before.
-CREATE FUNCTION sm.begin_leaving(in_shard text, in_question bigint) RETURNS void LANGUAGE plpgsql AS $$
+CREATE OR REPLACE FUNCTION sm.begin_leaving(in_shard text, in_question bigint) RETURNS void LANGUAGE plpgsql AS $$
 BEGIN
   PERFORM sm.lock_leave(in_shard);
   INSERT INTO sm.leaving VALUES (in_shard, in_question) ON CONFLICT (shard) DO UPDATE SET question = excluded.question;
 END $$;
 
 -- The question is answered, and the drop is committed in this transaction. False if this server has given it up, since it gave leave itself.
-CREATE FUNCTION sm.end_leaving(in_shard text, in_question bigint) RETURNS bool LANGUAGE plpgsql AS $$
+CREATE OR REPLACE FUNCTION sm.end_leaving(in_shard text, in_question bigint) RETURNS bool LANGUAGE plpgsql AS $$
 BEGIN
   PERFORM sm.lock_leave(in_shard);
   DELETE FROM sm.leaving WHERE shard = in_shard AND question = in_question;
@@ -326,7 +332,8 @@ END $$;
 -- Another server asks for leave to drop a shard: 'leave', or why not. A primary gives it, and counts the other no more (but an old owner until it has dropped
 -- its copy, which a reopening takes for whole until then); where there is none (`beside`), a secondary whose whole copy has what the other has. Who has a
 -- question open gives none; of two that ask each other the one with the higher number gives its own up, and asks anew.
-CREATE FUNCTION sm.leave(in_shard text, asker int, in_journal bigint, in_heard bigint, beside bool, in_view bigint, in_position bigint) RETURNS text
+DROP FUNCTION IF EXISTS sm.leave(text, int);
+CREATE OR REPLACE FUNCTION sm.leave(in_shard text, asker int, in_journal bigint, in_heard bigint, beside bool, in_view bigint, in_position bigint) RETURNS text
 LANGUAGE plpgsql AS $$
 DECLARE b sm.state; s sm.slots; n int;
 BEGIN
@@ -349,7 +356,7 @@ BEGIN
 END $$;
 
 -- An old owner has dropped its copy: it counts no more at the primary.
-CREATE FUNCTION sm.left(in_shard text, asker int) RETURNS void LANGUAGE plpgsql AS $$
+CREATE OR REPLACE FUNCTION sm.left(in_shard text, asker int) RETURNS void LANGUAGE plpgsql AS $$
 DECLARE n int;
 BEGIN
   PERFORM sm.share(in_shard);
@@ -360,7 +367,7 @@ BEGIN
 END $$;
 
 -- A copy begins, or goes on. False if so many are made from here already.
-CREATE FUNCTION sm.copy(in_shard text, follower int, most int) RETURNS bool LANGUAGE plpgsql AS $$
+CREATE OR REPLACE FUNCTION sm.copy(in_shard text, follower int, most int) RETURNS bool LANGUAGE plpgsql AS $$
 BEGIN
   PERFORM pg_advisory_xact_lock(1936531057, 0);
   UPDATE sm.copied SET seen = clock_timestamp() WHERE shard = in_shard AND server = follower;
@@ -374,16 +381,16 @@ END $$;
 -- ---- sequences, which logical replication leaves out
 
 -- Their values, which travel in the cut.
-CREATE FUNCTION sm.sequences(in_shard text) RETURNS jsonb LANGUAGE sql AS $$
+CREATE OR REPLACE FUNCTION sm.sequences(in_shard text) RETURNS jsonb LANGUAGE sql AS $$
   SELECT coalesce(jsonb_object_agg(sequencename, last_value) FILTER (WHERE last_value IS NOT NULL), '{}') FROM pg_sequences WHERE schemaname = in_shard
 $$;
 
-CREATE FUNCTION sm.set_sequences(in_shard text, told jsonb) RETURNS void LANGUAGE sql AS $$
+CREATE OR REPLACE FUNCTION sm.set_sequences(in_shard text, told jsonb) RETURNS void LANGUAGE sql AS $$
   SELECT setval(format('%I.%I', in_shard, key)::regclass, value::bigint) FROM jsonb_each_text(told)
 $$;
 
 -- Each that a column owns goes behind the greatest value there, as no cut tells of writes behind it.
-CREATE FUNCTION sm.advance_sequences(in_shard text) RETURNS void LANGUAGE plpgsql AS $$
+CREATE OR REPLACE FUNCTION sm.advance_sequences(in_shard text) RETURNS void LANGUAGE plpgsql AS $$
 DECLARE it record; last bigint; told bigint;
 BEGIN
   FOR it IN SELECT s.oid::regclass AS sequence, t.oid::regclass AS tab, a.attname FROM pg_class s JOIN pg_depend d ON d.objid = s.oid AND d.deptype IN ('a', 'i')
@@ -397,7 +404,7 @@ END $$;
 
 -- ---- no change of a schema that moves, or has followers, which would not get it
 
-CREATE FUNCTION sm.refuse_ddl(in_schema text) RETURNS void LANGUAGE plpgsql AS $$
+CREATE OR REPLACE FUNCTION sm.refuse_ddl(in_schema text) RETURNS void LANGUAGE plpgsql AS $$
 DECLARE begun timestamptz; moves bool; followed bool := false;
 BEGIN
   IF current_setting('sm.own', true) = 'on' OR in_schema IS NULL THEN RETURN; END IF;
@@ -415,13 +422,13 @@ BEGIN
   END IF;
 END $$;
 
-CREATE FUNCTION sm.on_ddl() RETURNS event_trigger LANGUAGE plpgsql AS $$
+CREATE OR REPLACE FUNCTION sm.on_ddl() RETURNS event_trigger LANGUAGE plpgsql AS $$
 DECLARE it record;
 BEGIN
   FOR it IN SELECT DISTINCT schema_name FROM pg_event_trigger_ddl_commands() WHERE NOT in_extension LOOP PERFORM sm.refuse_ddl(it.schema_name); END LOOP;
 END $$;
 
-CREATE FUNCTION sm.on_drop() RETURNS event_trigger LANGUAGE plpgsql AS $$
+CREATE OR REPLACE FUNCTION sm.on_drop() RETURNS event_trigger LANGUAGE plpgsql AS $$
 DECLARE it record;
 BEGIN
   FOR it IN SELECT DISTINCT coalesce(schema_name, CASE object_type WHEN 'schema' THEN object_name END) AS name FROM pg_event_trigger_dropped_objects() WHERE NOT is_temporary LOOP
@@ -429,5 +436,7 @@ BEGIN
   END LOOP;
 END $$;
 
+DROP EVENT TRIGGER IF EXISTS sm_ddl;
+DROP EVENT TRIGGER IF EXISTS sm_drop;
 CREATE EVENT TRIGGER sm_ddl ON ddl_command_end EXECUTE FUNCTION sm.on_ddl();
 CREATE EVENT TRIGGER sm_drop ON sql_drop EXECUTE FUNCTION sm.on_drop();
