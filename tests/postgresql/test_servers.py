@@ -258,6 +258,15 @@ class RouteTest(Case):
                               "NULL, false, NULL, NULL, NULL)::sm.slots, applied, passed, handover, passed_cut, party)").fetchone()
         self.assertEqual((rows["n"], len(cases)), (0, 4608))
 
+    def test_the_agent_decides_if_it_is_there(self):
+        self.adopt()
+        slot = "ROW('s', 4, 1, 1, 1, 0, 1, 0, 0, NULL, false, NULL, NULL, NULL)::sm.slots"
+        with DATABASE.transaction() as tx, tx.transaction(force_rollback=True):
+            tx.execute("CREATE OR REPLACE FUNCTION sm.agent(name text, numbers bigint[]) RETURNS bigint[] LANGUAGE sql IMMUTABLE STRICT AS "
+                       "$$ SELECT ARRAY[cardinality(numbers)] WHERE name = 'route' $$")
+            rows = tx.execute(f"SELECT sm.route(1, 0, it, 0, false, 0, 0, NULL) FROM (VALUES ({slot}), (NULL)) its (it)").fetchall()
+        self.assertEqual([value(it) for it in rows], [18, 14])
+
     def test_vectors_through_the_extension(self):
         self.adopt()
         if not VECTORS.exists() or value(DATABASE.row("SELECT to_regprocedure('sm.agent(text, bigint[])') IS NULL")):

@@ -158,17 +158,23 @@ END $$;
 
 -- ---- requests
 
--- Where a request is executed: `sm_route` of include/sm_agent.h, by its numbers (12 execute, 13 pass on, 14 not here, 15 not yet).
+-- Where a request is executed: `sm_route` of include/sm_agent.h, by its numbers (12 execute, 13 pass on, 14 not here, 15 not yet). The proved function decides
+-- if extension smplan_agent is there.
 CREATE OR REPLACE FUNCTION sm.route(known int, base_fenced int, s sm.slots, applied bigint, is_passed bool, passed_handover bigint, passed_cut bigint, passed_by int)
-RETURNS int LANGUAGE sql IMMUTABLE AS $$
-  SELECT CASE
+RETURNS int LANGUAGE plpgsql STABLE AS $$
+BEGIN
+  IF s.cell IS NOT NULL AND to_regprocedure('sm.agent(text, bigint[])') IS NOT NULL THEN
+    RETURN (sm.agent('route', ARRAY[0, 0, 0, known, base_fenced, s.cell, s.party, s.handover, s.last, s.at_work, s.load, s.cut, s.has_cut, applied,
+      passed_handover, passed_cut, coalesce(passed_by, 0), is_passed::int]))[1];
+  END IF;
+  RETURN CASE
     WHEN known = 0 OR s.cell IS NULL OR s.cell IN (0, 1, 3) THEN 14
     WHEN s.cell = 4 THEN CASE WHEN s.at_work <> 0 THEN 15 ELSE 12 END
     WHEN s.cell = 5 THEN CASE WHEN base_fenced = 1 OR s.has_cut = 0 THEN 15 ELSE 13 END
     WHEN NOT is_passed OR passed_by <> s.party OR passed_handover <> s.handover THEN 14
     WHEN base_fenced = 1 OR applied < passed_cut THEN 15
-    ELSE 12 END
-$$;
+    ELSE 12 END;
+END $$;
 
 -- The first statement of a request. Answers 12: the statements that follow are the request, and sm.reply stores its reply; 11: it was executed before,
 -- with this reply; 13: send it to server `party`, with `handover`, `cut` and the number of this server; 14: look at the map again; 15: wait a moment.
