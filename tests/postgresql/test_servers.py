@@ -982,6 +982,23 @@ class SeveralTest(unittest.TestCase):
             self.assertEqual(Records(tx).mark(self.shard).position, 6)
         streams.drop_streams(a, self.shard)
 
+    def test_a_question_that_comes_late_has_no_effect(self):
+        """Whose question to join waits at the source copies nothing anew until it is answered, and counts no more then."""
+        a, _ = self.followed()
+        a.row("SELECT sm.copy(%s, 2, 9)", self.shard)
+        with ThreadPoolExecutor() as pool, a.transaction() as asks:
+            asks.execute("SELECT sm.lock_part(%s, 2)", (self.shard,))
+            parting = pool.submit(a.row, "SELECT sm.part(%s, 2)", self.shard)
+            time.sleep(0.3)
+            self.assertFalse(parting.done())
+            asks.execute("SELECT sm.join(%s, 2)", (self.shard,))
+            asks.execute("COMMIT; BEGIN")
+            self.assertTrue(value(parting.result()))
+        with a.transaction() as tx:
+            self.assertEqual(Records(tx).members(self.shard), {3: False})
+        a.do("DELETE FROM sm.copied")
+        streams.drop_streams(a, self.shard)
+
     def test_a_source_that_was_away_as_it_was_asked_first_is_followed_on(self):
         a, b = self.followed()
         with b.database.connection() as c:

@@ -63,6 +63,12 @@ CREATE OR REPLACE FUNCTION sm.hold(in_shard text) RETURNS void LANGUAGE sql AS $
 -- The lock of leave: one question or answer about a shard after the other. Who takes both takes that of the shard first.
 CREATE OR REPLACE FUNCTION sm.lock_leave(in_shard text) RETURNS void LANGUAGE sql AS $$ SELECT pg_advisory_xact_lock(1936531059, hashtext(in_shard)) $$;
 
+-- The lock of a follower's part: one that joins holds it from before its question is sent until the answer is committed, and what ends its part waits. So no old
+-- question has an effect late, as one would whose process stood still. It is taken before that of the shard.
+CREATE OR REPLACE FUNCTION sm.lock_part(in_shard text, follower int) RETURNS void LANGUAGE sql AS $$
+  SELECT pg_advisory_xact_lock(1936531060, hashtext(follower || ' ' || in_shard))
+$$;
+
 -- ---- a shard's own tables
 
 CREATE OR REPLACE FUNCTION sm.is_adopted(in_shard text) RETURNS bool LANGUAGE sql STABLE AS $$
@@ -298,7 +304,8 @@ BEGIN
   END IF;
 END $$;
 
--- A follower counts from now on. False if this server does not serve the shard. (A new owner that is fenced will begin anew, with what it has by then.)
+-- A follower counts from now on, which has taken the lock of its part before. False if this server does not serve the shard. (A new owner that is fenced will
+-- begin anew, with what it has by then.)
 CREATE OR REPLACE FUNCTION sm.join(in_shard text, follower int) RETURNS bool LANGUAGE plpgsql AS $$
 DECLARE n int;
 BEGIN
@@ -318,6 +325,7 @@ END $$;
 CREATE OR REPLACE FUNCTION sm.part(in_shard text, follower int) RETURNS bool LANGUAGE plpgsql AS $$
 DECLARE n int;
 BEGIN
+  PERFORM sm.lock_part(in_shard, follower);
   PERFORM sm.share(in_shard);
   IF NOT EXISTS (SELECT FROM sm.copied WHERE shard = in_shard AND server = follower) THEN RETURN false; END IF;
   IF NOT sm.is_adopted(in_shard) THEN RETURN true; END IF;
@@ -350,6 +358,7 @@ CREATE OR REPLACE FUNCTION sm.leave(in_shard text, asker int, in_journal bigint,
 LANGUAGE plpgsql AS $$
 DECLARE b sm.state; s sm.slots; n int;
 BEGIN
+  PERFORM sm.lock_part(in_shard, asker);
   PERFORM sm.share(in_shard);
   PERFORM sm.lock_leave(in_shard);
   SELECT * INTO b FROM sm.state;

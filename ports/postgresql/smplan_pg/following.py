@@ -280,7 +280,7 @@ class Following:
             if not (self.is_enabled(shard) or (told.slot.cell == Cell.FORWARDING and self.go_on(shard))) or self.refuses(shard, told.source, was):
                 return False
             if not it["is_member"] and told.slot.cell == Cell.SECONDARY and not self.server.live(shard).worker:
-                self.server.peer(told.source).row("SELECT sm.join(%s, %s)", shard, self.server.number)
+                self.server.sources.join(shard, told.source)
             return True
         return False
 
@@ -337,7 +337,7 @@ class Following:
             streams.enable(tx, mine)
             records.put_source(shard, owner, True)
         self.server.say("follows", self.server.names[owner], "for", shard)
-        self.server.peer(owner).row("SELECT sm.join(%s, %s)", shard, self.server.number)
+        self.server.sources.join(shard, owner)
         return True
 
     def copy_anew(self, shard: str, source: int, told: State) -> None:
@@ -362,4 +362,4 @@ class Following:
             self.server.copies.end(tx, shard)
             it.put_source(shard, source, True)
         if told.slot.cell == Cell.SECONDARY:
-            self.server.peer(source).row("SELECT sm.join(%s, %s)", shard, self.server.number)
+            self.server.sources.join(shard, source)

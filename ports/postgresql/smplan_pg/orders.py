@@ -147,7 +147,7 @@ class Orders:
 
     def commit_copy(self, shard: str, order: Order, source: int) -> None:
         """Commits a copy that is whole. A secondary counts before that."""
-        if order.call == Call.ADD and not value(self.server.peer(source).row("SELECT sm.join(%s, %s)", shard, self.server.number)):
+        if order.call == Call.ADD and not self.server.sources.join(shard, source):
             raise Stuck(f"{self.server.names[source]} does not serve the shard any more")
         with self.server.database.transaction() as tx:
             it = Records(tx)

@@ -6,7 +6,7 @@ from typing import TYPE_CHECKING, Any, Dict, Optional
 import psycopg
 from smplan.agent import Base, Cell
 
-from .database import unsigned
+from .database import unsigned, value
 from .records import Mark
 from .streams import Stuck
 
@@ -45,6 +45,12 @@ class Sources:
         if not serves(self.offer(it["party"], shard)):
             raise Stuck(f"{self.server.names.get(number)} has handed the shard over, and the new owner has not sealed yet")
         return it["party"]
+
+    def join(self, shard: str, number: int) -> bool:
+        """Counts at another server from now on. Whether that serves the shard. (The lock is there before it is asked: a question that comes late has no effect.)"""
+        with self.server.peer(number).transaction() as there:
+            there.execute("SELECT sm.lock_part(%s, %s)", (shard, self.server.number))
+            return bool(value(there.execute("SELECT sm.join(%s, %s)", (shard, self.server.number)).fetchone()))
 
     def check(self, shard: str, number: int) -> None:
         """Stops what copies from a server that sends nothing any more."""
