@@ -13,6 +13,10 @@ from .database import Connection, Database, value
 
 ALL = "insert, update, delete, truncate"
 
+# What each subscription has: a stream that is there already; and long transactions in pieces of logical_decoding_work_mem, not all at their commit. (A stream reads
+# what comes to its server's other shards, too. A copy is one transaction: all writes behind it would wait until it has been read through.)
+STREAM = "slot_name = {name}, create_slot = false, synchronous_commit = 'local', streaming = on"
+
 # For how long a source may take to tell what its publication has, in milliseconds.
 ASKING = 30000
 
@@ -84,8 +88,7 @@ def asking(c: Connection) -> Iterator[Connection]:
 def follow(c: Connection, name: str, publication: str, reach: str) -> None:
     """Copies all that a publication has, and follows it by a stream that is there already."""
     with asking(c):
-        c.execute(said("CREATE SUBSCRIPTION {} CONNECTION {reach} PUBLICATION {} WITH (slot_name = {name}, create_slot = false, synchronous_commit = 'local')",
-                       name, publication, reach=reach, name=name))
+        c.execute(said("CREATE SUBSCRIPTION {} CONNECTION {reach} PUBLICATION {} WITH (" + STREAM + ")", name, publication, reach=reach, name=name))
 
 
 def follow_behind(database: Database, name: str, publication: str, reach: str, place: str) -> None:
@@ -93,8 +96,8 @@ def follow_behind(database: Database, name: str, publication: str, reach: str, p
     (Its place is stored here: what pg_replication_slot_advance says at the source is forgotten by a crash.)"""
     with database.connection() as c, asking(c) as tx:
         drop_subscription(tx, name)
-        tx.execute(said("CREATE SUBSCRIPTION {} CONNECTION {reach} PUBLICATION {} WITH (slot_name = {name}, create_slot = false, copy_data = false, "
-                        "enabled = false, synchronous_commit = 'local')", name, publication, reach=reach, name=name))
+        tx.execute(said("CREATE SUBSCRIPTION {} CONNECTION {reach} PUBLICATION {} WITH (" + STREAM + ", copy_data = false, enabled = false)",
+                        name, publication, reach=reach, name=name))
     database.do("SELECT pg_replication_origin_advance('pg_' || (SELECT oid FROM pg_subscription WHERE subname = %s), %s::pg_lsn)", name, place)
 
 
