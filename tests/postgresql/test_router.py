@@ -106,6 +106,17 @@ class RouterTest(Case):
             self.router.run("s", "r1", add(5))
         self.assertEqual((self.sum("a"), self.sum("b")), (0, 0))
 
+    def test_a_server_that_stands_still(self):
+        self.router.run("s", "r1", add(5))
+        begun = time.monotonic()
+        with POST.still(), self.assertRaises(NotServed):
+            self.router.run("s", "r2", add(5))
+        self.assertLess(time.monotonic() - begun, 30.0)
+
+    def test_work_that_takes_longer_than_the_patience(self):
+        self.router.patience = 0.5
+        self.assertEqual(self.router.run("s", "r1", lambda cursor: cursor.execute("SELECT pg_sleep(3)").rowcount), 1)
+
     def test_the_map_is_looked_at_again(self):
         self.router.run("s", "r1", add(5))
         self.slots(a=Slot(Cell.ABSENT), b=Slot(Cell.PRIMARY, load=1))

@@ -99,10 +99,13 @@ class Database:
 
     def cut_off(self) -> None:
         """Ends connections whose server stands still: who waits for an answer there has none, at once."""
-        with self.lock:
-            late = [c for c, since in self.used.items() if self.patience and time.monotonic() - since > self.patience + STILL]
-        for it in late:
+        for it in self.used_for(self.patience + STILL) if self.patience else ():
             shut(it)
+
+    def used_for(self, seconds: float) -> List[Connection]:
+        """The connections that have been in use for longer than some seconds."""
+        with self.lock:
+            return [c for c, since in self.used.items() if time.monotonic() - since > seconds]
 
     def close(self) -> None:
         """Closes what is kept."""

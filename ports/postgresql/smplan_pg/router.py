@@ -11,7 +11,9 @@ from __future__ import annotations
 
 import json
 import random
+import threading
 import time
+import weakref
 from collections import Counter
 from dataclasses import dataclass
 from pathlib import Path
@@ -19,7 +21,7 @@ from typing import Any, Callable, Dict, Mapping, Optional, Union
 
 import psycopg
 
-from .database import Connection, Database, Row, value
+from .database import Connection, Database, Row, shut, value
 
 EXECUTE, PASS_ON, NOT_HERE, NOT_YET, AGAIN = 12, 13, 14, 15, 11
 Work = Callable[[psycopg.Cursor], Any]
@@ -63,6 +65,7 @@ class Router:
         self.listed: Dict[str, Optional[str]] = {}
         self.numbers: Dict[int, str] = {}
         self.counts: "Counter[str]" = Counter()
+        threading.Thread(target=watch, args=(weakref.ref(self),), daemon=True).start()
 
     def run(self, shard: str, identity: str, work: Work) -> Any:
         """Executes a request once, and returns its reply when it is acknowledged: all who have to have what it wrote have it."""
@@ -92,6 +95,13 @@ class Router:
                 time.sleep(pause * (0.5 + random.random()))
                 pause = min(1.3 * pause, LONGEST if time.monotonic() < begun + HANDOVER else LONGEST_LATER)
         raise NotServed(f"{shard}: not within {self.patience:g} s")
+
+    def cut_off(self) -> None:
+        """Ends what has waited for longer than its patience at a server that stands still."""
+        for database in self.servers.values():
+            late = database.used_for(self.patience)
+            for it in late if late and not database.is_up() else ():
+                shut(it)
 
     def place(self, shard: str) -> Optional[Onward]:
         """Where the map lists a shard."""
@@ -146,3 +156,11 @@ class Router:
     def onward(self, c: Connection, row: Row) -> Optional[Onward]:
         """Where a request is passed on to."""
         return Onward(self.name_of(c, row["party"]), row["handover"], row["cut"], row["me"]) if row["answer"] == PASS_ON else None
+
+
+def watch(router: "weakref.ref[Router]") -> None:
+    """Looks each second, for as long as there is a router, whether what it sends waits in vain."""
+    while (it := router()) is not None:
+        it.cut_off()
+        del it
+        time.sleep(1.0)
