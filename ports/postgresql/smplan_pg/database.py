@@ -48,7 +48,8 @@ class Database:
     """One database, over connections that are kept."""
 
     def __init__(self, reach: str, patience: Optional[float] = None, options: str = OWN) -> None:
-        options += f" -c statement_timeout={int(patience * 1000)}" if patience else ""
+        if patience:  # (and what a question has locked is free again soon after who asks is gone)
+            options += f" -c statement_timeout={int(patience * 1000)} -c idle_in_transaction_session_timeout={int((patience + STILL) * 1000)}"
         more = {"connect_timeout": 3, "application_name": "smplan-pg", **({"options": options} if options else {})}
         self.reach = make_conninfo(**{**ALIVE, **conninfo_to_dict(reach), **more})
         self.idle: List[Tuple[Connection, float]] = []
