@@ -295,6 +295,10 @@ FIRST = ("86969a7b1d8d4e0dc1b4166589172c8e9bde755c", "c21182cef3621f23d2135508f3
          "2604bc8e5185c110b56af0183e6ab5509ce82694", "a3322cdeae32ff7122f6d9a762e90490cf446412")
 
 
+# A subscription as such a version has made it.
+STREAM = "sm_it_0d149b90_1"
+
+
 class UpgradeTest(unittest.TestCase):
     """A schema sm that an older text has made becomes as one that is made now, and keeps what is in it."""
 
@@ -321,6 +325,7 @@ class UpgradeTest(unittest.TestCase):
             with database.transaction() as tx:
                 tx.execute(told.stdout)
                 tx.execute(TABLES.format("it") + "; SELECT sm.adopt('it'); UPDATE sm.state SET known = 1; INSERT INTO sm.slots VALUES ('it', 4, 0, 0, 0, 0, 1, 0, 0)")
+                tx.execute(f"CREATE SUBSCRIPTION {STREAM} CONNECTION '' PUBLICATION it WITH (connect = false, slot_name = NONE)")
                 self.assertEqual(adopt.version_of(tx), adopt.FIRST)
             self.assertEqual(self.made(database), wanted)
             self.assertEqual(self.made(database), wanted)
@@ -328,6 +333,8 @@ class UpgradeTest(unittest.TestCase):
                 self.assertEqual(adopt.version_of(tx), adopt.VERSION)
                 self.assertEqual(tx.execute("SELECT answer FROM sm.enter('it', 'r1')").fetchone(), {"answer": 12})
                 tx.execute("INSERT INTO it.things (word) VALUES ('x')")
+                self.assertTrue(value(tx.execute("SELECT substream FROM pg_subscription WHERE subname = %s", (STREAM,)).fetchone()))
+                tx.execute(f"DROP SUBSCRIPTION {STREAM}")
 
 
 class RecordTest(Case):

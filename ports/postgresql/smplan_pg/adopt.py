@@ -6,6 +6,7 @@ from typing import List, Tuple
 
 from smplan.failure import Failure
 
+from . import streams
 from .database import Connection, Database, value
 
 # The version of schema sm that this program needs, and its text; the first one, which tells none; and no schema's.
@@ -68,6 +69,7 @@ def install(tx: Connection) -> None:
         tx.execute(f"CREATE EXTENSION smplan VERSION '{name}'")
         if is_available(tx, "smplan_agent"):
             tx.execute("CREATE EXTENSION smplan_agent")
+    streams.bring_up(tx)
 
 
 def version_of(tx: Connection) -> Tuple[int, ...]:

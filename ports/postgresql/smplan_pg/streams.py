@@ -66,6 +66,14 @@ def halt(database: Database, name: str, seconds: float = 3.0) -> None:
             time.sleep(0.003)
 
 
+def bring_up(tx: Connection) -> None:
+    """Lets the subscriptions that an older program has made get long transactions in pieces, too."""
+    its = ("SELECT subname FROM pg_subscription JOIN pg_database d ON d.oid = subdbid WHERE datname = current_database() AND substream::text IN ('f', 'false') "
+           "AND subname ~ '^sm_.*_[0-9a-f]{8}_[0-9]+$'")
+    for it in tx.execute(its).fetchall():
+        tx.execute(said("ALTER SUBSCRIPTION {} SET (streaming = on)", it["subname"]))
+
+
 def drop_subscription(tx: Connection, name: str) -> None:
     """Drops a subscription. A transaction that may end otherwise halts it before: its place is forgotten even if the transaction is rolled back.
     (If tables are not copied yet, DROP SUBSCRIPTION would ask the source to drop their streams, and wait while these wait for transactions there: two
