@@ -46,7 +46,8 @@ class Past:
 
     terms: int = 0
     led_since: float | None = None
-    left_base: int | None = None
+    # The last proposal that was left to an operator: its base, the shards that may be lost, and the servers that have not told what they have.
+    left: tuple[int, list[str], list[str]] | None = None
 
 
 class Member:
@@ -182,16 +183,20 @@ class Member:
                 return
 
     async def confirm(self) -> None:
-        """Confirms a proposal as it stands, if this is left to the controllers. One by which shards may be lost is an operator's to confirm."""
+        """Confirms a proposal as it stands, if this is left to the controllers. It is an operator's to confirm one by which shards may be lost, or by
+        which a server stays as it is recorded that has not told what it has: it may be up by now, and have lost its data."""
         assert self.controller is not None
         proposal = self.controller.proposal
         if not self.settings.confirm or proposal is None:
             return
-        if not proposal["lost"]:
+        left = (proposal["base"], proposal["lost"], proposal["carried"])
+        if not proposal["lost"] and not proposal["carried"]:
             await self.controller.do({"do": "confirm", "base": proposal["base"]})
-        elif self.past.left_base != proposal["base"]:
-            self.past.left_base = proposal["base"]
-            self.settings.log(f"leaves the proposal of base {proposal['base']} to an operator: shards that may be lost: {', '.join(proposal['lost'])}")
+        elif self.past.left != left:
+            self.past.left = left
+            told = {"shards that may be lost": proposal["lost"], "servers that are down, and have not told what they have": proposal["carried"]}
+            what = "; ".join(f"{it}: {', '.join(names)}" for it, names in told.items() if names)
+            self.settings.log(f"leaves the proposal of base {proposal['base']} to an operator: {what}")
 
     async def store(self, lines: list[str]) -> list[str]:
         """Stores lines in the journal."""

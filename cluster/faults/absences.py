@@ -20,6 +20,8 @@ from .servers import ServerStory
 STOPS = (1.0, 2.5, 4.5)
 # How many bytes a file may still grow when a disk is full.
 LAST_BYTES = 3000
+# How often the operator reopens so that a server with a new disk has nothing, if it does not tell in time that it has no slots.
+TRIES = 3
 
 
 class AbsenceStory(ServerStory, LossStory):
@@ -160,7 +162,7 @@ class AbsenceStory(ServerStory, LossStory):
             self.forsake(name, state)
             self.keep_old(name)
             await self.cluster.processes[name].start()
-            await self.reopen(without(state, self.document, self.lost, frozenset({name})), [], f"the disk of {name} was replaced")
+            await self.reopen_emptied(name, state)
 
     async def replace_disk_under_permit(self) -> None:
         """The disk of a server is replaced while it is down under a permit: it has no data of what it is to serve, takes no slots, and says so; then
@@ -184,9 +186,20 @@ class AbsenceStory(ServerStory, LossStory):
             what = f"the disk of {name} is replaced while it is down under permit {permit}"
             if not await self.wait_until_told(what, {name}, self.operator.patience / 4):
                 self.counts["disks that nobody told"] += 1
-            await self.reopen(without(state, self.document, self.lost, frozenset({name})), [], f"the disk of {name} was replaced")
+            await self.reopen_emptied(name, state)
             if await self.is_up(name, permit):
                 self.note_permit(name, False)
+
+    async def reopen_emptied(self, name: str, state: Line) -> None:
+        """Reopens with a document in which a server has nothing: it has lost its data. One that is down under its permit, and tells too late that it has no
+        slots, stays as it is recorded, and says again that it has no data of what it is to serve: then this is done once more."""
+        for _ in range(TRIES):
+            await self.reopen(without(state, self.document, self.lost, frozenset({name})), [], f"the disk of {name} was replaced")
+            state = await self.state()
+            if not any(it["server"] == name and it["carried"] for it in state.get("servers", [])):
+                return
+            self.tell(f"{name} is left as it is recorded, and has no data of that")
+            self.counts["disks that a reopening left as they are recorded"] += 1
 
     def keep_old(self, name: str) -> None:
         """Puts a server's folder aside, where the checkers read what it did."""

@@ -54,7 +54,7 @@ class ReopeningStory(Story):
         begun = time.monotonic()
         while time.monotonic() - begun < self.operator.patience:
             state = (await self.operator.ask({"do": "state"})).get("state", {})
-            if time.monotonic() - begun > CONFIRMING:
+            if time.monotonic() - begun > self.rest_before(state):
                 await self.confirm(state)
             if state.get("is") == "open" and state.get("fence") == base:
                 self.counts["reopenings"] += 1
@@ -65,6 +65,15 @@ class ReopeningStory(Story):
             await asyncio.sleep(0.1)
         self.tell("the reopening does not come to its end")
         return False
+
+    def rest_before(self, state: Line) -> float:
+        """After how many seconds the operator confirms what is proposed: servers that stay as they are recorded, since they are down, and have not told
+        what they have, are waited for if they are up by now."""
+        reopening = state.get("reopening") or {}
+        waiting = reopening["waiting"] if reopening.get("is") == "confirm" else []
+        if any(self.cluster.processes[it].is_running for it in waiting):
+            return self.operator.patience / 4
+        return 0.0 if waiting and not reopening["proposal"]["lost"] else CONFIRMING
 
     async def confirm(self, state: Line) -> None:
         """Confirms what a reopening proposes, if it waits for that: a controller leaves some of it to the operator."""

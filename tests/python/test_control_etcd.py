@@ -294,12 +294,14 @@ class MemberTest(unittest.IsolatedAsyncioTestCase):
         self.assertIsNotNone(self.member.controller.session.process.returncode)
 
     async def test_a_proposal_with_lost_shards_is_left_to_the_operator(self):
-        for base, lost in ((100, ["s", "t"]), (200, [])):
-            await self.member.command({"do": "fenced", "proposal": {"base": base, "lost": lost}})
+        for base, lost, carried in ((100, ["s", "t"], []), (150, [], ["b"]), (200, [], [])):
+            await self.member.command({"do": "fenced", "proposal": {"base": base, "lost": lost, "carried": carried}})
             await asyncio.sleep(1.2)
         self.assertEqual(sum('"do":"confirm","base":200' in it for it in self.stored()), 1)
         self.assertEqual(sum('"do":"confirm"' in it for it in self.stored()), 1)
-        self.assertEqual([it for it in self.log if it.startswith("leaves")], ["leaves the proposal of base 100 to an operator: shards that may be lost: s, t"])
+        left = [it.removeprefix("leaves the proposal of base ") for it in self.log if it.startswith("leaves")]
+        self.assertEqual(left, ["100 to an operator: shards that may be lost: s, t",
+                                "150 to an operator: servers that are down, and have not told what they have: b"])
 
 
 @unittest.skipUnless(shutil.which("etcd") and shutil.which("openssl"), "there is no etcd or no openssl")
