@@ -124,14 +124,26 @@ class Run:
         self.story = HandoverStory(self.cluster, self.operator, self.mover, settings.shape.seed, self.tell)
         self.watcher = Watcher(self.cluster.members)
         self.verdict: Verdict | None = None
+        # The parts of the story that have begun and not ended, and when each began; and what was told last.
+        self.doing: dict[str, float] = {}
+        self.told = ""
         # Spans of time, by what went on in them.
         self.spans: dict[str, list[tuple[int, int]]] = {"at rest": [], "while shards move": [], "while a server is drained": []}
         self.moved_for = 0.0
 
     def tell(self, text: str) -> None:
-        """Tells what happens, above the live line."""
+        """Tells what happens, above the live line, and in the run's folder."""
+        self.told = f"{time.monotonic() - self.begun:6.1f} s  {text}"
+        with (self.settings.directory / "story.txt").open("a") as file:
+            file.write(f"{self.told}\n")
         if not self.settings.is_quiet:
-            print(f"\r\033[K{time.monotonic() - self.begun:6.1f} s  {text}" if sys.stdout.isatty() else f"{time.monotonic() - self.begun:6.1f} s  {text}", flush=True)
+            print(f"\r\033[K{self.told}" if sys.stdout.isatty() else self.told, flush=True)
+
+    def where(self) -> str:
+        """What the run is at: the parts that have begun and not ended, and what was told last."""
+        now = time.monotonic()
+        doing = ", ".join(f"{name} for {now - begun:.0f} s" for name, begun in self.doing.items())
+        return f"under way: {doing or 'no part'}; told last: {self.told.strip() or 'nothing'}"
 
     async def run(self) -> Result:
         """Runs all of it, and ends every process."""
@@ -201,10 +213,13 @@ class Run:
         await asyncio.sleep(max(0.0, when - time.monotonic()))
         await asyncio.gather(*before)
         part: Callable[[], Awaitable[object]] = self.drain if name == "drain" else getattr(self.story, name)
+        known = f"{name} at {when - self.begun:.0f} s"
+        self.doing[known] = time.monotonic()
         try:
             await part()
         except (NoLeader, NotReady) as why:
             self.tell(f"{name}: {why}")
+        del self.doing[known]
 
     async def drain(self) -> None:
         """Empties a server, which is filled again afterwards."""

@@ -20,11 +20,11 @@ from cluster.launch.figures import in_words
 from cluster.launch.operator import NoLeader
 from cluster.launch.processes import NotReady
 from cluster.launch.situations import SITUATIONS
-from cluster.run import Result, Run, Settings, add_load, add_session, shape_of
+from cluster.run import NO_VERDICT, Result, Run, Settings, add_load, add_session, shape_of
 from cluster.wire import Failed
 
-# How long a run may take beside its harm, in seconds: one whose processes were ended by somebody else would not end.
-LONGEST = 1200.0
+# How long a run may take beside its harm, in seconds, if nobody says otherwise: one that waits for what does not come would not end.
+LONGEST = 600.0
 
 
 @dataclass
@@ -33,6 +33,7 @@ class Sums:
 
     runs: int = 0
     failed: list[str] = field(default_factory=list)
+    unjudged: list[str] = field(default_factory=list)
     situations: Counter[str] = field(default_factory=Counter)
     counts: Counter[str] = field(default_factory=Counter)
     failovers: list[float] = field(default_factory=list)
@@ -81,12 +82,13 @@ class Storm:
         rates = CALM if told.calm else ROUGH
         settings = Settings(directory, shape, program_of(told.program), told.seconds, rates, storm_of(seed), tuple(told.bug), pause=told.pause,
                             is_quiet=True, is_busy=told.busy, lease=told.lease, store=told.store)
+        run = Run(settings)
         try:
-            async with asyncio.timeout(LONGEST + told.seconds):
-                result = await Run(settings).run()
+            async with asyncio.timeout(told.longest + told.seconds):
+                result = await run.run()
         except (NotReady, NotOpened, OSError, TimeoutError, NoLeader, Failed) as why:
-            self.sums.failed.append(f"seed {seed}: {type(why).__name__} {why}")
-            print(f"seed {seed}: {type(why).__name__} {why}", flush=True)
+            self.sums.unjudged.append(f"seed {seed}: no verdict: {type(why).__name__}{f' {why}' if str(why) else ''} after {time.monotonic() - begun:.0f} s; {run.where()}")
+            print(self.sums.unjudged[-1], flush=True)
             self.put_aside(directory, seed)
             return
         self.sums.add(seed, result)
@@ -118,13 +120,13 @@ def report(sums: Sums) -> str:
     """What all runs came to."""
     counts = sums.counts
     lines = [
-        f"{sums.runs} runs, {len(sums.failed)} with violations",
+        f"{sums.runs} runs, {len(sums.failed)} with violations" + (f"; {len(sums.unjudged)} more without a verdict" if sums.unjudged else ""),
         f"{counts['requests']} requests, {counts['requests not acknowledged']} not acknowledged; {counts['moves']} moves, {counts['orders']} orders, "
         f"{counts['restarts']} restarts, {counts['failovers']} failovers, {counts['reopenings']} openings and reopenings",
         f"the longest wait of a client in a handover: {in_words(sums.handovers)}; failovers took {in_words(sums.failovers)}",
         "situations, each with the number of runs in which it came up:",
         *(f"  {sums.situations[it]:4} {it}" for it in SITUATIONS),
-        *sums.failed,
+        *sums.failed, *sums.unjudged,
     ]
     return "\n".join(lines)
 
@@ -137,6 +139,8 @@ def arguments() -> argparse.Namespace:
     parser.add_argument("--jobs", type=int, default=1, help="runs side by side")
     add_session(parser)
     parser.add_argument("--seconds", type=float, default=20.0)
+    parser.add_argument("--longest", type=float, default=LONGEST, metavar="SECONDS",
+                        help="how long a run may take beside these, until it ends without a verdict (default %(default)s)")
     parser.add_argument("--servers", type=int, default=8)
     parser.add_argument("--shards", type=int, default=64)
     parser.add_argument("--clients", type=int, default=16)
@@ -150,11 +154,11 @@ def arguments() -> argparse.Namespace:
 
 
 def main() -> int:
-    """Runs all, and returns 0 if there was no violation."""
+    """Runs all, and returns 0 if there was no violation, 1 if there was one, and otherwise NO_VERDICT if a run came to no verdict."""
     storm = Storm(arguments())
     asyncio.run(storm.run())
     print(report(storm.sums))
-    return 1 if storm.sums.failed else 0
+    return 1 if storm.sums.failed else NO_VERDICT if storm.sums.unjudged else 0
 
 
 if __name__ == "__main__":
