@@ -124,8 +124,8 @@ class Run:
         self.story = HandoverStory(self.cluster, self.operator, self.mover, settings.shape.seed, self.tell)
         self.watcher = Watcher(self.cluster.members)
         self.verdict: Verdict | None = None
-        # The parts of the story that have begun and not ended, and when each began; and what was told last.
-        self.doing: dict[str, float] = {}
+        # The parts of the story that have begun and not ended, each with when it was to begin and when it did; and what was told last.
+        self.doing: list[tuple[str, float, float]] = []
         self.told = ""
         # Spans of time, by what went on in them.
         self.spans: dict[str, list[tuple[int, int]]] = {"at rest": [], "while shards move": [], "while a server is drained": []}
@@ -142,7 +142,7 @@ class Run:
     def where(self) -> str:
         """What the run is at: the parts that have begun and not ended, and what was told last."""
         now = time.monotonic()
-        doing = ", ".join(f"{name} for {now - begun:.0f} s" for name, begun in self.doing.items())
+        doing = ", ".join(f"{name} for {now - begun:.0f} s" for name, _, begun in self.doing)
         return f"under way: {doing or 'no part'}; told last: {self.told.strip() or 'nothing'}"
 
     async def run(self) -> Result:
@@ -213,13 +213,12 @@ class Run:
         await asyncio.sleep(max(0.0, when - time.monotonic()))
         await asyncio.gather(*before)
         part: Callable[[], Awaitable[object]] = self.drain if name == "drain" else getattr(self.story, name)
-        known = f"{name} at {when - self.begun:.0f} s"
-        self.doing[known] = time.monotonic()
+        self.doing.append(begun := (name, when, time.monotonic()))
         try:
             await part()
         except (NoLeader, NotReady) as why:
             self.tell(f"{name}: {why}")
-        del self.doing[known]
+        self.doing.remove(begun)  # (one that was cancelled was under way when the run ended)
 
     async def drain(self) -> None:
         """Empties a server, which is filled again afterwards."""

@@ -6,6 +6,7 @@ import signal
 import time
 
 from cluster.controllers.etcd import encoded
+from cluster.launch.operator import NoLeader
 
 from .members import MemberStory
 from .reopenings import ReopeningStory, without
@@ -48,15 +49,19 @@ class LeaderStory(MemberStory, ReopeningStory):
         await self.cluster.processes[leader].kill()
         self.deaths.append(time.monotonic_ns())
         self.counts["leaders killed"] += 1
-        self.failovers.append(await self.wait_for_leader(leader))
-        self.counts["failovers"] += 1
-        self.tell(f"{await self.leader()} leads after {self.failovers[-1]:.1f} s")
-        await self.cluster.processes[leader].start()
+        try:
+            self.failovers.append(await self.wait_for_leader(leader))
+            self.counts["failovers"] += 1
+            self.tell(f"{await self.leader()} leads after {self.failovers[-1]:.1f} s")
+        finally:
+            await self.cluster.processes[leader].start()
 
     async def wait_for_leader(self, other_than: str) -> float:
-        """Waits until another one leads, and returns how many seconds that took."""
+        """Waits until another one leads, and returns how many seconds that took. Raises NoLeader if nobody comes to."""
         begun = time.monotonic()
         while (await self.leader()) in (None, other_than):
+            if time.monotonic() - begun > self.operator.patience:
+                raise NoLeader(f"no other controller leads {self.operator.patience:g} s after {other_than} was killed")
             await asyncio.sleep(0.1)
         return time.monotonic() - begun
 

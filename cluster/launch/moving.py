@@ -3,7 +3,6 @@ from __future__ import annotations
 
 import asyncio
 import random
-import time
 from collections import Counter
 from pathlib import Path
 from typing import Any
@@ -163,18 +162,20 @@ class Mover:
             await asyncio.sleep(0.25)
 
     async def empty(self, server: str, seconds: float = 30.0) -> bool:
-        """Empties a server, while nothing else is moved to it; tells whether it is empty."""
+        """Empties a server, while nothing else is moved to it; tells whether it is empty in time. A plan that has not ended by then is waited for no longer."""
         self.avoided.add(server)
-        until = time.monotonic() + seconds
-        while time.monotonic() < until:
-            state = await self.state()
-            held = [it for it in state.get("shards", []) if any(cell["server"] == server for cell in it["cells"])]
-            if state and not held:
-                self.counts["drains"] += 1
-                return True
-            await self.empty_some(state, server, held)
-            await asyncio.sleep(0.1)
-        return False
+        try:
+            async with asyncio.timeout(seconds):
+                while True:
+                    state = await self.state()
+                    held = [it for it in state.get("shards", []) if any(cell["server"] == server for cell in it["cells"])]
+                    if state and not held:
+                        self.counts["drains"] += 1
+                        return True
+                    await self.empty_some(state, server, held)
+                    await asyncio.sleep(0.1)
+        except TimeoutError:
+            return False
 
     async def empty_some(self, state: Line, server: str, held: list[Line]) -> None:
         """Moves replicas away from a server, as many as are not moved otherwise."""

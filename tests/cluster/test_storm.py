@@ -1,13 +1,21 @@
-"""A storm whose run does not come to its end."""
+"""Waits that come to nothing: runs, and their parts, end all the same."""
 import asyncio
 import contextlib
 import io
 import tempfile
+import time
 import unittest
 from pathlib import Path
-from unittest.mock import patch
+from types import SimpleNamespace
+from unittest.mock import AsyncMock, MagicMock, patch
 
-from cluster.run import NO_VERDICT
+from scripted import until
+
+from cluster.faults.leaders import LeaderStory
+from cluster.launch.moving import Mover
+from cluster.launch.operator import NoLeader
+from cluster.launch.shape import Shape
+from cluster.run import NO_VERDICT, Run
 from cluster.storm import main
 
 
@@ -38,3 +46,41 @@ class StormTest(unittest.TestCase):
             self.assertEqual((lines[1], lines[-1]), ("0 runs, 0 with violations; 1 more without a verdict", lines[0]))
             self.assertEqual((kept / "7" / "story.txt").read_text(), "   1.0 s  kill -9 a\n")
 
+
+
+class PartsTest(unittest.IsolatedAsyncioTestCase):
+    """Parts of a story that do not come to what they wait for."""
+
+    async def test_a_run_tells_which_parts_it_is_at(self):
+        ends = [asyncio.Event(), asyncio.Event()]
+        run, left = object.__new__(Run), list(ends)
+        run.doing, run.told, run.story = [], "   3.0 s  kill -9 a", SimpleNamespace(crash_server=lambda: left.pop(0).wait())
+        now = time.monotonic()
+        tasks = [asyncio.create_task(run.do_at(now, "crash_server", ())) for _ in ends]
+        await until(lambda: not left)
+        self.assertEqual(run.where(), "under way: crash_server for 0 s, crash_server for 0 s; told last: 3.0 s  kill -9 a")
+        for end in ends:
+            end.set()
+        await asyncio.gather(*tasks)
+        run.told = ""
+        self.assertEqual(run.where(), "under way: no part; told last: nothing")
+
+    async def test_a_drain_waits_for_a_plan_no_longer_than_it_may(self):
+        cells = [{"server": "a", "state": "primary"}]
+        servers = [{"server": it, "room": 9, "load": 0, "held": 0, "permit": None} for it in "ab"]
+        state = {"is": "open", "epoch": 1, "servers": servers, "shards": [{"shard": "s", "load": 3, "listed": "a", "cells": cells}]}
+        plan = {"plan": 0, "name": "moves-1", "is": "running", "streams": [{"is": "ordered"}]}
+        operator = SimpleNamespace(do=AsyncMock(return_value={"begun": {"plan": 0, "epoch": 1}}), ask=AsyncMock(return_value={"state": {**state, "plan": plan}}))
+        mover = Mover(operator, 1)
+        self.assertFalse(await mover.empty("a", 1.0))
+        self.assertEqual((operator.do.await_count, mover.busy, mover.counts["drains"]), (1, set(), 0))
+
+    async def test_who_was_killed_starts_again_though_nobody_leads(self):
+        processes = MagicMock()
+        process = processes.__getitem__.return_value
+        process.kill, process.start = AsyncMock(), AsyncMock()
+        operator = SimpleNamespace(patience=0.3, find_leader=AsyncMock(return_value=None), state=AsyncMock(return_value={"name": "k0", "orders": [], "counts": {}}))
+        story = LeaderStory(SimpleNamespace(shape=Shape(), processes=processes), operator, None, 1, lambda text: None)
+        with self.assertRaisesRegex(NoLeader, "no other controller leads 0.3 s after k0 was killed"):
+            await story.kill_at_once()
+        self.assertEqual((process.kill.await_count, process.start.await_count), (1, 1))
