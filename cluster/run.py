@@ -18,7 +18,6 @@ from dataclasses import dataclass, field
 from pathlib import Path
 
 from cluster.controllers.etcd import EtcdFault
-from cluster.faults.dice import KEPT
 from cluster.faults.handovers import HandoverStory
 from cluster.faults.parts import EVERY, OUTSIDE, drawn, evenly
 from cluster.faults.reopenings import NotOpened
@@ -46,7 +45,7 @@ REST = 0.08
 LAST = ("lose_server",)
 JOURNAL_BITS = 64
 # For how many seconds a shard may be without service, if no server that had it was given up; on a busy machine from the second up to the third, by as
-# much as a request waits longer at rest than it usually does.
+# much as a request waits longer at rest than it usually does, beside the time for which the proxies were kept from running.
 OUTAGE, LEAST_IF_BUSY, OUTAGE_IF_BUSY, USUAL = 12.0, 30.0, 60.0, 0.03
 # The exit status of a run that a slow machine kept from its end.
 NO_VERDICT = 4
@@ -127,6 +126,8 @@ class Run:
         # The parts of the story that have begun and not ended, each with when it was to begin and when it did; and what was told last.
         self.doing: list[tuple[str, float, float]] = []
         self.told = ""
+        # For how many milliseconds of each second the proxies were kept from running.
+        self.kept: list[tuple[int, int]] = []
         # Spans of time, by what went on in them.
         self.spans: dict[str, list[tuple[int, int]]] = {"at rest": [], "while shards move": [], "while a server is drained": []}
         self.moved_for = 0.0
@@ -159,6 +160,7 @@ class Run:
             await self.harm()
             counts = (await self.cluster.tell_proxies(counts=True))["counts"]
             await self.calm_down()
+            self.kept = [(second, it) for second, it in (await self.cluster.tell_proxies(counts=True))["kept"]]
             self.tell("everything has come to rest; now the checkers look at it")
             program = shlex.split(self.cluster.program)
             floors = {it["name"]: it["want"] - it["cap"] for it in document_of(self.settings.shape)["shards"]}
@@ -247,16 +249,16 @@ class Run:
                   f"{len(told.get('orders', []))} orders outstanding, some {size // 110} requests", end="", flush=True)
             await asyncio.sleep(0.5)
 
-    def judge_service(self, asked: list[dict], gaps: dict[str, float], standstill: float) -> None:
+    def judge_service(self, asked: list[dict], gaps: dict[str, float]) -> None:
         """Who is slow is a violation, too: on a machine with other work only a shard without service for long, as what a request waits at rest
-        tells, and for longer than the proxies could not run."""
+        tells, and beside the time for which the proxies could not run."""
         assert self.verdict is not None
         failures = unacknowledged(asked, self.story.forsaken)
         if failures and not self.settings.is_busy:
             self.verdict.faults.append(f"{failures} requests were not acknowledged within 10 s")
         longest = OUTAGE
         if self.settings.is_busy:
-            longest = min(OUTAGE_IF_BUSY, max(LEAST_IF_BUSY, OUTAGE * self.wait_at_rest(asked) / USUAL)) + standstill
+            longest, gaps = min(OUTAGE_IF_BUSY, max(LEAST_IF_BUSY, OUTAGE * self.wait_at_rest(asked) / USUAL)), without_service(asked, self.kept)
         self.verdict.faults += [f"{shard} was without service for {gap:.0f} s" for shard, gap in gaps.items() if gap > longest and shard not in self.story.forsaken]
 
     def wait_at_rest(self, asked: list[dict]) -> float:
@@ -273,7 +275,7 @@ class Run:
         asked = lines_of(where / "clients.jsonl")
         by_span = {name: rate_of(asked, spans) for name, spans in self.spans.items() if spans}
         histories = lines_of(where / "histories.jsonl")
-        self.judge_service(asked, gaps := without_service(asked), faults.pop(KEPT, 0) / 1000)
+        self.judge_service(asked, gaps := without_service(asked))
         counts = Counter(faults) + self.story.counts + self.mover.counts
         situations = situations_of(histories, self.verdict.replies, self.verdict.counts + self.story.counts)
         orders = self.verdict.counts["orders"] / self.moved_for if self.moved_for else 0.0

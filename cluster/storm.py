@@ -81,7 +81,7 @@ class Storm:
         shape = shape_of(told, seed)
         rates = CALM if told.calm else ROUGH
         settings = Settings(directory, shape, program_of(told.program), told.seconds, rates, storm_of(seed), tuple(told.bug), pause=told.pause,
-                            is_quiet=True, is_busy=told.busy, lease=told.lease, store=told.store)
+                            is_quiet=True, is_busy=told.busy, lease=told.lease, store=told.store, is_abrupt=told.abrupt)
         run = Run(settings)
         try:
             async with asyncio.timeout(told.longest + told.seconds):
@@ -145,6 +145,7 @@ def arguments() -> argparse.Namespace:
     parser.add_argument("--shards", type=int, default=64)
     parser.add_argument("--clients", type=int, default=16)
     parser.add_argument("--calm", action="store_true")
+    parser.add_argument("--abrupt", action="store_true", help="move primaries without handovers: the old owner ceases, then the new one begins")
     add_load(parser)
     add_directory(parser)
     parser.add_argument("--bug", action="append", default=[])

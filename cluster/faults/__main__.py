@@ -11,7 +11,7 @@ from pathlib import Path
 
 from cluster.wire import Address, Failed, Message, listen
 
-from .dice import KEPT, Dice, Rates
+from .dice import Dice, Rates
 from .proxies import Link, open_proxy, send_by_itself
 
 
@@ -33,19 +33,29 @@ def release(link: Link) -> None:
 REST, LATE = 0.1, 0.5
 
 
-async def count_standstill(counts: Counter[str]) -> None:
-    """Counts for how long the proxies could not run: nothing got through then, by no fault of the cluster."""
+def waited_for_processor() -> float:
+    """For how many seconds this process was ready to run while others had the processors, as the kernel counts it; 0 if it does not."""
+    try:
+        return int(Path("/proc/self/schedstat").read_text().split()[1]) / 1e9
+    except (OSError, ValueError, IndexError):
+        return 0.0
+
+
+async def count_standstill(kept: Counter[int]) -> None:
+    """Counts for each second for how many milliseconds the proxies could not run: nothing got through then, by no fault of the cluster."""
+    waited = waited_for_processor()
     while True:
-        begun = time.monotonic()
+        begun, before = time.monotonic(), waited
         await asyncio.sleep(REST)
-        late = time.monotonic() - begun - REST
-        counts[KEPT] += int(1000 * late) if late > LATE else 0
+        late, waited = time.monotonic() - begun - REST, waited_for_processor()
+        kept[int(begun)] += int(1000 * max(waited - before, late if late > LATE else 0.0))
 
 
 async def run(told: dict) -> None:
     """Opens the proxies, and waits for orders."""
     counts: Counter[str] = Counter()
-    counting = asyncio.create_task(count_standstill(counts))
+    kept: Counter[int] = Counter()
+    counting = asyncio.create_task(count_standstill(kept))
     links = []
     for it in told["links"]:
         rates = Rates(**told["rates"].get(it["name"].partition(" ")[0], {}))
@@ -55,7 +65,7 @@ async def run(told: dict) -> None:
 
     async def obey(message: Message) -> Message:
         if "counts" in message:
-            return {"counts": dict(counts)}
+            return {"counts": dict(counts), "kept": sorted(kept.items())}
         for link in links:
             if link.name.startswith(tuple(message.get("links", [""]))):
                 if "cut" in message:

@@ -6,10 +6,6 @@ from collections import Counter
 from dataclasses import dataclass
 
 
-# What it is counted as that the proxies could not run, as the machine had other work.
-KEPT = "milliseconds in which proxies could not run"
-
-
 @dataclass(frozen=True, slots=True)
 class Rates:
     """How often a message is lost, comes twice or comes late, each from 0 to 1, and by how many seconds it is late: at least, and how many more at most.

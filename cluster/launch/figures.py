@@ -2,15 +2,15 @@
 from __future__ import annotations
 
 import json
-from bisect import bisect_left
+from bisect import bisect_left, bisect_right
 from collections import defaultdict
-from collections.abc import Iterable, Mapping
+from collections.abc import Callable, Iterable, Mapping
 from dataclasses import dataclass
 from itertools import accumulate
 from pathlib import Path
 from statistics import median
 
-NANO, BILLION = 1e-9, 10**9
+NANO, BILLION, MILLION = 1e-9, 10**9, 10**6
 NEVER = 1 << 63
 # The numbers of the orders of one epoch.
 STEP = 1 << 21
@@ -135,23 +135,33 @@ def unacknowledged(lines: Iterable[dict], forsaken: Mapping[str, int]) -> int:
     return sum("reply" not in it and "unclear" not in it and not forsaken.get(it["shard"], NEVER) <= it["end"] for it in lines)
 
 
-def without_service(lines: Iterable[dict]) -> dict[str, float]:
-    """For each shard the longest time in seconds in which somebody waited for a reply, and nobody got one."""
+def without_service(lines: Iterable[dict], kept: Iterable[tuple[int, int]] = ()) -> dict[str, float]:
+    """For each shard the longest time in seconds in which somebody waited for a reply, and nobody got one; beside the milliseconds for which, by the
+    second, the proxies were kept from running."""
     by_shard: dict[str, list[dict]] = defaultdict(list)
     for line in lines:
         if not line.get("final"):
             by_shard[line["shard"]].append(line)
-    return {shard: longest_gap(it) / BILLION for shard, it in by_shard.items()}
+    until = kept_until(kept)
+    return {shard: longest_gap(it, until) / BILLION for shard, it in by_shard.items()}
 
 
-def longest_gap(lines: list[dict]) -> int:
-    """The longest time without a reply in which a request was under way, of requests of one shard."""
+def kept_until(kept: Iterable[tuple[int, int]]) -> Callable[[int], int]:
+    """For how long the proxies had been kept from running by the end of the second of a moment."""
+    ordered = sorted(kept)
+    seconds, sums = [it for it, _ in ordered], [0, *accumulate(it * MILLION for _, it in ordered)]
+    return lambda moment: sums[bisect_right(seconds, moment // BILLION)]
+
+
+def longest_gap(lines: list[dict], kept: Callable[[int], int]) -> int:
+    """The longest time without a reply in which a request was under way, of requests of one shard, beside the time for which the proxies were kept."""
     ordered = sorted(lines, key=lambda it: it["end"])
     # (of those that ended then or later, when the first began)
     earliest = list(accumulate((it["start"] for it in reversed(ordered)), min))[::-1]
     longest, last, behind = 0, 0, 0
     for place, line in enumerate(ordered):
-        longest = max(longest, line["end"] - max(last, min(earliest[behind], line["end"])))
+        end, begin = line["end"], max(last, min(earliest[behind], line["end"]))
+        longest = max(longest, end - begin - (kept(end) - kept(begin)))
         if "reply" in line:
             last, behind = line["end"], place + 1
     return longest

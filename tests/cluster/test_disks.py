@@ -49,12 +49,14 @@ class ControllerTest(unittest.IsolatedAsyncioTestCase):
 class OperatorTest(unittest.IsolatedAsyncioTestCase):
     """What the storm's operator does about a, which is up by now, or down."""
 
-    def story(self, states, is_up=True):
-        """A story in which one of these states is told after the other. The lines that are sent are noted."""
-        sent, left = [], list(states)
+    def story(self, before, after, is_up=True):
+        """A story in which one of these states is told after the other, the last one again and again, and once something is confirmed those `after`. The
+        lines that are sent are noted."""
+        sent, left = [], {"reopen": list(before), "confirm": list(after)}
 
         async def ask(line):
-            return {"state": left.pop(0) if len(left) > 1 else left[0]}
+            states = left[sent[-1]["do"]]
+            return {"state": states.pop(0) if len(states) > 1 else states[0]}
 
         async def do(line):
             sent.append(line)
@@ -65,7 +67,7 @@ class OperatorTest(unittest.IsolatedAsyncioTestCase):
             return {"fence": [{"base": BASE}]}
 
         cluster = SimpleNamespace(shape=Shape(servers=2, shards=1, want=2), lease=0.0, processes={"a": SimpleNamespace(is_running=is_up)})
-        operator = SimpleNamespace(ask=ask, do=do, reopen=reopen, patience=8.0)
+        operator = SimpleNamespace(ask=ask, do=do, reopen=reopen, patience=240.0)
         story = HandoverStory(cluster, operator, None, 1, lambda text: None)
         story.promote = story.refill = AsyncMock()
         return story, sent
@@ -75,26 +77,24 @@ class OperatorTest(unittest.IsolatedAsyncioTestCase):
         return any(cell["server"] == "a" for shard in line["document"]["shards"] for cell in shard["cells"])
 
     async def test_who_is_up_is_waited_for_and_then_named_as_lost(self):
-        silent, told = proposed(["a"], []), proposed([], ["s00"])
-        with patch("cluster.faults.reopenings.CONFIRMING", 0.2):
-            story, sent = self.story([silent, silent, told, told, told, told, recorded(False)])
+        with patch("cluster.faults.reopenings.CONFIRMING", 0.1):
+            story, sent = self.story([proposed(["a"], [])] * 2 + [proposed([], ["s00"])], [recorded(False)])
             await story.reopen_emptied("a", recorded(True))
         self.assertFalse(self.has_cell(sent[0]))
         self.assertEqual({it["do"]: it.get("lost") for it in sent}, {"reopen": [], "confirm": ["s00"]})
 
     async def test_who_is_down_is_not_waited_for(self):
-        story, sent = self.story([proposed(["a"], []), recorded(True)], is_up=False)
+        story, sent = self.story([proposed(["a"], [])], [recorded(True)], is_up=False)
         self.assertTrue(await story.reopen(story.document, [], "a look at all slots"))
         self.assertEqual([it["do"] for it in sent], ["reopen", "confirm"])
 
-    async def test_who_is_up_and_tells_nothing_is_waited_for_no_longer(self):
-        story, sent = self.story([proposed(["a"], [])])
-        story.operator.patience = 1.0
-        self.assertEqual((story.rest_before(proposed(["a"], [])), await story.reopen(story.document, [], "a look at all slots")), (0.25, False))
-        self.assertIn("confirm", [it["do"] for it in sent])
+    def test_for_how_long_it_rests(self):
+        state = recorded(True)
+        rests = [[self.story([], [], is_up)[0].rest_before(it) for it in (state, proposed(["a"], []), proposed(["a"], ["s00"]), proposed([], ["s00"]))] for is_up in (True, False)]
+        self.assertEqual(rests, [[2.0, 60.0, 60.0, 2.0], [2.0, 0.0, 2.0, 2.0]])
 
     async def test_who_was_left_as_recorded_is_emptied_by_one_more_reopening(self):
-        story, sent = self.story([recorded(True)] * 2 + [recorded(False)])
+        story, sent = self.story([recorded(True)] * 2 + [recorded(False)], [])
         await story.reopen_emptied("a", recorded(True))
         self.assertEqual([it["do"] for it in sent], ["reopen", "reopen"])
         self.assertFalse(any(map(self.has_cell, sent)))

@@ -73,5 +73,10 @@ class ServiceTest(unittest.TestCase):
     def test_requests_without_a_reply(self):
         self.assertEqual(self.longest((0, 10_000, False), (10_000, 20_000, False), (20_000, 21_000, True)), 21.0)
 
+    def test_time_for_which_the_machine_kept_the_proxies_is_none_without_service(self):
+        asked = [request(2000, 2010, reply=1), request(2020, 9000, reply=1), request(9000, 11_000, reply=1)]
+        found = [without_service(asked, kept)["s"] for kept in ([], [(5, 900), (3, 1000)], [(1, 5000), (12, 5000)], [(5, 6000)])]
+        self.assertEqual(found, [6.98, 5.08, 6.98, 2.0])
+
     def test_the_end_is_not_looked_at(self):
         self.assertEqual(without_service([request(0, 9000, final=True, reply=1)]), {})

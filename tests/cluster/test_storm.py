@@ -42,7 +42,7 @@ class StormTest(unittest.TestCase):
             with patch("cluster.storm.Run", Standing), patch("sys.argv", words), contextlib.redirect_stdout(printed):
                 self.assertEqual(main(), NO_VERDICT)
             lines = printed.getvalue().splitlines()
-            self.assertRegex(lines[0], r"^seed 7: no verdict: TimeoutError after 0 s; under way: crash_server at 3 s for 9 s; told last: 1.0 s  kill -9 a$")
+            self.assertRegex(lines[0], r"^seed 7: no verdict: TimeoutError after \d+ s; under way: crash_server at 3 s for 9 s; told last: 1.0 s  kill -9 a$")
             self.assertEqual((lines[1], lines[-1]), ("0 runs, 0 with violations; 1 more without a verdict", lines[0]))
             self.assertEqual((kept / "7" / "story.txt").read_text(), "   1.0 s  kill -9 a\n")
 
@@ -58,7 +58,7 @@ class PartsTest(unittest.IsolatedAsyncioTestCase):
         now = time.monotonic()
         tasks = [asyncio.create_task(run.do_at(now, "crash_server", ())) for _ in ends]
         await until(lambda: not left)
-        self.assertEqual(run.where(), "under way: crash_server for 0 s, crash_server for 0 s; told last: 3.0 s  kill -9 a")
+        self.assertRegex(run.where(), r"^under way: crash_server for \d+ s, crash_server for \d+ s; told last: 3.0 s  kill -9 a$")
         for end in ends:
             end.set()
         await asyncio.gather(*tasks)
@@ -72,8 +72,8 @@ class PartsTest(unittest.IsolatedAsyncioTestCase):
         plan = {"plan": 0, "name": "moves-1", "is": "running", "streams": [{"is": "ordered"}]}
         operator = SimpleNamespace(do=AsyncMock(return_value={"begun": {"plan": 0, "epoch": 1}}), ask=AsyncMock(return_value={"state": {**state, "plan": plan}}))
         mover = Mover(operator, 1)
-        self.assertFalse(await mover.empty("a", 1.0))
-        self.assertEqual((operator.do.await_count, mover.busy, mover.counts["drains"]), (1, set(), 0))
+        self.assertFalse(await asyncio.wait_for(mover.empty("a", 1.0), 240))
+        self.assertEqual((mover.busy, mover.counts["drains"]), (set(), 0))
 
     async def test_who_was_killed_starts_again_though_nobody_leads(self):
         processes = MagicMock()
