@@ -85,16 +85,23 @@ def floor_text(told: Any) -> str:
     return " ".join(str(it) for it in told.values()) if isinstance(told, dict) else str(told)
 
 
+def up_by_now(controllers: Controllers, proposal: Line) -> List[str]:
+    """Returns the servers that a proposal leaves as they are recorded, since they are down, and that answer by now. They may have lost what they had."""
+    return [it for it in proposal["carried"] if controllers.post("/base", {"server": it}).get("answers")]
+
+
 def wait_for_proposal(controllers: Controllers, base: int, patience: float) -> Line:
-    """Waits until enough servers have told what they have, and returns the proposal."""
+    """Waits until enough servers have told what they have, and all that answer, and returns the proposal."""
     until, told_waiting = time.monotonic() + patience, None
     while True:
         reopening = controllers.state().get("reopening") or {}
         if reopening.get("base", base) != base:
             raise Failure(f"another reopening has taken the place of this one: base {reopening['base']}", 1)
-        if "proposal" in reopening:
-            return reopening["proposal"]
-        waiting = ["the map" if it is None else it for it in reopening.get("waiting", [])]
+        proposal = reopening.get("proposal")
+        late = [] if proposal is None else up_by_now(controllers, proposal)
+        if proposal is not None and (not late or time.monotonic() >= until):
+            return proposal
+        waiting = late or ["the map" if it is None else it for it in reopening.get("waiting", [])]
         if time.monotonic() >= until:
             raise Failure(f"{listed(waiting)} did not answer within {patience:g} s. {CLOSED} A server that never answers is lost: name it with --lost", 1)
         if waiting != told_waiting and waiting:

@@ -25,7 +25,7 @@ from smplan.control_fleet import FleetFile, HttpFleet
 from smplan.control_http import NotThere, Page, serve
 from smplan.control_leader import Controllers, controllers_of
 from smplan.control_map import MapFile
-from smplan.control_reopen import proposal_lines
+from smplan.control_reopen import proposal_lines, wait_for_proposal
 from smplan.control_repair import repair_of
 from smplan.control_restart import unserved
 from smplan.control_run import Running, Settings
@@ -365,6 +365,43 @@ class WordsTest(unittest.TestCase):
         found, plan = repair_of(document, True, False)
         self.assertEqual([(it.shard, it.server) for it in found.promotions], [("t", "b")])
         self.assertEqual(sum(len(it["code"]) for it in plan["streams"]), 4)
+
+
+class FakeControllers:
+    """Controllers that have a reopening. d, which was down, is up after some questions, and tells then what it has: nothing."""
+
+    def __init__(self, silent):
+        self.silent, self.asked, self.slept = silent, 0, 0
+
+    def state(self):
+        has_told = self.asked > self.silent
+        return {"reopening": {"base": 100, "proposal": {"carried": [] if has_told else ["d"], "lost": ["s"] if has_told else []}}}
+
+    def post(self, path, line):
+        assert (path, line) == ("/base", {"server": "d"})
+        self.asked += 1
+        return {"answers": self.silent > 0}
+
+    def sleep(self, seconds):
+        self.slept += 1
+
+
+class ProposalTest(unittest.TestCase):
+    """Whom an operator waits for before a proposal is shown."""
+
+    def waited(self, silent, patience=60.0):
+        controllers, told = FakeControllers(silent), io.StringIO()
+        with contextlib.redirect_stderr(told):
+            return wait_for_proposal(controllers, 100, patience)["lost"], controllers.slept, told.getvalue()
+
+    def test_who_is_down_is_left_as_recorded(self):
+        self.assertEqual(self.waited(0), ([], 0, ""))
+
+    def test_who_is_up_by_now_tells_first(self):
+        self.assertEqual(self.waited(2), (["s"], 3, "waits for d\n"))
+
+    def test_who_answers_and_tells_nothing_is_not_waited_for_longer(self):
+        self.assertEqual(self.waited(2, 0.0), ([], 0, ""))
 
 
 def free_ports(count):
