@@ -20,6 +20,7 @@ from cluster.launch.figures import in_words
 from cluster.launch.operator import NoLeader
 from cluster.launch.processes import NotReady
 from cluster.launch.situations import SITUATIONS
+from cluster.processor import waited_for_processor
 from cluster.run import NO_VERDICT, Result, Run, Settings, add_load, add_session, shape_of
 from cluster.wire import Failed
 
@@ -76,7 +77,7 @@ class Storm:
 
     async def run_once(self, seed: int) -> None:
         """Makes one run, and keeps its folder if something was wrong."""
-        told, begun = self.told, time.monotonic()
+        told, begun, waited = self.told, time.monotonic(), waited_for_processor()
         directory = new_directory(f"storm-{seed}-", told.dir)
         shape = shape_of(told, seed)
         rates = CALM if told.calm else ROUGH
@@ -87,7 +88,8 @@ class Storm:
             async with asyncio.timeout(told.longest + told.seconds):
                 result = await run.run()
         except (NotReady, NotOpened, OSError, TimeoutError, NoLeader, Failed) as why:
-            self.sums.unjudged.append(f"seed {seed}: no verdict: {type(why).__name__}{f' {why}' if str(why) else ''} after {time.monotonic() - begun:.0f} s; {run.where()}")
+            self.sums.unjudged.append(f"seed {seed}: no verdict: {type(why).__name__}{f' {why}' if str(why) else ''} after {time.monotonic() - begun:.0f} s, for "
+                                      f"{waited_for_processor() - waited:.0f} s of which others had the processors; {run.where()}")
             print(self.sums.unjudged[-1], flush=True)
             self.put_aside(directory, seed)
             return

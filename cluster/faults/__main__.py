@@ -9,6 +9,7 @@ from collections import Counter
 from dataclasses import replace
 from pathlib import Path
 
+from cluster.processor import waited_for_processor
 from cluster.wire import Address, Failed, Message, listen
 
 from .dice import Dice, Rates
@@ -31,14 +32,6 @@ def release(link: Link) -> None:
 
 # How long the proxies rest between two looks, and by how much longer this is if other work on the machine keeps them from running, in seconds.
 REST, LATE = 0.1, 0.5
-
-
-def waited_for_processor() -> float:
-    """For how many seconds this process was ready to run while others had the processors, as the kernel counts it; 0 if it does not."""
-    try:
-        return int(Path("/proc/self/schedstat").read_text().split()[1]) / 1e9
-    except (OSError, ValueError, IndexError):
-        return 0.0
 
 
 async def count_standstill(kept: Counter[int]) -> None:

@@ -81,7 +81,7 @@ class ReopeningStory(Story):
         if reopening.get("is") == "confirm":
             told = {"still down": reopening["waiting"], "lost": reopening["proposal"]["lost"]}
             reply = await self.operator.do({"do": "confirm", "base": reopening["base"], "lost": told["lost"]})
-            if "fault" not in reply:
+            if "settle" in reply:
                 self.tell("confirmed by hand" + "".join(f"; {what}: {', '.join(names)}" for what, names in told.items() if names))
                 self.counts["reopenings confirmed by hand"] += 1
 

@@ -60,7 +60,7 @@ class OperatorTest(unittest.IsolatedAsyncioTestCase):
 
         async def do(line):
             sent.append(line)
-            return {"done": {}}
+            return {"settle": []}
 
         async def reopen(line):
             sent.append(line)

@@ -42,7 +42,7 @@ class StormTest(unittest.TestCase):
             with patch("cluster.storm.Run", Standing), patch("sys.argv", words), contextlib.redirect_stdout(printed):
                 self.assertEqual(main(), NO_VERDICT)
             lines = printed.getvalue().splitlines()
-            self.assertRegex(lines[0], r"^seed 7: no verdict: TimeoutError after \d+ s; under way: crash_server at 3 s for 9 s; told last: 1.0 s  kill -9 a$")
+            self.assertRegex(lines[0], r"^seed 7: no verdict: TimeoutError after \d+ s, for \d+ s of which others had the processors; under way: crash_server at 3 s for 9 s; told last: 1.0 s  kill -9 a$")
             self.assertEqual((lines[1], lines[-1]), ("0 runs, 0 with violations; 1 more without a verdict", lines[0]))
             self.assertEqual((kept / "7" / "story.txt").read_text(), "   1.0 s  kill -9 a\n")
 
