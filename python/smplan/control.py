@@ -273,11 +273,11 @@ class Controller:
             try:
                 await self.write_or_refuse(batch)
             except (Exception, asyncio.CancelledError) as why:  # (a store is others' code: whatever befalls it, this one leads no longer)
+                self.queue = batch + self.queue  # (who rests tells all who wait)
                 if not self.leads:
                     raise
                 self.counts["appends lost"] += 1
                 self.lost = loss_of(why)
-                self.queue = batch + self.queue
                 self.fail_queue(self.lost)
                 return
 

@@ -113,6 +113,23 @@ class FaultsTest(unittest.IsolatedAsyncioTestCase):
         await self.until(lambda: controller.proposal)
         self.assertEqual(servers.fences, [None, "a", "b"] * 2)
 
+    async def test_who_waits_for_a_line_that_is_being_stored_hears_that_this_one_leads_no_longer(self):
+        begun = asyncio.Event()
+
+        async def standing(lines):
+            begun.set()
+            await asyncio.Event().wait()
+
+        controller = await self.led(FakeSession(), SlowServers(0), stores=standing)
+        waiting = [asyncio.create_task(controller.do({"do": "reopen"}))]
+        await begun.wait()
+        waiting.append(asyncio.create_task(controller.do({"do": "reopen"})))
+        await asyncio.sleep(0)
+        await controller.rest()
+        for it in waiting:
+            with self.assertRaisesRegex(StoreLost, "does not lead"):
+                await asyncio.wait_for(it, 60)
+
     async def test_whatever_a_store_raises_ends_leading(self):
         for fault in (RuntimeError("connection lost"), KeyError("kvs"), asyncio.CancelledError(), OSError("disk full")):
             async def failing(lines, fault=fault):
