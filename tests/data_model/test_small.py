@@ -19,7 +19,7 @@ from data_model.worked import played
 
 STEPS = 100
 # How many schedules of each profile are run; an empty one stands for schedules of all profiles.
-RUNS = {"": 30, "kept": 60, "one shard": 15, "drops": 15}
+RUNS = {"": 33, "kept": 60, "one shard": 15, "drops": 15}
 # What happens in some schedule of these.
 MET = (
     "a named loss taken", "a new primary, named", "a new primary, sure", "acknowledged at several", "approved",

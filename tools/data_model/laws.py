@@ -177,11 +177,17 @@ def best_copy_wins(world: World, reopening: Reopening) -> None:
                 # (a copy counts as it was told)
                 survey = reopening.survey(shard)
                 answered = [it for it in answered if it.number in survey.copies and is_as_told(survey, it, shard)]
-        having = [it.number for it in answered if it.has_all(shard, writes)]
+                answered = [it for it in answered if writes <= has_told(survey, it, shard)]
+        having = [it.number for it in answered if writes and it.has_all(shard, writes)]
         if successor is None or successor in reopening.missing or not having or world.hosts[successor].has_all(shard, writes):
             continue
         if is_as_told(reopening.survey(shard), world.hosts[successor], shard):
             raise Violation("best_copy_wins", f"server {successor} gets shard {shard}, and {having} have more of {writes}")
+
+
+def has_told(survey: Survey, host: Host, shard: int) -> set[int]:
+    """The writes of the copy that the server has told."""
+    return set(host.copy(shard).writes[:survey.copies[host.number].position])
 
 
 def is_as_told(survey: Survey, host: Host, shard: int) -> bool:
