@@ -5,8 +5,8 @@ copies from whom and who is counted, `asking` questions between replicas, `servi
 shown, `reopening` what may be lost and who is told so, `laws` what may never be seen. `plays` has a worked play for
 each rule.
 
-With `--small` a smaller form of a shard's number of copies stands in place of the full one: SMALL.md has its rules,
-`plays_small` their plays.
+With `--built` the form of a shard's number of copies that is built stands in place of the full one, and with `--small`
+one that has more: SMALL.md has their rules, `plays_built` and `plays_small` plays, `built` the former's reopening.
 
 smpland has not the lines that these rules need yet (docs/DATA.md): `driving_model` is what it does today.
 

@@ -177,7 +177,7 @@ class Asking:
         replica, order = host.at[shard], host.order(shard)
         if not replica.copy.is_whole and self.rules.leave_of_whole:
             return False
-        if self.has_a_later_view(host, shard) and self.rules.leave_of_present:
+        if self.has_a_later_view(host, shard):
             return False
         own = replica.copy.told() or Told(replica.copy.view, -1)
         others = len(replica.terms.replicas - {host.number})
@@ -194,11 +194,13 @@ class Asking:
             return max(needed, 1)
         return max(needed, min(wanted, others) if self.rules.leave_of_fewer else wanted)
 
-    @staticmethod
-    def has_a_later_view(host: Host, shard: int) -> bool:
+    def has_a_later_view(self, host: Host, shard: int) -> bool:
         """The server's copy is of a view that began after what ended the last primary that it was told of: another one
-        serves, or has served, and may count it."""
-        former = host.at[shard].terms.former
+        serves, or has served, and may count it. In the built form nobody is told of that."""
+        rules = self.rules
+        if not (rules.leave_of_settled_view if rules.is_built else rules.leave_of_present):
+            return False
+        former = host.at[shard].terms.former if not rules.is_built else None
         return host.cell(shard) != PRIMARY and host.copy(shard).view > (former[1] if former else host.reopened)
 
     def has_greatest(self, host: Host, shard: int) -> bool:

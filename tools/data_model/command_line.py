@@ -12,10 +12,11 @@ from functools import partial
 from driving_model.command_line import Told
 
 from .plays import PLAYS
+from .plays_built import PLAYS as BUILT_PLAYS
 from .plays_small import PLAYS as SMALL_PLAYS
-from .rules import NOT_SMALL, Rules, SMALL, SOUND, data_rule_names, sentence_of
+from .rules import BUILT, Rules, SMALL, SOUND, data_rule_names, sentence_of
 from .schedule import SMALL_PROFILES, run_schedule
-from .worked import played
+from .worked import Worked, played
 
 MODES = "modes: `sound`, all rules; `plays`, the worked plays; or rules to take away, joined by commas, among them:\n"
 
@@ -44,17 +45,25 @@ def modes_of(names: Iterable[str]) -> str:
     return "\n".join(f"  {name}: {sentence_of(name)}" for name in names)
 
 
+def more_modes(form: str, rules: Iterable[str], others: Iterable[str]) -> str:
+    """What a form has not of these rules, and the lines of those that it has instead."""
+    away = ", ".join(sorted(set(rules) - set(others)))
+    return f"\nwith {form} not {away}, but:\n" + modes_of(it for it in others if it not in set(rules))
+
+
 def arguments(words: list[str]) -> argparse.Namespace:
     """Reads the command line."""
-    full = data_rule_names()
-    modes = modes_of(full) + f"\nwith --small not {', '.join(sorted(NOT_SMALL))}, but:\n"
-    modes += modes_of(it for it in data_rule_names(SMALL) if it not in full)
+    full, small, built = data_rule_names(), data_rule_names(SMALL), data_rule_names(BUILT)
+    modes = modes_of(full) + more_modes("--small", full, small)
+    modes += more_modes("--built, beside what --small has not,", small, built)
     parser = argparse.ArgumentParser(
         prog="data_model.py", description=__doc__, formatter_class=argparse.RawDescriptionHelpFormatter,
         epilog=MODES + modes,
     )
     parser.add_argument("--mode", default="sound", help="sound (the default), plays, or rules to take away")
-    parser.add_argument("--small", action="store_true", help="the small form (tools/data_model/SMALL.md)")
+    form = parser.add_mutually_exclusive_group()
+    form.add_argument("--built", action="store_true", help="the form that is built (tools/data_model/SMALL.md)")
+    form.add_argument("--small", action="store_true", help="the small form, which counts what a reopening leaves")
     parser.add_argument("--runs", type=int, default=200, help="how many schedules (200)")
     parser.add_argument("--seed", type=int, default=0, help="the seed of the first one (0)")
     parser.add_argument("--steps", type=int, default=300, help="how many events each has before its fair end (300)")
@@ -67,10 +76,17 @@ def arguments(words: list[str]) -> argparse.Namespace:
     return parser.parse_args(words)
 
 
-def tell_plays(is_small: bool) -> int:
+def form_of(options: argparse.Namespace) -> tuple[str, Rules, tuple[Worked, ...]]:
+    """What the form is called that is asked for, its rules and its plays."""
+    if options.built:
+        return ", built", BUILT, BUILT_PLAYS
+    return (", small", SMALL, SMALL_PLAYS) if options.small else ("", SOUND, PLAYS)
+
+
+def tell_plays(rules: Rules, plays: Iterable[Worked]) -> int:
     """Runs each worked play with the rule that it needs, and without it."""
-    wrong, rules = 0, SMALL if is_small else SOUND
-    for worked in SMALL_PLAYS if is_small else PLAYS:
+    wrong = 0
+    for worked in plays:
         sound, broken = played(worked, True, rules), played(worked, False, rules)
         wrong += sound is not None or broken is None
         print(f"{worked.name}: {sound or 'no violation'}; without {worked.rule}: {broken or 'no violation'}")
@@ -86,7 +102,7 @@ def tell_trace(told: Told, rules: Rules, options: argparse.Namespace) -> None:
 
 def tell_schedules(options: argparse.Namespace) -> int:
     """Runs schedules, and tells what came of them."""
-    form = SMALL if options.small else SOUND
+    name, form, _ = form_of(options)
     rules = form if options.mode == "sound" else form.without(*options.mode.split(","))
     started, coverage, runs, events = time.monotonic(), Counter(), 0, 0
     broken: list[Told] = []
@@ -101,7 +117,7 @@ def tell_schedules(options: argparse.Namespace) -> int:
         if is_late or (options.most and len(broken) >= options.most):
             break
     by_law = dict(Counter(it.law for it in broken))
-    about = f"{options.mode}{', small' * options.small}, {options.profile or 'all profiles'}"
+    about = f"{options.mode}{name}, {options.profile or 'all profiles'}"
     print(f"{about}: {runs} schedules from seed {options.seed}, {events} events, {len(broken)} broke a law {by_law}")
     print(f"what they met: {dict(sorted(coverage.items()))}", flush=True)
     if broken and options.trace:
@@ -112,4 +128,4 @@ def tell_schedules(options: argparse.Namespace) -> int:
 def main(words: list[str] | None = None) -> int:
     """Runs the command. The status is 1 if the sound rules broke a law, or a play is not as it should be."""
     options = arguments(sys.argv[1:] if words is None else words)
-    return tell_plays(options.small) if options.mode == "plays" else tell_schedules(options)
+    return tell_plays(*form_of(options)[1:]) if options.mode == "plays" else tell_schedules(options)

@@ -53,9 +53,10 @@ class Copied:
 @dataclass(frozen=True, slots=True)
 class CopiedAt:
     """In the small form: of a shard that this server serves as the primary as many replicas as are wanted have all that
-    it had when it began to, in this journal, settled last at this reopening."""
+    it had when it began to, in this journal, settled last at this reopening. In the built form it names as many."""
 
     server: int
     journal: int
     fence: int
     shard: int
+    copies: int = 0

@@ -14,6 +14,7 @@ from driving_model.messages import Message, Publication, Restore
 from driving_model.record import primary_of
 from driving_model.replies import Ignored, Outcome
 
+from .built import BuiltReopening
 from .commands import Confirm, Copied, CopiedAt, RestoreServer
 from .messages import Lower, Order, SlotTold
 from .record import Record
@@ -188,14 +189,18 @@ class Controller(base.Controller):
         if not self.is_open:
             raise Answer(Ignored("old"))
         record, rules, shard = self.record, self.rules, command.shard
+        copies = command.copies if rules.is_built else record.wanted[shard]
+        is_no_more = copies <= record.copies[shard] and (not rules.is_built or rules.copied_only_rises)
         is_wrong = (
-            record.copies[shard] == record.wanted[shard]
+            is_no_more
             or (rules.copied_names_journal and command.journal != self.journal)
             or (rules.copied_names_fence and command.fence < self.fence)
         )
         if is_wrong:
             raise Answer(Ignored("old"))
-        record.copies[shard] = record.wanted[shard]
+        if copies > record.document.wants[shard]:
+            raise refuse("AboveWant", shard=shard)
+        record.copies[shard] = copies
         return Outcome(replies.Up(command.server), has_changed=True)
 
     # Epochs.
@@ -212,14 +217,32 @@ class Controller(base.Controller):
         before = self.reopening
         if self.record is not None and before is None:
             self.ordered |= {(it.shard, it.server) for it in self.orders() if isinstance(it, Order)}
-        idle = self.idle_before(command)
+        idle, kept = self.idle_before(command), self.kept_now()
         outcome = super().reopen(command)
         if before and before.settles:
             self.replaced.append(before.as_replaced())
         if self.rules.replaced_fenced:
             self.named |= command.lost
-        self.reopening = Reopening.over(self.reopening, frozenset(self.ordered), tuple(self.replaced), idle)
+        form = BuiltReopening if self.rules.is_built else Reopening
+        self.reopening = form.over(self.reopening, frozenset(self.ordered), tuple(self.replaced), idle)
+        if self.rules.is_built:
+            self.reopening.kept = kept
         return outcome
+
+    def kept_now(self) -> tuple[int, ...]:
+        """In the built form: by shard, the copies by which a reopening counts that begins now. Beyond these there is
+        1."""
+        rules, reopening, record = self.rules, self.reopening, self.record
+        if not rules.is_built or record is None:
+            return ()
+        if reopening is not None:
+            return () if reopening.settles and rules.replaced_keeps_one else reopening.kept
+        ordered = {it.shard for it in self.orders() if isinstance(it, Order) and rules.ordered_keeps_one}
+        handed = {
+            it for it in record.shards
+            if rules.handed_keeps_one and any(cell.is_in_handover for cell in record.cells[it])
+        }
+        return tuple(1 if it in ordered | handed else record.copies[it] for it in record.shards)
 
     def idle_before(self, command: driving.Reopen) -> tuple[frozenset[int], ...]:
         """By shard, who had stopped to serve it when a reopening was replaced that was not confirmed."""

@@ -80,9 +80,13 @@ def needs_reopening(world: World) -> bool:
     """A reopening is what may help: also where a `change` or a server that is down waits for a copy that is lost."""
     if may_need_reopening(world) or is_down(world):
         return True
-    orders = (it for it in world.controller.outgoing() if isinstance(it, Order))
+    orders = [it for it in world.controller.outgoing() if isinstance(it, Order)]
     if any(it.call.verb is Verb.CHANGE for it in orders):
         world.coverage["a change waits for a reopening"] += 1
+        return True
+    if world.rules.is_built and any(it.call.verb is Verb.DROP and it.terms.primary is None for it in orders):
+        # (without a primary nobody of a view of this epoch gets leave)
+        world.coverage["a drop waits for a reopening"] += 1
         return True
     return False
 

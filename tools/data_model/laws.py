@@ -178,6 +178,9 @@ def best_copy_wins(world: World, reopening: Reopening) -> None:
                 survey = reopening.survey(shard)
                 answered = [it for it in answered if it.number in survey.copies and is_as_told(survey, it, shard)]
                 answered = [it for it in answered if writes <= has_told(survey, it, shard)]
+            if world.rules.is_built and is_of_first_view(reopening, shard, successor):
+                # (there the claim comes before the position)
+                continue
         having = [it.number for it in answered if writes and it.has_all(shard, writes)]
         if successor is None or successor in reopening.missing or not having or world.hosts[successor].has_all(shard, writes):
             continue
@@ -188,6 +191,12 @@ def best_copy_wins(world: World, reopening: Reopening) -> None:
 def has_told(survey: Survey, host: Host, shard: int) -> set[int]:
     """The writes of the copy that the server has told."""
     return set(host.copy(shard).writes[:survey.copies[host.number].position])
+
+
+def is_of_first_view(reopening: Reopening, shard: int, successor: int | None) -> bool:
+    """The new primary has told a copy of view 0, or none."""
+    told = reopening.survey(shard).copies.get(successor)
+    return told is None or told.view == 0
 
 
 def is_as_told(survey: Survey, host: Host, shard: int) -> bool:

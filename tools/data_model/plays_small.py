@@ -4,6 +4,7 @@ from __future__ import annotations
 from collections.abc import Callable
 from dataclasses import replace
 from types import FunctionType
+from typing import Any
 
 from driving_model.cells import ABSENT, PRIMARY, SECONDARY
 from driving_model.commands import Reopen
@@ -360,20 +361,20 @@ OTHERWISE = frozenset({
 })
 
 
-def over_small(play: Callable[[Rules], None]) -> Callable[[Rules], None]:
-    """The same play in the small form."""
+def over(play: Callable[[Rules], None], **others: Any) -> Callable[[Rules], None]:
+    """The same play in another form: it finds these others under their names."""
     names = dict(play.__globals__)
     for name, it in play.__globals__.items():
         if isinstance(it, FunctionType) and it.__module__ == play.__module__:
             names[name] = FunctionType(it.__code__, names, name, it.__defaults__)
-    names |= {"Play": Play, "without_a_primary": without_a_primary}
+    names |= others
     return names[play.__name__]
 
 
 def carried(worked: Worked) -> Worked:
     """A play of the full form, in the small one."""
-    names = rule_names(SMALL)
-    return Worked(over_small(worked.play), worked.rule, tuple(it for it in worked.beside if it in names))
+    names, play = rule_names(SMALL), over(worked.play, Play=Play, without_a_primary=without_a_primary)
+    return Worked(play, worked.rule, tuple(it for it in worked.beside if it in names))
 
 
 CARRIED = tuple(carried(it) for it in DATA_PLAYS if it.rule in rule_names(SMALL) and it.name not in OTHERWISE)

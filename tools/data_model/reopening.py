@@ -32,6 +32,7 @@ class Survey:
     members: set[int] = field(default_factory=set)
     gone: set[int] = field(default_factory=set)
     is_led: bool = False
+    shard: int = 0
 
     def primary(self) -> int | None:
         """The server that has told, or is recorded, as primary."""
@@ -130,7 +131,7 @@ class Reopening(driving.Reopening):
 
     def survey(self, shard: int) -> Survey:
         """Gathers what is known of a shard."""
-        survey = Survey([ABSENT] * len(self.document.rooms), members=self.members_of(shard))
+        survey = Survey([ABSENT] * len(self.document.rooms), members=self.members_of(shard), shard=shard)
         for server in sorted(self.targets - {MAP}):
             found = self.inventories.get(server)
             if found is None:

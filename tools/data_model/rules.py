@@ -21,6 +21,9 @@ class Rules(driving.Rules):
     """Which rules are in force."""
 
     is_small: ClassVar[bool] = False
+    is_built: ClassVar[bool] = False
+    # The rules that stand among these, and that this form has not.
+    away: ClassVar[frozenset[str]] = REPLACED
 
     # Whoever executes writes.
     durable_first: bool = rule("A write leaves a server, to whomever, only when it is durable there.")
@@ -170,6 +173,7 @@ class SmallRules(Rules):
     the record has of each how many surely have each acknowledged write: `kept`."""
 
     is_small: ClassVar[bool] = True
+    away: ClassVar[frozenset[str]] = REPLACED | NOT_SMALL
 
     # Servers.
     leave_of_wanted: bool = rule("Leave asks for as many copies at others as a write.")
@@ -194,14 +198,44 @@ class SmallRules(Rules):
     )
 
 
+# The rules of the small form that the built one has not.
+NOT_BUILT = frozenset({
+    "kept_below_wanted", "goers_lower", "ordered_counted", "replaced_counted", "leave_of_present", "position_wins",
+    "doubt_told", "doubt_kept",
+})
+
+
+@dataclass(frozen=True)
+class BuiltRules(SmallRules):
+    """The rules of the form that is built (SMALL.md). The number by which servers acknowledge is theirs, and comes to
+    them with their slots; `copied` tells it. Without it, and from each reopening on, 1 copy is kept."""
+
+    is_built: ClassVar[bool] = True
+    away: ClassVar[frozenset[str]] = REPLACED | NOT_SMALL | NOT_BUILT
+
+    # Servers.
+    number_until_slots: bool = rule("A server acknowledges by its number until it has taken slots of a later reopening.")
+    leave_of_settled_view: bool = rule(
+        "Without another primary no replica gets leave whose view is above the last reopening at which it was settled: "
+        "it waits for a newer message."
+    )
+    # The controller.
+    copied_only_rises: bool = rule("`copied` of no more copies than are recorded is ignored.")
+    kept_begins_anew: bool = rule("A reopening begins with 1 copy again.")
+    ordered_keeps_one: bool = rule("A reopening counts by 1 if an order for the shard is present when it begins.")
+    handed_keeps_one: bool = rule("Or if a handover of it is recorded.")
+    replaced_keeps_one: bool = rule("Or if it replaces a reopening that was confirmed.")
+    part_gone: bool = rule("A replica that tells no whole copy, or view 0 and position 0, counts as gone.")
+
+
 SOUND = Rules()
 SMALL = replace(SmallRules(), **{it: False for it in NOT_SMALL})
+BUILT = replace(BuiltRules(), **{it: False for it in NOT_SMALL | NOT_BUILT})
 
 
 def rule_names(rules: Rules = SOUND) -> list[str]:
     """The names of all rules that are in force here."""
-    away = REPLACED | NOT_SMALL if rules.is_small else REPLACED
-    return [it.name for it in fields(rules) if it.name not in away]
+    return [it.name for it in fields(rules) if it.name not in rules.away]
 
 
 def data_rule_names(rules: Rules = SOUND) -> list[str]:
@@ -211,4 +245,4 @@ def data_rule_names(rules: Rules = SOUND) -> list[str]:
 
 def sentence_of(name: str) -> str:
     """What a rule says."""
-    return next(it.metadata["sentence"] for it in fields(SmallRules) if it.name == name)
+    return next(it.metadata["sentence"] for it in fields(BuiltRules) if it.name == name)

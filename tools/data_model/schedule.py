@@ -327,7 +327,7 @@ class Schedule(base.Schedule):
             self.world.coverage["lost for good"] += 1
             self.world.lose(host, is_for_good=True)
         elif draw > (0.9 if self.profile == "doubt" else 0.98) and host.is_alive and host.server.is_known:
-            self.world.go_back(host)
+            (self.world.lose if self.rules.is_built else self.world.go_back)(host)
         elif 0.95 < draw < 0.97 and host.is_up and host.follows_alone:
             self.world.say("server", host.number, "is cut off from the controller")
             self.world.coverage["cut off"] += 1

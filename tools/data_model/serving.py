@@ -177,7 +177,8 @@ class Serving:
         if rules.copied_of_all and self.count(host, shard, replica.began) < replica.needed:
             return
         settled = host.reopened if rules.copied_names_settled else server.base
-        copied, said = CopiedAt(host.number, server.journal, settled, shard), self.network.copied
+        copies = replica.needed if rules.is_built else 0
+        copied, said = CopiedAt(host.number, server.journal, settled, shard, copies), self.network.copied
         if copied in said:
             said.remove(copied)
         said.append(copied)

@@ -47,6 +47,8 @@ class World(Following, Asking, Serving, base.World):
         self.questions_asked, self.is_fair = 0, False
         # By the base of a reopening, the shards whose loss its confirmation named.
         self.perhaps: dict[int, frozenset[int]] = {}
+        # The shards that a confirmation named, and whose new primary has not taken its slots yet.
+        self.named: set[int] = set()
         super().__init__(document, rules, seed, keeps_trace)
 
     def new_host(self, number: int) -> Host:
@@ -91,6 +93,7 @@ class World(Following, Asking, Serving, base.World):
         if outcome.has_changed and isinstance(command, Confirm):
             self.confirmed(reopening)
         if reopening is not None and self.controller.reopening is None:
+            self.named = set()
             for shard in self.shards:
                 self.writes.promise_less(shard, self.controller.record.copies[shard])
             self.away &= set(self.controller.record.permits)
@@ -111,7 +114,8 @@ class World(Following, Asking, Serving, base.World):
 
     def confirmed(self, reopening: Reopening) -> None:
         """A settlement was confirmed: what it may lose was named before."""
-        self.perhaps[reopening.base] = reopening.perhaps
+        self.perhaps[reopening.base] = reopening.perhaps | (self.named if self.rules.is_built else set())
+        self.named |= reopening.perhaps
         for shard in self.shards if self.rules.is_small else ():
             self.writes.promise_less(shard, 0 if shard in reopening.perhaps else reopening.copies[shard])
         laws.best_copy_wins(self, reopening)
@@ -325,6 +329,9 @@ class World(Following, Asking, Serving, base.World):
         found = host.server.fence(fence, frozenset(it.shard for it in host.running), host.told())
         if host.server.base != before and self.rules.fence_ends_work:
             host.end_work()
+        if host.server.base != before and self.rules.is_built and not self.rules.number_until_slots:
+            for replica in host.at:
+                replica.needed = 1
         if found:
             self.say("server", host.number, "is fenced at", fence.base, "and tells", found)
             self.network.inventories.add(plain.Fenced(host.number, fence.base, found))
@@ -382,6 +389,8 @@ class World(Following, Asking, Serving, base.World):
             self.take_away(host, shard)
             copy.begin_empty(view or 0)
         history[shard] = list(copy.writes)
+        if isinstance(message, Settle):
+            self.named.discard(shard)
         if isinstance(message, Settle) and shard in self.perhaps.get(message.base, ()):
             if self.rules.is_small:
                 # (what the new primary has stays acknowledged)
