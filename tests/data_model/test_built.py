@@ -106,6 +106,13 @@ class Names(unittest.TestCase):
         play.do(CopiedAt(0, 1, 0, 0, 2))
         self.assertEqual(self.names(play, {0}, (ABSENT, SECONDARY, SECONDARY)), (0,))
 
+    def test_nobody_tells_a_whole_copy(self):
+        play = FullPlay(BUILT, TWO, want=3, cap=1, copies=2)
+        play.do(CopiedAt(0, 1, 0, 0, 3))
+        play.world.lose(play.host(1))
+        play.restore(1)
+        self.assertEqual(self.names(play, {0}, (ABSENT, SECONDARY, ABSENT)), (0,))
+
     def test_a_primary_that_is_there_is_never_named(self):
         play = FullPlay(BUILT, TWO, want=2, cap=0, copies=2)
         play.write(7, copies=())

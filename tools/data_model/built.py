@@ -159,16 +159,23 @@ class BuiltReopening(Reopening):
             return self.rules.silent_gone
         if self.is_unknown(server):
             return self.rules.unknown_gone
-        told = survey.copies.get(server)
-        return (told is None or told == NO_COPY) and self.rules.part_gone
+        return not self.tells_whole(survey, server) and self.rules.part_gone
+
+    @staticmethod
+    def tells_whole(survey: Survey, server: int) -> bool:
+        """The server has told a whole copy."""
+        return survey.copies.get(server, NO_COPY) != NO_COPY
 
     def may_lack_copies(self, survey: Survey, gone: set[int]) -> bool:
-        """An acknowledged write may be at none of those that are left: as many as surely had it are gone; or one of
-        those that may have served is gone, and has answered, since others may have got writes after they told."""
+        """An acknowledged write may be at none of those that are left: as many as surely had it are gone; nobody tells a
+        whole copy; or one of those that may have served is gone, and has answered, since others may have got writes
+        after they told."""
         shard, kept = survey.shard, self.least(survey.shard)
         members = {it for it, cell in enumerate(self.recorded(shard)) if cell != ABSENT}
         is_late = any(it in self.inventories for it in gone) and self.rules.server_named
-        return kept < 2 or is_late or kept <= sum(self.is_gone(survey, it) for it in members)
+        is_told = any(self.tells_whole(survey, it) for it in survey.copies)
+        is_few = kept <= sum(self.is_gone(survey, it) for it in members)
+        return kept < 2 or is_late or is_few or (not is_told and self.rules.part_gone)
 
     def is_perhaps_lost(self, survey: Survey, shard: int) -> bool:
         """No primary is left that surely still is one, and one that may have served is gone, and with it may be all
