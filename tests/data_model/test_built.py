@@ -1,6 +1,7 @@
 """The form that is built: a number that servers tell, what a reopening keeps of it, and what is named by it."""
 import unittest
 from collections import Counter
+from dataclasses import dataclass
 from unittest import mock
 
 from driving_model.cells import ABSENT, PRIMARY, SECONDARY
@@ -145,6 +146,25 @@ class Needed(unittest.TestCase):
             BUILT.without("goers_lower")
 
 
+@dataclass(frozen=True)
+class Dice:
+    """A random schedule, which breaks this law."""
+
+    seed: int
+    law: str
+
+
+# If the model changes, so do the schedules of seeds: `tools/data_model.py --built --mode RULE` finds another one.
+DICE = {
+    "kept_begins_anew": Dice(2, "enough_have_it"),
+    "replaced_keeps_one": Dice(99, "enough_have_it"),
+    "loss_named": Dice(1, "best_copy_wins"),
+    "part_gone": Dice(5, "writes_stay"),
+    "silent_gone": Dice(27, "best_copy_wins"),
+    "server_named": Dice(88, "best_copy_wins"),
+}
+
+
 class Schedules(unittest.TestCase):
     """Random schedules, of a fixed set of seeds."""
 
@@ -157,6 +177,14 @@ class Schedules(unittest.TestCase):
                     self.assertIsNone(run.violation)
                     met.update(run.schedule.world.coverage)
         self.assertEqual([it for it in MET if not met[it]], [])
+
+    def test_a_law_is_broken_without_a_rule_alone(self):
+        for rule, dice in DICE.items():
+            with self.subTest(rule):
+                violation = run_schedule(dice.seed, BUILT.without(rule), STEPS, "kept").violation
+                self.assertIsNotNone(violation, f"no law is broken without {rule}")
+                self.assertEqual(violation.law, dice.law)
+                self.assertIsNone(run_schedule(dice.seed, BUILT, STEPS, "kept").violation)
 
 
 if __name__ == "__main__":

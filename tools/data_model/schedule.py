@@ -8,7 +8,7 @@ from driving_model import commands as driving
 from driving_model import schedule as base
 from driving_model.cells import PRIMARY, SECONDARY, Stage
 from driving_model.laws import Violation
-from driving_model.messages import BASE_STEP, Fence
+from driving_model.messages import BASE_STEP, Fence, Restore
 from driving_model.plans import CrownRight, Plan
 from driving_model.replies import Up
 from driving_model.schedule import Chances
@@ -105,6 +105,9 @@ class Schedule(base.Schedule):
         if self.profile == "kept":
             self.kinds += ["fail_over", "catch_up"]
             self.weights += [sum(self.weights) * it for it in (0.05, 0.15)]
+        if self.profile == "kept" and rules.is_built:
+            self.kinds.append("two_faults")
+            self.weights.append(sum(self.weights) * 0.05)
         if self.profile in OLD:
             self.begin_with_old_views()
         if self.profile == "kept":
@@ -248,6 +251,11 @@ class Schedule(base.Schedule):
             elif host.answers and draw < 0.75:
                 world.lose(host, keeps_data=self.chance(0.4))
             self.operator.reopen(is_plain=self.chance(0.6))
+        self.drive_reopening()
+
+    def drive_reopening(self) -> None:
+        """A reopening goes on, as far as it comes."""
+        world = self.world
         for _ in range(self.dice.choice([6, 20, 40])):
             messages = self.controller.outgoing()
             if self.controller.reopening is None or not messages:
@@ -255,6 +263,63 @@ class Schedule(base.Schedule):
             world.deliver(self.dice.choice(messages))
             self.go_on_reopening()
             world.check()
+
+    def on_two_faults(self) -> None:
+        """Some secondary has a write with the primary, and loses something or goes down by leave; then the primary is
+        lost, or it loses its disk while a reopening asks the others. The dice of the built form."""
+        world = self.world
+        self.on_catch_up()
+        primary = next((it for it in world.hosts if it.cell(0) == PRIMARY and it.answers), None)
+        others = [it for it in world.hosts if it.cell(0) == SECONDARY and it.answers]
+        if not self.controller.is_open or primary is None or not others:
+            return
+        self.write_with(primary, self.dice.choice(others))
+        is_late = self.chance(0.25)
+        if is_late:
+            self.operator.reopen(is_plain=True)
+            for fence in self.controller.fences():
+                if fence.server != primary.number:
+                    world.deliver(fence)
+            self.write_with(primary, self.dice.choice(others))
+        else:
+            self.fail_partly(self.dice.choice(others))
+        world.lose(primary, is_for_good=not is_late and self.may_be_lost())
+        if not is_late:
+            self.operator.reopen(is_plain=True)
+        self.drive_reopening()
+
+    def write_with(self, primary: Host, other: Host) -> None:
+        """The primary executes a write, which comes to one secondary, and is acknowledged if that is enough."""
+        world = self.world
+        world.request(primary, world.writes.new_write(0))
+        for write in list(primary.running):
+            world.finish(primary, write)
+        primary.copy(0).flush()
+        if other.copy(0).is_whole:
+            world.follow_one(other, primary, 0)
+            other.copy(0).flush()
+        world.tell(0, world.row(0))
+        for word in world.words[-4:]:
+            world.hear_word(word)
+        world.acknowledge(0)
+        world.check()
+
+    def fail_partly(self, host: Host) -> None:
+        """A server loses its slots, or its disk, and may be restored with nothing; or goes down by leave; or nothing
+        happens to it."""
+        world, draw = self.world, self.dice.random()
+        if draw < 0.5:
+            world.lose(host, keeps_data=draw < 0.1)
+            self.ask(host)
+            for message in self.controller.outgoing() if draw < 0.35 else ():
+                if isinstance(message, Restore) and message.server == host.number:
+                    world.deliver(message)
+        elif draw < 0.75:
+            self.bys += 1
+            if world.do(driving.Approve(host.number, f"by-{self.bys}")).has_changed:
+                world.crash(host)
+                world.away.add(host.number)
+        world.check()
 
     def on_catch_up(self) -> None:
         """Servers get their slots and writes, the primary says what it may, servers that were given up come back."""
