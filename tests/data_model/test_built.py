@@ -22,8 +22,8 @@ STEPS = 100
 RUNS = {"": 15, "kept": 25, "one shard": 10, "drops": 10}
 # What happens in some schedule of these.
 MET = (
-    "a named loss taken", "a new primary, named", "a new primary, sure", "acknowledged at several", "approved", "copied",
-    "copies anew", "leave taken", "lost for good", "reopened", "reopening replaced", "restored",
+    "a named loss taken", "a new primary, named", "a new primary, sure", "acknowledged at several", "approved",
+    "copied", "copies anew", "leave taken", "lost for good", "reopened", "reopening replaced", "restored",
 )
 # Without these a loss is unnamed only by what the laws say of copies, or a name is there that need not be.
 OTHERWISE = frozenset({"copied_of_fewer"})
@@ -40,7 +40,7 @@ class Numbers(unittest.TestCase):
 
     def test_copied_raises_and_is_ignored_again(self):
         play = FullPlay(BUILT, ALL, want=3, cap=1, copies=2)
-        for wrong in (CopiedAt(0, 2, 0, 0, 2), CopiedAt(0, 1, -1, 0, 2), CopiedAt(0, 1, 0, 0, 1), CopiedAt(0, 1, 0, 0, 0)):
+        for wrong in (CopiedAt(0, 2, 0, 0, 2), CopiedAt(0, 1, -1, 0, 2), CopiedAt(0, 1, 0, 0, 1)):
             self.assertEqual(play.do(wrong), Ignored("old"))
         self.assertEqual(play.do(CopiedAt(0, 1, 0, 0, 4)), Refused("AboveWant", shard=0))
         self.assertEqual(play.do(CopiedAt(0, 1, 0, 0, 2)), Up(0))

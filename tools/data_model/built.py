@@ -167,8 +167,8 @@ class BuiltReopening(Reopening):
         return survey.copies.get(server, NO_COPY) != NO_COPY
 
     def may_lack_copies(self, survey: Survey, gone: set[int]) -> bool:
-        """An acknowledged write may be at none of those that are left: as many as surely had it are gone; nobody tells a
-        whole copy; or one of those that may have served is gone, and has answered, since others may have got writes
+        """An acknowledged write may be at none of those that are left: as many as surely had it are gone; nobody tells
+        a whole copy; or one of those that may have served is gone, and has answered, since others may have got writes
         after they told."""
         shard, kept = survey.shard, self.least(survey.shard)
         members = {it for it, cell in enumerate(self.recorded(shard)) if cell != ABSENT}
