@@ -1,6 +1,10 @@
 -- Commands determine what becomes of a driver.
 use Rattle.std.proofs.Common.{◌≡◌, ◌∙◌, ℕ, ◌+◌, Option, Some, None, List, [], ◌∷◌, Bool, false, length, map, refl, sym, ap, subst}
-use Rattle.std.specs.Prelude.{◌&&◌, ◌||◌, ◌==◌, nat_lt, slice_get, slice_set}
+use Rattle.std.specs.Prelude.{◌&&◌, ◌||◌, ◌==◌, not, nat_le, nat_lt, slice_get, slice_index_or, slice_set, if◌then◌else◌}
+use Rattle.std.specs.List.{list_any, range_with_len}
+use Rattle.sm_placement.specs.Opening.{is_handing}
+use Rattle.sm_placement.specs.Setup.{Setup}
+use Rattle.sm_placement.specs.Sums.{any_below}
 use Rattle.sm_reservation.specs.declared.stream_id.StreamId.{StreamId}
 use Rattle.sm_plan_code.specs.Plan.{PlanModel}
 use Rattle.sm_protocol.specs.declared.event.Played.TheVariants as played
@@ -10,15 +14,47 @@ use Rattle.sm_protocol.specs.Next.{since_of, unfinished_plans}
 use Rattle.sm_protocol.specs.Happens.{Approve, Begin, Done, Happening, Step, engaged, happens, run}
 use Rattle.sm_driver.specs.Advance.{AreNextFree, IsAdvanced}
 use Rattle.sm_driver.specs.Alike.{AreAlike, GoAlike, ReplyAlike}
+use Rattle.sm_driver.specs.declared.copies.CopiesEffect.{CopiesEffect}
+use Rattle.sm_driver.specs.declared.copies.CopiesEffect.TheVariants.{AboveWant, Noted, Old}
+use Rattle.sm_driver.specs.declared.copies.ToldCopies.{ToldCopies}
+use Rattle.sm_driver.specs.Copies.{HasNotedCopies, copies_effect, is_order_for, kept_copies, shard_want}
 use Rattle.sm_driver.specs.Driver.{DriverModel, HasApproved, HasBegunPlan, HasEndedRestart, HasRestored, HasTakenStep, IsOfJournal, base, record_of}
 use Rattle.sm_driver.specs.Epochs.{HasOpenedEpoch, fault_by, last_epoch, shard_spent}
-use Rattle.sm_driver.specs.Orders.{awaits, epoch_base, message_of}
+use Rattle.laws_network.specs.Net.{order_of}
+use Rattle.sm_driver.specs.Orders.{awaiting_of, awaits, epoch_base, message_of}
 use Rattle.sm_driver.specs.Permits.{restart_effect, server_permitted}
 use Rattle.sm_driver.specs.Restores.{RestoreModel, restore_now, is_last_restore}
 
 -- what is a function of record and epoch
 by_record : {A : Type 0} (f : State → ℕ → A) (d e : DriverModel) → AreAlike d e → f (record_of e) e.epoch ≡ f (record_of d) d.epoch
 by_record f d e is = ap (λ w. f w e.epoch) is.recorded ∙ ap (f (record_of d)) is.epoch
+
+-- what comes of copies of a shard that are told, by what is compared
+abbrev effect_by : ℕ → ToldCopies → ℕ → ℕ → Setup → List ℕ → CopiesEffect
+effect_by s told journal fence setup counts =
+    if not ((told.journal == journal) && (told.fence == fence)) || nat_le told.copies (slice_index_or counts s 1) then Old
+    else if nat_lt (shard_want setup s) told.copies then AboveWant
+    else Noted
+
+-- copies that are told come to the same
+copied_alike : (d e : DriverModel) → AreAlike d e → (s : ℕ) (told : ToldCopies) → copies_effect e s told ≡ copies_effect d s told
+copied_alike d e is s told =
+    ap (λ (n : ℕ). effect_by s told n e.fence e.machine.placement.setup e.copies) is.journal
+    ∙ ap (λ (n : ℕ). effect_by s told d.journal n e.machine.placement.setup e.copies) is.fence
+    ∙ ap (λ (u : Setup). effect_by s told d.journal d.fence u e.copies) is.setup
+    ∙ ap (effect_by s told d.journal d.fence d.machine.placement.setup) is.copies
+
+-- what a reopening keeps of these copies, by record and base
+abbrev kept_by : List ℕ → State → ℕ → List ℕ
+kept_by counts w base =
+    map (λ s. if list_any (λ id. is_order_for s (order_of base w id)) (awaiting_of w) || any_below w.sizes.servers (λ v. is_handing (w.place.cells s v)) then 1 else slice_index_or counts s 1)
+    (range_with_len 0 w.sizes.shards)
+
+-- a reopening keeps the same
+kept_alike : (d e : DriverModel) → AreAlike d e → kept_copies e ≡ kept_copies d
+kept_alike d e is =
+    by_record (λ w n. kept_by e.copies w (epoch_base n)) d e is
+    ∙ ap (λ (counts : List ℕ). kept_by counts (record_of d) (base d)) is.copies
 
 replies : (d e : DriverModel) → AreAlike d e → ReplyAlike d e
 replies d e is = record {
@@ -29,6 +65,8 @@ replies d e is = record {
   restarted = λ permit server_base. ap (λ (f : ℕ). restart_effect f server_base (server_permitted e.permits permit)) is.fence
       ∙ ap (λ (ps : List (Option ℕ)). restart_effect d.fence server_base (server_permitted ps permit)) is.permits;
   told = λ v nonce. ap (λ (rs : List (Option RestoreModel)). is_last_restore rs v nonce) is.restores;
+  copied = copied_alike d e is;
+  kept = kept_alike d e is;
   naming = λ v. ap (λ (w : State). engaged w v) is.recorded;
   epoch = by_record (λ w n. fault_by (slice_get (unfinished_plans w) 0) (n == last_epoch) (shard_spent w)) d e is;
   message = λ id. by_record (λ w n. message_of (epoch_base n) w id) d e is;
@@ -65,6 +103,7 @@ of_journal d e new next is x y recorded permits = record {
   permits = permits;
   carried = y.carried ∙ is.carried ∙ sym x.carried;
   restores = y.restores ∙ is.restores ∙ sym x.restores;
+  copies = y.copies ∙ is.copies ∙ sym x.copies;
 }
 
 begun : (d e : DriverModel) → AreAlike d e → (plan : PlanModel) (m n : ℕ) (new next : DriverModel) → HasBegunPlan plan m d new → HasBegunPlan plan n e next → (n ≡ m) × AreAlike new next
@@ -102,6 +141,7 @@ ended d e is u v permit server_base new next x y =
       permits = is.permits;
       carried = ap (λ (marks : List Bool). slice_set marks u false) is.carried;
       restores = is.restores;
+      copies = is.copies;
     } in (
       server,
       of_journal _ _ new next unmarked x.journal other.journal
@@ -119,11 +159,26 @@ restored d e is v nonce new next x y = record {
   permits = ap (λ (z : DriverModel). z.permits) y.told ∙ is.permits ∙ sym (ap (λ (z : DriverModel). z.permits) x.told);
   carried = ap (λ (z : DriverModel). z.carried) y.told ∙ is.carried ∙ sym (ap (λ (z : DriverModel). z.carried) x.told);
   restores = ap (λ (z : DriverModel). z.restores) y.told ∙ with_it ∙ sym (ap (λ (z : DriverModel). z.restores) x.told);
+  copies = ap (λ (z : DriverModel). z.copies) y.told ∙ is.copies ∙ sym (ap (λ (z : DriverModel). z.copies) x.told);
 }
   where
     with_it : slice_set e.restores v (Some (restore_now (base e) (record_of e) v nonce)) ≡ slice_set d.restores v (Some (restore_now (base d) (record_of d) v nonce))
     with_it = ap (λ (rs : List (Option RestoreModel)). slice_set rs v (Some (restore_now (base e) (record_of e) v nonce))) is.restores
         ∙ by_record (λ w n. slice_set d.restores v (Some (restore_now (epoch_base n) w v nonce))) d e is
+
+noted : (d e : DriverModel) → AreAlike d e → (s copies : ℕ) (new next : DriverModel) → HasNotedCopies s copies d new → HasNotedCopies s copies e next → AreAlike new next
+noted d e is s copies new next x y = record {
+  recorded = ap record_of y ∙ is.recorded ∙ sym (ap record_of x);
+  setup = ap (λ (z : DriverModel). z.machine.placement.setup) y ∙ is.setup ∙ sym (ap (λ (z : DriverModel). z.machine.placement.setup) x);
+  journal = ap (λ (z : DriverModel). z.journal) y ∙ is.journal ∙ sym (ap (λ (z : DriverModel). z.journal) x);
+  epoch = ap (λ (z : DriverModel). z.epoch) y ∙ is.epoch ∙ sym (ap (λ (z : DriverModel). z.epoch) x);
+  fence = ap (λ (z : DriverModel). z.fence) y ∙ is.fence ∙ sym (ap (λ (z : DriverModel). z.fence) x);
+  permits = ap (λ (z : DriverModel). z.permits) y ∙ is.permits ∙ sym (ap (λ (z : DriverModel). z.permits) x);
+  carried = ap (λ (z : DriverModel). z.carried) y ∙ is.carried ∙ sym (ap (λ (z : DriverModel). z.carried) x);
+  restores = ap (λ (z : DriverModel). z.restores) y ∙ is.restores ∙ sym (ap (λ (z : DriverModel). z.restores) x);
+  copies = ap (λ (z : DriverModel). z.copies) y ∙ ap (λ (counts : List ℕ). slice_set counts s copies) is.copies
+      ∙ sym (ap (λ (z : DriverModel). z.copies) x);
+}
 
 opens : (d e : DriverModel) → AreAlike d e → (new next : DriverModel) → HasOpenedEpoch d new → HasOpenedEpoch e next → AreAlike new next
 opens d e is new next x y = record {
@@ -135,6 +190,7 @@ opens d e is new next x y = record {
   permits = y.permits ∙ is.permits ∙ sym x.permits;
   carried = y.carried ∙ is.carried ∙ sym x.carried;
   restores = y.restores ∙ is.restores ∙ sym x.restores;
+  copies = y.copies ∙ is.copies ∙ sym x.copies;
 }
 
 -- Drivers that are alike go on alike.
@@ -146,5 +202,6 @@ go_alike d e is = record {
   approved = approved d e is;
   ended = ended d e is;
   restored = restored d e is;
+  noted = noted d e is;
   opened = opens d e is;
 }

@@ -56,8 +56,8 @@ opening_carried c p room marks = record {
 -- what holds of a driver that opens
 pub opening_driving : (setup : Setup) (p : Place) (room : ℕ) (before : List (Option ℕ)) (marks : List Bool) (d : DriverModel) → length setup.servers ≤ MOST_SERVERS → AreEarlierPermits (base d) before →
     record_of d ≡ opened (sizes_of setup) p room → d.permits ≡ opening_permits (base d) before (length setup.servers) p.down → d.carried ≡ carried_down marks (length setup.servers) p.down →
-    d.restores ≡ replicate (length setup.servers) None → IsDriving room d
-opening_driving setup p room before marks d few earlier state permits carried restores = record {
+    d.restores ≡ replicate (length setup.servers) None → d.copies ≡ replicate (length setup.shards) 1 → IsDriving room d
+opening_driving setup p room before marks d few earlier state permits carried restores copies = record {
   free = ap next_free state;
   unlost = subst HasLostNone (sym state) (opening_unlost (sizes_of setup) p room);
   permits = subst (λ ps. ArePermitsOfDown (record_of d) ps) (sym permits)
@@ -67,6 +67,7 @@ opening_driving setup p room before marks d few earlier state permits carried re
   carried = subst (λ ms. AreCarriedDown (record_of d) ms) (sym carried)
       (subst (λ w. AreCarriedDown w (carried_down marks (length setup.servers) p.down)) (sym state) (opening_carried (sizes_of setup) p room marks));
   restores = ap length restores ∙ length-replicate (length setup.servers) None ∙ ap (λ (w : State). w.sizes.servers) (sym state);
+  copies = ap length copies ∙ length-replicate (length setup.shards) 1 ∙ ap (λ (w : State). w.sizes.shards) (sym state);
   room = ap (λ (w : State). w.room) state;
 }
 
@@ -80,6 +81,7 @@ driving_on room d new same longer free x = record {
   given = given_on (base d) _ _ d.permits longer.log x.given;
   carried = carried_stay (record_of d) (state_of new) d.carried same x.carried;
   restores = x.restores ∙ ap (λ (c : Sizes). c.servers) (sym same.sizes);
+  copies = x.copies ∙ ap (λ (c : Sizes). c.shards) (sym same.sizes);
   room = same.room ∙ x.room;
 }
 
@@ -142,6 +144,7 @@ approved_driving room d v new e l places x =
           (given_more (base d) (length w.log) d.permits v (subst (λ n. v < n) (sym x.permits.servers) l) (omega arith) x.given);
       carried = carried_stay_down w (state_of new) d.carried v (ap (λ (s : State). s.place.down) is) (ap (λ (s : State). s.sizes) is) x.carried;
       restores = x.restores ∙ ap (λ (s : State). s.sizes.servers) (sym is);
+      copies = x.copies ∙ ap (λ (s : State). s.sizes.shards) (sym is);
       room = ap (λ (s : State). s.room) is ∙ x.room;
     }
 
@@ -159,6 +162,7 @@ restarted_driving room d v answer new e l down x =
       given = given_on (base d) _ _ _ longer.log (given_less (base d) (length w.log) d.permits v (subst (λ n. v < n) (sym x.permits.servers) l) x.given);
       carried = carried_cleared w (state_of new) d.carried v l (ap (λ (s : State). s.place.down) is) (ap (λ (s : State). s.sizes) is) x.carried;
       restores = x.restores ∙ ap (λ (s : State). s.sizes.servers) (sym is);
+      copies = x.copies ∙ ap (λ (s : State). s.sizes.shards) (sym is);
       room = ap (λ (s : State). s.room) is ∙ x.room;
     }
 
@@ -171,6 +175,20 @@ told_driving room d v told x = record {
   given = x.given;
   carried = x.carried;
   restores = length-set d.restores v told ∙ x.restores;
+  copies = x.copies;
+  room = x.room;
+}
+
+-- and copies that are noted
+pub noted_driving : (room : ℕ) (d : DriverModel) (s copies : ℕ) → IsDriving room d → IsDriving room (record d { copies = set d.copies s copies })
+noted_driving room d s copies x = record {
+  free = x.free;
+  unlost = x.unlost;
+  permits = x.permits;
+  given = x.given;
+  carried = x.carried;
+  restores = x.restores;
+  copies = length-set d.copies s copies ∙ x.copies;
   room = x.room;
 }
 
@@ -192,6 +210,7 @@ epoch_driving room d new epoch c p next places state sizes down x =
           (earlier_given (epoch_base epoch) d.permits (subst (λ b. AreEarlierPermits b d.permits) above (all_earlier (base d) (length (record_of d).log) d.permits places x.given)));
       carried = carried_stay (record_of d) (state_of new) d.carried same x.carried;
       restores = x.restores ∙ ap (λ (y : Sizes). y.servers) (sym same.sizes);
+      copies = x.copies ∙ ap (λ (y : Sizes). y.shards) (sym same.sizes);
       room = ap (λ (s : State). s.room) state;
     }
 

@@ -7,6 +7,7 @@ mod FreeSteps
 mod Given
 mod Lists
 mod LocalSteps
+mod Marks
 mod PermitLookups
 mod Recorded
 mod Searches

@@ -32,6 +32,8 @@ pub record DriverModel : Type 0 where
   pub permits : List (Option ℕ)
   pub carried : List Bool
   pub restores : List (Option RestoreModel)
+  -- by the shards' numbers: on how many replicas each acknowledged write is, as far as it was told
+  pub copies : List ℕ
 
 -- what is recorded
 abbrev pub record_of : DriverModel → State
@@ -61,7 +63,7 @@ is_past d id number = is_begun (record_of d) id && ((progress_of (record_of d) i
 abbrev pub answer_effect : DriverModel → StreamId → ℕ → AnswerEffect
 answer_effect d id number = if is_due d id number then answer.Moved else if is_past d id number then answer.Old else answer.Unknown
 
--- journal, epoch, fence, configuration, carried servers and restores stay
+-- journal, epoch, fence, configuration, carried servers, restores and copies stay
 pub record IsOfJournal (old new : DriverModel) : Type 0 where
   pub journal : new.journal ≡ old.journal
   pub epoch : new.epoch ≡ old.epoch
@@ -69,6 +71,7 @@ pub record IsOfJournal (old new : DriverModel) : Type 0 where
   pub setup : new.machine.placement.setup ≡ old.machine.placement.setup
   pub carried : new.carried ≡ old.carried
   pub restores : new.restores ≡ old.restores
+  pub copies : new.copies ≡ old.copies
 
 -- no call was lost: each that is recorded was answered
 abbrev pub HasLostNone : State → Type 0
@@ -83,6 +86,7 @@ pub record IsDriving (places : ℕ) (d : DriverModel) : Type 0 where
   pub given : AreGivenPermits (base d) (length (record_of d).log) d.permits
   pub carried : AreCarriedDown (record_of d) d.carried
   pub restores : length d.restores ≡ (record_of d).sizes.servers
+  pub copies : length d.copies ≡ (record_of d).sizes.shards
   pub room : (record_of d).room ≡ places
 
 -- The plan begins under this number, and every local step is made.

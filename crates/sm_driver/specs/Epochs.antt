@@ -38,3 +38,4 @@ pub record HasOpenedEpoch (old new : DriverModel) : Type 0 where
   pub permits : new.permits ≡ old.permits
   pub carried : new.carried ≡ old.carried
   pub restores : new.restores ≡ old.restores
+  pub copies : new.copies ≡ old.copies

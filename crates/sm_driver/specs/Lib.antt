@@ -1,6 +1,7 @@
 pub mod Advance
 pub mod Alike
 pub mod Carried
+pub mod Copies
 pub mod Driver
 pub mod Epochs
 pub mod Orders

@@ -22,9 +22,11 @@ ghost use Rattle.sm_driver.specs.declared.driver.AnswerEffect.TheVariants as ans
 ghost use Rattle.sm_driver.specs.declared.epoch.EpochFault.TheVariants as refusal;
 ghost use Rattle.sm_driver.specs.declared.restores.RestoreFault.TheVariants as fault;
 
+mod keeping;
 mod opening;
 
 use crate::carried::CarriedServers;
+use crate::copies::Copies;
 use crate::epoch::{EpochFault, epoch_after, fault_by, shard_spent};
 use crate::local_steps::{advance, advance_plan};
 use crate::order::{StreamMessage, StreamOrder, StreamPublication};
@@ -64,6 +66,7 @@ pub struct Driver {
     permits: Permits,
     carried: CarriedServers,
     restores: Restores,
+    copies: Copies,
 }
 
 impl Model for Driver {
@@ -73,9 +76,9 @@ impl Model for Driver {
 
     ghost Value = { DriverModel };
 
-    ghost view = { λ d. record { machine = d.director; journal = d.journal; epoch = d.epoch; fence = d.fence; permits = d.permits; carried = d.carried; restores = d.restores } };
+    ghost view = { λ d. record { machine = d.director; journal = d.journal; epoch = d.epoch; fence = d.fence; permits = d.permits; carried = d.carried; restores = d.restores; copies = d.copies } };
 
-    ghost invariant = { λ d. IsDriving d.room (record { machine = d.director; journal = d.journal; epoch = d.epoch; fence = d.fence; permits = d.permits; carried = d.carried; restores = d.restores }) };
+    ghost invariant = { λ d. IsDriving d.room (record { machine = d.director; journal = d.journal; epoch = d.epoch; fence = d.fence; permits = d.permits; carried = d.carried; restores = d.restores; copies = d.copies }) };
 }
 
 impl Driver {
@@ -360,7 +363,7 @@ impl Driver {
     }
 
     /// Opens the next epoch over the placement as it is recorded, if no plan is unfinished: the log is empty again. Fence, permits,
-    /// carried servers and restores stay.
+    /// carried servers, restores and copies stay.
     pub fn new_epoch(&mut self, alloc: Global) -> Result<(), EpochFault>
         ensures opened { OnOk result (HasOpenedEpoch self.old self.new) }
         ensures fits { OnOk result (epoch_fault self.old ≡ None) }
@@ -405,10 +408,12 @@ impl Driver {
             permits,
             carried,
             restores,
+            copies,
         } = self;
         drop(permits);
         drop(carried);
         drop(restores);
+        drop(copies);
         director.give_up()
     }
 }

@@ -3,6 +3,7 @@
 #![tactic(auto)]
 
 mod carried;
+mod copies;
 mod driver;
 mod epoch;
 mod law;
@@ -13,6 +14,7 @@ mod permits;
 mod restart;
 mod restores;
 
+pub use copies::{CopiesEffect, ToldCopies};
 pub use driver::{AnswerEffect, Driver, EPOCH_STEP};
 pub use epoch::EpochFault;
 pub use law::drivers_go_alike;

@@ -14,6 +14,7 @@ ghost use Rattle.sm_driver.specs.Driver.{base, record_of};
 
 use super::{Driver, EPOCH_STEP};
 use crate::carried::CarriedServers;
+use crate::copies::Copies;
 use crate::permits::Permits;
 use crate::restores::Restores;
 use sm_machine::{Director, OpenFault};
@@ -43,6 +44,7 @@ impl Driver {
         ensures permits { IfOk result (λ d. d.permits ≡ opening_permits (base d) permits.now (length placement.setup.servers) (place_of placement).down) }
         ensures carried { IfOk result (λ d. d.carried ≡ carried_down carried.now (length placement.setup.servers) (place_of placement).down) }
         ensures restores { IfOk result (λ d. d.restores ≡ replicate (length placement.setup.servers) None) }
+        ensures copies { IfOk result (λ d. d.copies ≡ replicate (length placement.setup.shards) 1) }
         ensures fits { OnOk result ((log_room ≤ MOST_PLACES) × (down_count (sizes_of placement.setup) (place_of placement) ≤ log_room)) }
         ensures back { IfErr result (λ e. e.0 ≡ placement) }
         ensures full { IfErr result (λ e. (e.1 ≡ LogFull) ↔ ((MOST_PLACES < log_room) ⊎ (log_room < down_count (sizes_of placement.setup) (place_of placement)))) }
@@ -60,6 +62,9 @@ impl Driver {
         let Ok(restores) = Restores::none(alloc, placement.config().server_count()) else {
             return Err((placement, OpenFault::NoMemory));
         };
+        let Ok(copies) = Copies::at_opening(alloc, placement.config().shard_count()) else {
+            return Err((placement, OpenFault::NoMemory));
+        };
         let director = Director::open(alloc, placement, log_room)?;
         Ok(Driver {
             director,
@@ -70,6 +75,7 @@ impl Driver {
             permits,
             carried,
             restores,
+            copies,
         })
     }
 
@@ -91,6 +97,7 @@ impl Driver {
         ensures permits { IfOk result (λ d. d.permits ≡ opening_permits (base d) [] (length placement.setup.servers) (place_of placement).down) }
         ensures carried { IfOk result (λ d. d.carried ≡ replicate (length placement.setup.servers) false) }
         ensures restores { IfOk result (λ d. d.restores ≡ replicate (length placement.setup.servers) None) }
+        ensures copies { IfOk result (λ d. d.copies ≡ replicate (length placement.setup.shards) 1) }
         ensures fits { OnOk result ((log_room ≤ MOST_PLACES) × (down_count (sizes_of placement.setup) (place_of placement) ≤ log_room)) }
         ensures back { IfErr result (λ e. e.0 ≡ placement) }
         ensures full { IfErr result (λ e. (e.1 ≡ LogFull) ↔ ((MOST_PLACES < log_room) ⊎ (log_room < down_count (sizes_of placement.setup) (place_of placement)))) }
@@ -120,6 +127,7 @@ impl Driver {
         ensures permits { IfOk result (λ d. d.permits ≡ opening_permits (base d) permits.now (length placement.setup.servers) (place_of placement).down) }
         ensures carried { IfOk result (λ d. d.carried ≡ carried_down carried.now (length placement.setup.servers) (place_of placement).down) }
         ensures restores { IfOk result (λ d. d.restores ≡ replicate (length placement.setup.servers) None) }
+        ensures copies { IfOk result (λ d. d.copies ≡ replicate (length placement.setup.shards) 1) }
         ensures fits { OnOk result ((log_room ≤ MOST_PLACES) × (down_count (sizes_of placement.setup) (place_of placement) ≤ log_room)) }
         ensures back { IfErr result (λ e. e.0 ≡ placement) }
         ensures full { IfErr result (λ e. (e.1 ≡ LogFull) ↔ ((MOST_PLACES < log_room) ⊎ (log_room < down_count (sizes_of placement.setup) (place_of placement)))) }

@@ -38,9 +38,9 @@ invariant_of-self c =
     (let a = ap (λ (u : State). length u.log) (approval_is w new v happened) in let b = length_push w.log (record { event = event.Approve v; answer = played.Approved }) in omega arith) in
     let within : length new.log ≤ MOST_PLACES = subst (λ (m : MachineModel). length (state_of m).log ≤ MOST_PLACES) c.machine-2.ensures
     (let p = within_places _ (state_of c.machine-2.result.now) c.is_reached.ensures in let l = p.0 in let m = p.1 in omega arith) in
-    let d : DriverModel = record { machine = inside.director; journal = inside.journal; epoch = inside.epoch; fence = inside.fence; permits = inside.permits; carried = inside.carried; restores = inside.restores } in
+    let d : DriverModel = record { machine = inside.director; journal = inside.journal; epoch = inside.epoch; fence = inside.fence; permits = inside.permits; carried = inside.carried; restores = inside.restores; copies = inside.copies } in
     let log : c.log.result.now ≡ w.log = c.log.ensures ∙ ap (λ (m : MachineModel). (state_of m).log) (c.machine.ensures ∙ ap (λ (x : DriverModel). x.machine) (sym c.self.view_is)) in
     let permit : c.base.result + length c.log.result.now + 1 ≡ base d + length w.log + 1 =
     ap (λ n. n + length c.log.result.now + 1) (c.base.ensures.base ∙ ap base (sym c.self.view_is)) ∙ ap (λ (l : List Logged). base d + length l + 1) log in
-    subst (λ (permits : List (Option ℕ)). IsDriving inside.room (record { machine = c.play.new.self; journal = inside.journal; epoch = inside.epoch; fence = inside.fence; permits = permits; carried = inside.carried; restores = inside.restores }))
+    subst (λ (permits : List (Option ℕ)). IsDriving inside.room (record { machine = c.play.new.self; journal = inside.journal; epoch = inside.epoch; fence = inside.fence; permits = permits; carried = inside.carried; restores = inside.restores; copies = inside.copies }))
     (ap (λ n. set inside.permits v (Some n)) (sym permit) ∙ sym c.set.ensures) (approved_driving inside.room d v c.play.new.self happened known (omega arith) c.self.invariant)

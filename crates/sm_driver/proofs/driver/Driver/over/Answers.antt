@@ -12,3 +12,4 @@ invariant_of-result c =
     (subst (λ (u : Setup). length u.servers ≤ MOST_SERVERS) c.config.ensures.setup c.server_count.ensures.setup.servers) c.requires.permits
     c.in_ok-director.ensures.state c.in-Ok.ensures c.in-Ok-at_opening.ensures
     (c.in-Ok-none.ensures ∙ ap (λ n. replicate n None) (c.server_count.ensures.count ∙ ap (λ (u : Setup). length u.servers) c.config.ensures.setup))
+    (c.in-Ok-at_opening-2.ensures ∙ ap (λ n. replicate n 1) (c.shard_count.ensures.count ∙ ap (λ (u : Setup). length u.shards) c.config-2.ensures.setup))

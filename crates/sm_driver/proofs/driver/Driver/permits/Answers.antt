@@ -13,7 +13,7 @@ use Rattle.sm_driver.proofs.driver.Driver.permits.Goals as goal
 pub returns-clause-apart : goal.returns-clause-apart
 returns-clause-apart c =
     let inside = c.self.inside in
-    let d : DriverModel = record { machine = inside.director; journal = inside.journal; epoch = inside.epoch; fence = inside.fence; permits = inside.permits; carried = inside.carried; restores = inside.restores } in
+    let d : DriverModel = record { machine = inside.director; journal = inside.journal; epoch = inside.epoch; fence = inside.fence; permits = inside.permits; carried = inside.carried; restores = inside.restores; copies = inside.copies } in
     let is : c.machine.result.now ≡ inside.director = c.machine.ensures ∙ ap (λ (x : DriverModel). x.machine) (sym c.self.view_is) in
     let places : length (state_of inside.director).log ≤ MOST_PLACES = subst (λ (m : MachineModel). length (state_of m).log ≤ MOST_PLACES) is
     (let p = within_places _ (state_of c.machine.result.now) c.is_reached.ensures in let l = p.0 in let m = p.1 in omega arith) in

@@ -31,9 +31,9 @@ pub invariant_of-self : goal.invariant_of-self
 invariant_of-self c =
     let inside = c.self.inside in
     let known = permitted_is_down (state_of inside.director) inside.permits c.args.permit c.in-Some.server c.self.invariant.permits (sym c.server.ensures ∙ c.in-Some.is) in
-    subst (λ (permits : List (Option ℕ)). IsDriving inside.room (record { machine = c.play.new.self; journal = inside.journal; epoch = inside.epoch; fence = inside.fence; permits = permits; carried = c.clear.new.self; restores = inside.restores }))
+    subst (λ (permits : List (Option ℕ)). IsDriving inside.room (record { machine = c.play.new.self; journal = inside.journal; epoch = inside.epoch; fence = inside.fence; permits = permits; carried = c.clear.new.self; restores = inside.restores; copies = inside.copies }))
     (sym c.set.ensures)
-    (subst (λ (carried : List Bool). IsDriving inside.room (record { machine = c.play.new.self; journal = inside.journal; epoch = inside.epoch; fence = inside.fence; permits = set inside.permits c.in-Some.server None; carried = carried; restores = inside.restores }))
+    (subst (λ (carried : List Bool). IsDriving inside.room (record { machine = c.play.new.self; journal = inside.journal; epoch = inside.epoch; fence = inside.fence; permits = set inside.permits c.in-Some.server None; carried = carried; restores = inside.restores; copies = inside.copies }))
     (sym c.clear.ensures)
     (restarted_driving inside.room _ c.in-Some.server c.play.result c.play.new.self c.play.ensures.event known.0 known.1 c.self.invariant))
 
@@ -44,11 +44,11 @@ returns-clause-come c =
     let next : State = state_of c.play.new.self in
     let known = permitted_is_down w inside.permits c.args.permit c.in-Some.server c.self.invariant.permits (sym c.server.ensures ∙ c.in-Some.is) in
     let up = (restart_is w next c.in-Some.server c.play.result c.play.ensures.event known.1).0 in
-    let new : DriverModel = record { machine = c.play.new.self; journal = inside.journal; epoch = inside.epoch; fence = inside.fence; permits = c.set.new.self; carried = c.clear.new.self; restores = inside.restores } in
+    let new : DriverModel = record { machine = c.play.new.self; journal = inside.journal; epoch = inside.epoch; fence = inside.fence; permits = c.set.new.self; carried = c.clear.new.self; restores = inside.restores; copies = inside.copies } in
     subst (λ (old : DriverModel). HasEndedRestart c.in-Some.server c.args.permit c.args.base old new) c.self.view_is (record {
       permitted = sym c.server.ensures ∙ c.in-Some.is;
       settled = sym c.is_settled.ensures ∙ c.if-not-is_settled.false;
       event = c.play.ensures.event ∙ ap (λ a. (Answered a, next)) up;
       permits = c.set.ensures;
-      journal = record { journal = refl; epoch = refl; fence = refl; setup = c.play.ensures.setup; carried = c.clear.ensures; restores = refl };
+      journal = record { journal = refl; epoch = refl; fence = refl; setup = c.play.ensures.setup; carried = c.clear.ensures; restores = refl; copies = refl };
     })

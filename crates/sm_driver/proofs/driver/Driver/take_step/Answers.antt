@@ -37,7 +37,7 @@ returns c =
     let inside = c.self.inside in
     let w : State = state_of inside.director in
     let between : State = state_of c.play.new.self in
-    let new : DriverModel = record { machine = c.advance.new.director; journal = inside.journal; epoch = inside.epoch; fence = inside.fence; permits = inside.permits; carried = inside.carried; restores = inside.restores } in
+    let new : DriverModel = record { machine = c.advance.new.director; journal = inside.journal; epoch = inside.epoch; fence = inside.fence; permits = inside.permits; carried = inside.carried; restores = inside.restores; copies = inside.copies } in
     let reached : IsReached inside.director.placement.setup w = subst (λ (m : MachineModel). IsReached m.placement.setup (state_of m)) (c.machine.ensures ∙ ap (λ (d : DriverModel). d.machine) (sym c.self.view_is)) c.is_reached.ensures in
     let waits : awaits w c.args.id ≡ true = ap (λ (d : DriverModel). awaits_answer d c.args.id) c.self.view_is ∙ c.requires in
     let moved = due_is_moved inside.director.placement.setup w between c.args.id c.play.result reached c.self.invariant.unlost waits c.play.ensures.event c.play.ensures.running in
@@ -46,5 +46,5 @@ returns c =
       step = c.play.ensures.event ∙ ap (λ a. (Answered a, between)) moved;
       advanced = c.advance.ensures.advanced;
       permits = refl;
-      journal = record { journal = refl; epoch = refl; fence = refl; setup = c.advance.ensures.setup ∙ c.play.ensures.setup; carried = refl; restores = refl };
+      journal = record { journal = refl; epoch = refl; fence = refl; setup = c.advance.ensures.setup ∙ c.play.ensures.setup; carried = refl; restores = refl; copies = refl };
     })
