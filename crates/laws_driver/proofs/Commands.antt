@@ -27,12 +27,13 @@ use Rattle.sm_protocol.proofs.Courses.{some_same}
 use Rattle.laws_network.specs.Net.{Order, call_above, call_now, instruction_call, is_awaited}
 use Rattle.laws_network.specs.World.{Publication, is_answered_by, publication_by, publication_for, publication_now, publication_of}
 use Rattle.laws_network.specs.Controller.{Answered, Controller, EPOCH, Ended, JournalEntry, Made, Opened, Restore, Restored, Stored, are_versions_low, entry_recorded, goes_on, has_no_plan, is_permitted, replayed, restore_for}
+use Rattle.sm_driver.specs.Copies.{HasNotedCopies}
 use Rattle.sm_driver.specs.Driver.{DriverModel, HasApproved, HasBegunPlan, HasEndedRestart, HasRestored, HasTakenStep, awaits_answer, base, is_due, order_number, record_of}
 use Rattle.sm_driver.specs.Epochs.{HasOpenedEpoch, epoch_fault, fault_by, last_epoch, shard_spent}
 use Rattle.sm_driver.specs.Orders.{epoch_base}
 use Rattle.sm_driver.specs.Permits.{permit_of, server_permitted}
 use Rattle.sm_driver.specs.Restores.{RestoreModel, restore_now}
-use Rattle.laws_driver.specs.Control.{ApproveRestart, BeginPlan, EndRestart, IsAnswerEntry, IsControllerOf, IsTold, OpenEpoch, RestoreServer, TakeAnswer, Writes, free_steps}
+use Rattle.laws_driver.specs.Control.{ApproveRestart, BeginPlan, EndRestart, IsAnswerEntry, IsControllerOf, IsTold, NoteCopies, OpenEpoch, RestoreServer, TakeAnswer, Writes, free_steps}
 use Rattle.laws_driver.specs.ControlLaws.{AnswersHaveEntries, CommandsAreEntries}
 use Rattle.laws_driver.proofs.Controls.{controller_of, is_that, next_control}
 use Rattle.laws_driver.proofs.FreeEntries.{advanced, recording}
@@ -253,6 +254,20 @@ restore_is old new c is v nonce h =
     kept : {told : RestoreModel} → IsTold old c told → IsTold then_is next told
     kept t = record { place = t.place; given = t.given; among = get_before c.restores (given ∷ []) t.place t.given t.among; restoration = t.restoration; cells = t.cells }
 
+-- ---- copies
+
+-- of copies the controller has nothing
+noted_is : (old new : DriverModel) (c : Controller) (is : IsControllerOf old c) (s copies : ℕ) → HasNotedCopies s copies old new → IsControllerOf new c
+noted_is old new c is s copies h = subst (λ d. IsControllerOf d c) (sym h) (record {
+  journal = is.journal;
+  fence = is.fence;
+  base = is.base;
+  recorded = is.recorded;
+  servers = is.servers;
+  permits = is.permits;
+  restores = λ v told e. let t = is.restores v told e in record { place = t.place; given = t.given; among = t.among; restoration = t.restoration; cells = t.cells };
+})
+
 -- ---- epochs
 
 epoch_is : (old new : DriverModel) (c : Controller) (is : IsControllerOf old c) → epoch_fault old ≡ None → HasOpenedEpoch old new → IsControllerOf new (replayed c (Opened (record_of old).room ∷ []))
@@ -281,6 +296,7 @@ commands_are_entries (TakeAnswer id number) old new es c is callable h = subst (
 commands_are_entries (ApproveRestart v) old new es c is callable h = subst (λ xs. IsControllerOf new (replayed c xs)) (sym h.2) (approve_is old new c is v h.0 callable h.1)
 commands_are_entries (EndRestart permit server_base) old new es c is callable h = subst (λ xs. IsControllerOf new (replayed c xs)) (sym h.2) (end_is old new c is h.0 permit server_base h.1)
 commands_are_entries (RestoreServer v nonce) old new es c is callable h = subst (λ xs. IsControllerOf new (replayed c xs)) (sym h.1) (restore_is old new c is v nonce h.0)
+commands_are_entries (NoteCopies s copies) old new es c is callable h = subst (λ xs. IsControllerOf new (replayed c xs)) (sym h.1) (noted_is old new c is s copies h.0)
 commands_are_entries OpenEpoch old new es c is callable h = subst (λ xs. IsControllerOf new (replayed c xs)) (sym h.2) (epoch_is old new c is h.1 h.0)
 
 -- the publication that a stream stands before which changes an entry of the published map

@@ -5,7 +5,7 @@ use Rattle.sm_placement.specs.Place.{Place}
 use Rattle.sm_driver.specs.Alike.{AreAlike, EachAlike, GoAlike}
 use Rattle.sm_driver.specs.Orders.{epoch_base}
 use Rattle.sm_driver.specs.Permits.{opening_permits}
-use Rattle.laws_driver.specs.Control.{ApproveRestart, BeginPlan, Command, DriverModel, EndRestart, IsWritten, OpenEpoch, RestoreServer, TakeAnswer}
+use Rattle.laws_driver.specs.Control.{ApproveRestart, BeginPlan, Command, DriverModel, EndRestart, IsWritten, NoteCopies, OpenEpoch, RestoreServer, TakeAnswer}
 use Rattle.laws_driver.specs.Replicas.{LeadTo, OpenedAlike}
 
 one_command : EachAlike GoAlike → (c : Command) (d e new next : DriverModel) → AreAlike d e → IsWritten c d new → IsWritten c e next → AreAlike new next
@@ -14,6 +14,7 @@ one_command go (TakeAnswer id number) d e new next is (es, (x, o, due, is_of, to
 one_command go (ApproveRestart v) d e new next is (es, (p, x, told)) (fs, (q, y, tells)) = ((go d e is).approved v p q new next x y).1
 one_command go (EndRestart permit server_base) d e new next is (es, (u, x, told)) (fs, (v, y, tells)) = ((go d e is).ended u v permit server_base new next x y).1
 one_command go (RestoreServer v nonce) d e new next is (es, (x, told)) (fs, (y, tells)) = (go d e is).restored v nonce new next x y
+one_command go (NoteCopies s copies) d e new next is (es, (x, told)) (fs, (y, tells)) = (go d e is).noted s copies new next x y
 one_command go OpenEpoch d e new next is (es, (x, fault, told)) (fs, (y, faults, tells)) = (go d e is).opened new next x y
 
 -- Alike drivers are alike behind each list of commands that both take.
@@ -32,4 +33,5 @@ open_alike rows p room before d e both = record {
   permits = both.other.permits ∙ ap (λ (n : ℕ). opening_permits (epoch_base n) before (length rows.servers) p.down) both.epoch ∙ sym both.one.permits;
   carried = both.carried;
   restores = both.other.restores ∙ sym both.one.restores;
+  copies = both.other.copies ∙ sym both.one.copies;
 }

@@ -1,5 +1,5 @@
 -- Whatever turns lead to, the fleet is one that its laws are about, and the driver is its controller.
-use Rattle.std.proofs.Common.{◌≡◌, ◌≤◌, ◌<◌, ◌∙◌, ◌∷◌, ◌++◌, [], ℕ, Option, Some, None, List, refl, sym, ap, subst, arith}
+use Rattle.std.proofs.Common.{◌≡◌, ◌≤◌, ◌<◌, ◌⊎◌, ◌∙◌, ◌∷◌, ◌++◌, [], ℕ, Option, Some, None, List, refl, sym, ap, subst, arith, inl, inr}
 use Rattle.std.specs.Prelude.{slice_get}
 use Rattle.std.specs.List.{AllByRecursion}
 use Rattle.sm_placement.specs.Setup.{Setup, Sizes, sizes_of}
@@ -21,7 +21,7 @@ use Rattle.laws_network.specs.World.{Publication}
 use Rattle.laws_network.specs.Fleet.{Abandon, Commit, End, Fleet, FleetEvent, FleetOutcome, Forget, HearAsk, HearOwner, HearServer, Judge, Make, Open, Publish, Receive, Recover, Seal, SendOrder, SendPublication, Serve, after_owner, after_reception, after_verdict, after_work, by_message, controller, fleet_comes, fleet_run}
 use Rattle.laws_network.specs.FleetLaws.{AllFleetFit, EachFleet, FleetFits, FleetIsReached, IsFleetReached}
 use Rattle.sm_driver.specs.Driver.{DriverModel, record_of}
-use Rattle.laws_driver.specs.Control.{ApproveRestart, BeginPlan, Command, EndRestart, IsAnswerEntry, IsCallable, IsControllerOf, OpenEpoch, RestoreServer, TakeAnswer, Writes}
+use Rattle.laws_driver.specs.Control.{ApproveRestart, BeginPlan, Command, EndRestart, IsAnswerEntry, IsCallable, IsControllerOf, NoteCopies, OpenEpoch, RestoreServer, TakeAnswer, Writes}
 use Rattle.laws_driver.specs.Driven.{AllTurnsFit, Driven, EachDriven, Goes, IsDrivenOpening, TellsTruth, Takes, Turn, TurnFits, WritesNothing, driver_setup, after_turn, after_turns, with_entries}
 use Rattle.laws_driver.specs.DrivenLaws.{CommandsAreEvents, IsFleetDriven}
 use Rattle.laws_driver.proofs.Commands.{commands_are_entries, permit_is}
@@ -117,8 +117,9 @@ answer_fits setup f d (Ended v permit) id number h = absurd h
 answer_fits setup f d (Restored v nonce) id number h = absurd h
 answer_fits setup f d (Opened room) id number h = absurd h
 
--- what a command writes is what events lead to
-pub written_is : EachFleet FleetIsReached → (x : Driven) (command : Command) (driver : DriverModel) (es : List JournalEntry) → IsFleetDriven x → TurnFits x (Takes command driver es) → AreEvents (driver_setup x) x.fleet es
+-- what a command writes is nothing, or what events lead to
+pub written_is : EachFleet FleetIsReached → (x : Driven) (command : Command) (driver : DriverModel) (es : List JournalEntry) → IsFleetDriven x → TurnFits x (Takes command driver es) →
+    (es ≡ []) ⊎ AreEvents (driver_setup x) x.fleet es
 written_is laws x command driver es driven fits = go command fits.0 fits.1
   where
     setup : Setup
@@ -133,26 +134,36 @@ written_is laws x command driver es driven fits = go command fits.0 fits.1
     true_of : (xs : List JournalEntry) (e : JournalEntry) → es ≡ xs ++ e ∷ [] → TellsTruth x.fleet e
     true_of xs e same = last_true (TellsTruth x.fleet) xs e (subst (AllByRecursion (TellsTruth x.fleet)) same fits.2)
 
-    go : (c : Command) → IsCallable d c → Writes c d driver es → AreEvents setup x.fleet es
-    go (BeginPlan plan) callable h = subst (AreEvents setup x.fleet) (sym h.2)
-        (are_events setup x.fleet (Made (Begin plan)) h.1.advanced.streams tt (subst (λ (s : Sizes). FitsConfig s (Begin plan)) (sizes_are d) callable))
-    go (TakeAnswer id number) callable h = subst (AreEvents setup x.fleet) (sym h.4)
-        (are_events setup x.fleet h.1 h.0.advanced.streams (true_of _ h.1 h.4) (answer_fits setup x.fleet d h.1 id number h.3))
-    go (ApproveRestart v) callable h = subst (AreEvents setup x.fleet) (sym h.2)
-        (are_events setup x.fleet (Made (Approve v)) [] tt (subst (λ (s : Sizes). FitsConfig s (Approve v)) (sizes_are d) callable))
-    go (EndRestart permit server_base) callable h = subst (AreEvents setup x.fleet) (sym h.2)
+    go : (c : Command) → IsCallable d c → Writes c d driver es → (es ≡ []) ⊎ AreEvents setup x.fleet es
+    go (BeginPlan plan) callable h = inr (subst (AreEvents setup x.fleet) (sym h.2)
+        (are_events setup x.fleet (Made (Begin plan)) h.1.advanced.streams tt (subst (λ (s : Sizes). FitsConfig s (Begin plan)) (sizes_are d) callable)))
+    go (TakeAnswer id number) callable h = inr (subst (AreEvents setup x.fleet) (sym h.4)
+        (are_events setup x.fleet h.1 h.0.advanced.streams (true_of _ h.1 h.4) (answer_fits setup x.fleet d h.1 id number h.3)))
+    go (ApproveRestart v) callable h = inr (subst (AreEvents setup x.fleet) (sym h.2)
+        (are_events setup x.fleet (Made (Approve v)) [] tt (subst (λ (s : Sizes). FitsConfig s (Approve v)) (sizes_are d) callable)))
+    go (EndRestart permit server_base) callable h = inr (subst (AreEvents setup x.fleet) (sym h.2)
         (are_events setup x.fleet (Ended h.0 permit) [] tt
-        (subst (λ (s : Sizes). h.0 < s.servers) (sizes_are d) (subst (λ n. h.0 < n) is.servers (permit_is d.permits permit h.0 h.1.permitted).1)))
-    go (RestoreServer v nonce) callable h = subst (AreEvents setup x.fleet) (sym h.1) (are_events setup x.fleet (Restored v nonce) [] (true_of [] (Restored v nonce) h.1) tt)
+        (subst (λ (s : Sizes). h.0 < s.servers) (sizes_are d) (subst (λ n. h.0 < n) is.servers (permit_is d.permits permit h.0 h.1.permitted).1))))
+    go (RestoreServer v nonce) callable h = inr (subst (AreEvents setup x.fleet) (sym h.1) (are_events setup x.fleet (Restored v nonce) [] (true_of [] (Restored v nonce) h.1) tt))
+    go (NoteCopies s copies) callable h = inl h.1
     go OpenEpoch callable h =
         let w : State = (controller x.fleet).w in
         let reached = laws setup x.fleet driven.0 in
         let room = room_is setup w reached in
         let same : (record_of d).room ≡ w.room = ap (λ (s : State). s.room) (sym is.recorded) in
         let sizes : w.sizes ≡ sizes_of setup = ap (λ (s : State). s.sizes) is.recorded ∙ sizes_are d in
-        subst (AreEvents setup x.fleet) (sym h.2)
+        inr (subst (AreEvents setup x.fleet) (sym h.2)
         (are_events setup x.fleet (Opened (record_of d).room) [] tt
-        (subst (λ n. (down_count (sizes_of setup) w.place ≤ n) × (n ≤ MOST_PLACES)) (sym same) (subst (λ (s : Sizes). down_count s w.place ≤ w.room) sizes room.0, room.1)))
+        (subst (λ n. (down_count (sizes_of setup) w.place ≤ n) × (n ≤ MOST_PLACES)) (sym same) (subst (λ (s : Sizes). down_count s w.place ≤ w.room) sizes room.0, room.1))))
+
+-- events of the fleet that all fit lead to these entries
+abbrev IsLedTo : Setup → Fleet → List JournalEntry → Type 0
+IsLedTo setup f es = (events : List FleetEvent) × AllFleetFit setup f events × (fleet_run events f ≡ with_entries f es)
+
+-- so they do to what is written: none to nothing
+led_to : (setup : Setup) (f : Fleet) (es : List JournalEntry) → (es ≡ []) ⊎ AreEvents setup f es → IsLedTo setup f es
+led_to setup f es (inl none) = subst (IsLedTo setup f) (sym none) ([], tt, refl)
+led_to setup f es (inr are) = (are.events, are.fit, are.run)
 
 -- ---- turns
 
@@ -163,6 +174,7 @@ setup_stays (TakeAnswer id number) old new es h = h.0.journal.setup
 setup_stays (ApproveRestart v) old new es h = h.1.journal.setup
 setup_stays (EndRestart permit server_base) old new es h = h.1.journal.setup
 setup_stays (RestoreServer v nonce) old new es h = ap (λ (d : DriverModel). d.machine.placement.setup) h.0.told
+setup_stays (NoteCopies s copies) old new es h = ap (λ (d : DriverModel). d.machine.placement.setup) h.0
 setup_stays OpenEpoch old new es h = h.0.setup
 
 -- a turn leads on
@@ -172,9 +184,9 @@ turn_is laws x (Goes e) driven fits = (
   subst (IsControllerOf x.driver) (sym (goes_before x.fleet e fits)) driven.1,
 )
 turn_is laws x (Takes command driver es) driven fits =
-    let events = written_is laws x command driver es driven fits in (
+    let events = led_to (driver_setup x) x.fleet es (written_is laws x command driver es driven fits) in (
       subst (λ s. IsFleetReached s (with_entries x.fleet es)) (sym (setup_stays command x.driver driver es fits.1))
-          (subst (IsFleetReached (driver_setup x)) events.run (reached_then (driver_setup x) x.fleet events.events driven.0 events.fit)),
+          (subst (IsFleetReached (driver_setup x)) events.2 (reached_then (driver_setup x) x.fleet events.0 driven.0 events.1)),
       subst (IsControllerOf driver) (sym (replayed_then x.fleet.start es x.fleet.journal)) (commands_are_entries command x.driver driver es (controller x.fleet) driven.1 fits.0 fits.1),
     )
 
@@ -195,4 +207,4 @@ driven_is_controlled laws x r = subst IsFleetDriven (sym r.state) (turns_are law
 
 -- and what a command writes is a list of events
 pub commands_are_events : EachDriven IsFleetDriven → EachFleet FleetIsReached → EachDriven CommandsAreEvents
-commands_are_events driven laws x r command driver es fits = let e = written_is laws x command driver es (driven x r) fits in (e.events, e.fit, e.run)
+commands_are_events driven laws x r command driver es fits = led_to (driver_setup x) x.fleet es (written_is laws x command driver es (driven x r) fits)

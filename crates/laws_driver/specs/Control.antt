@@ -1,11 +1,12 @@
 -- The driver is the controller of the network's laws, and its commands are entries of that controller's journal.
-use Rattle.std.specs.Prelude.{◌≡◌, ℕ, ◌++◌, true, Option, Some, None, List, [], ◌∷◌, IsSome, length, map, reverse, slice_get}
+use Rattle.std.specs.Prelude.{◌≡◌, ◌<◌, ℕ, ◌++◌, true, Option, Some, None, List, [], ◌∷◌, IsSome, length, map, reverse, slice_get}
 use Rattle.std.specs.List.{range_with_len}
 pub use Rattle.sm_plan_code.specs.Plan.{PlanModel}
 use Rattle.sm_protocol.specs.Next.{next_call_of}
 use Rattle.sm_protocol.specs.Laws.{FitsConfig}
 pub use Rattle.laws_network.specs.Words.{StreamId, Begin}
 pub use Rattle.laws_network.specs.Controller.{Answered, Controller, Ended, JournalEntry, Made, Opened, Restore, Restored, Stored, Approve, Order, Publication, Step, publication_of}
+pub use Rattle.sm_driver.specs.Copies.{HasNotedCopies}
 pub use Rattle.sm_driver.specs.Driver.{DriverModel, HasApproved, HasBegunPlan, HasEndedRestart, HasRestored, HasTakenStep, base, is_due, record_of}
 pub use Rattle.sm_driver.specs.Epochs.{HasOpenedEpoch, epoch_fault}
 pub use Rattle.sm_driver.specs.Permits.{permit_of}
@@ -37,6 +38,7 @@ pub data Command : Type 0 where
   ApproveRestart : (server : ℕ) → Command
   EndRestart : (permit : ℕ) (server_base : Option ℕ) → Command
   RestoreServer : (server nonce : ℕ) → Command
+  NoteCopies : (shard copies : ℕ) → Command
   OpenEpoch : Command
 
 -- An entry for an answer that a stream waits for: the answer to an order of the stream with this number, if it stands before a call; otherwise
@@ -51,7 +53,7 @@ abbrev pub free_steps : List StreamId → List JournalEntry
 free_steps ids = map (λ id. Made (Step id)) (reverse ids)
 
 -- By its contract, a command makes one driver of another one; and these are its entries, the latest first: that of the command, and behind it
--- the local steps.
+-- the local steps. Copies that are noted have none: the controller keeps nothing of them.
 abbrev pub Writes : Command → DriverModel → DriverModel → List JournalEntry → Type 0
 Writes (BeginPlan plan) old new es = (number : ℕ) × (begun : HasBegunPlan plan number old new) × (es ≡ free_steps begun.advanced.streams ++ Made (Begin plan) ∷ [])
 Writes (TakeAnswer id number) old new es =
@@ -59,14 +61,16 @@ Writes (TakeAnswer id number) old new es =
 Writes (ApproveRestart v) old new es = (permit : ℕ) × HasApproved v permit old new × (es ≡ Made (Approve v) ∷ [])
 Writes (EndRestart permit server_base) old new es = (v : ℕ) × HasEndedRestart v permit server_base old new × (es ≡ Ended v permit ∷ [])
 Writes (RestoreServer v nonce) old new es = HasRestored v nonce old new × (es ≡ Restored v nonce ∷ [])
+Writes (NoteCopies s copies) old new es = HasNotedCopies s copies old new × (es ≡ [])
 Writes OpenEpoch old new es = HasOpenedEpoch old new × (epoch_fault old ≡ None) × (es ≡ Opened (record_of old).room ∷ [])
 
 -- the command has some entries
 abbrev pub IsWritten : Command → DriverModel → DriverModel → Type 0
 IsWritten command old new = (es : List JournalEntry) × Writes command old new es
 
--- The caller of a command has to know that the plan was checked for the driver's configuration, and the server is one of it.
+-- The caller of a command has to know that the plan was checked for the driver's configuration, and the server or the shard is one of it.
 abbrev pub IsCallable : DriverModel → Command → Type 0
 IsCallable d (BeginPlan plan) = FitsConfig (record_of d).sizes (Begin plan)
 IsCallable d (ApproveRestart v) = FitsConfig (record_of d).sizes (Approve v)
+IsCallable d (NoteCopies s copies) = s < (record_of d).sizes.shards
 IsCallable d _ = Unit {0}

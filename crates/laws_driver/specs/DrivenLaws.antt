@@ -75,6 +75,7 @@ pub record IsJustOpened (rows : Setup) (p : Place) (room : ℕ) (before : List (
   pub setup : d.machine.placement.setup ≡ rows
   pub permits : d.permits ≡ opening_permits (base d) before (length rows.servers) p.down
   pub restores : d.restores ≡ replicate (length rows.servers) None
+  pub copies : d.copies ≡ replicate (length rows.shards) 1
 
 -- there is a fleet that opens, and the driver is its controller
 abbrev pub HasFleet : DriverModel → Type 0

@@ -14,4 +14,4 @@ pub use driven::{
 };
 pub use first::open_with_fleet;
 pub use replicas::{replicas_open_alike, replicas_stay_alike};
-pub use taking::{answered, approve, begin, new_epoch, restarted, restore};
+pub use taking::{answered, approve, begin, copied, new_epoch, restarted, restore};

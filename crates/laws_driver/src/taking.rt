@@ -1,14 +1,17 @@
 //! The commands of a driver, with what they write.
 ghost use Rattle.std.specs.Prelude.{◌≡◌, ◌<◌, ℕ, IfOk, OnOk, true};
 ghost use Rattle.sm_driver.specs.Driver.{record_of};
+ghost use Rattle.sm_driver.specs.declared.copies.CopiesEffect.TheVariants.{Noted};
 ghost use Rattle.sm_driver.specs.declared.driver.AnswerEffect.TheVariants as answer;
 ghost use Rattle.sm_driver.specs.declared.restart.RestartEffect.TheVariants.{Up};
-ghost use Rattle.laws_driver.specs.Control.{ApproveRestart, BeginPlan, EndRestart, IsWritten, OpenEpoch, RestoreServer, TakeAnswer};
+ghost use Rattle.laws_driver.specs.Control.{ApproveRestart, BeginPlan, EndRestart, IsWritten, NoteCopies, OpenEpoch, RestoreServer, TakeAnswer};
 
-use sm_driver::{AnswerEffect, Driver, EpochFault, RestartEffect, RestoreFault};
+use sm_driver::{
+    AnswerEffect, CopiesEffect, Driver, EpochFault, RestartEffect, RestoreFault, ToldCopies,
+};
 use sm_machine::{BeginFault, ReadyPlan};
 use sm_reservation::StreamId;
-use sm_server::ServerId;
+use sm_server::{ServerId, ShardId};
 use sm_task_controller::Denied;
 use std::alloc::Global;
 
@@ -53,6 +56,14 @@ pub fn restore(
     ensures { IfOk result (λ is_new. is_new ≡ true → IsWritten (RestoreServer server nonce) driver.old driver.new) }
 {
     driver.restore(alloc, server, nonce)
+}
+
+/// Notes the copies of a shard as `Driver::copied` does: nothing is written.
+pub fn copied(driver: &mut Driver, shard: ShardId, told: ToldCopies) -> CopiesEffect
+    requires { shard < (record_of driver.old).sizes.shards }
+    ensures { result ≡ Noted → IsWritten (NoteCopies shard told.copies) driver.old driver.new }
+{
+    driver.copied(shard, told)
 }
 
 /// Opens the next epoch as `Driver::new_epoch` does: it is written.

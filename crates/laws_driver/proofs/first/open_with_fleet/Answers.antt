@@ -15,5 +15,5 @@ returns c =
     let e = c.in_ok-driver.ensures in
     let reached = subst (λ (m : MachineModel). IsReached m.placement.setup (state_of m)) c.machine.ensures c.is_reached.ensures in
     let opens = opens_there d.machine.placement.setup c.args.placement.setup (place_of c.args.placement) c.args.log_room (record_of d) e.setup reached e.state in
-    let found = drivers_open c.args.placement.setup (place_of c.args.placement) c.args.log_room d opens (record { state = e.state; setup = e.setup; permits = e.permits; restores = e.restores }) e.fence in
+    let found = drivers_open c.args.placement.setup (place_of c.args.placement) c.args.log_room d opens (record { state = e.state; setup = e.setup; permits = e.permits; restores = e.restores; copies = e.copies }) e.fence in
     (found.0, found.1)
