@@ -10,7 +10,7 @@ use Rattle.laws_network.specs.FleetLaws.{EachFleet, FleetIsReached, IsFleetOpeni
 use Rattle.laws_network.specs.Reopening.{Inventory, Party, Reopening, arrives, is_first, put_party}
 use Rattle.laws_network.specs.ReopeningLaws.{EachSettling, MaySettle, SettlingFits}
 use Rattle.sm_driver.specs.Permits.{permit_of}
-use Rattle.laws_driver.specs.Control.{ApproveRestart, BeginPlan, Command, EndRestart, JournalEntry, OpenEpoch, RestoreServer, TakeAnswer, Writes as WritesEntries}
+use Rattle.laws_driver.specs.Control.{ApproveRestart, BeginPlan, Command, EndRestart, JournalEntry, NoteCopies, OpenEpoch, RestoreServer, TakeAnswer, Writes as WritesEntries}
 use Rattle.laws_driver.specs.Driven.{EachDriven, Goes, IsDrivenReached, Takes, with_entries}
 use Rattle.laws_driver.specs.DrivenLaws.{CommandsAreEvents, IsFleetDriven}
 use Rattle.laws_reopening.specs.Renumbering.{FleetOpensAs, Renumbering}
@@ -51,6 +51,7 @@ setup_stays (TakeAnswer id number) old new es h = h.0.journal.setup
 setup_stays (ApproveRestart v) old new es h = h.1.journal.setup
 setup_stays (EndRestart permit server_base) old new es h = h.1.journal.setup
 setup_stays (RestoreServer v nonce) old new es h = ap (λ (d : DriverModel). d.machine.placement.setup) h.0.told
+setup_stays (NoteCopies s copies) old new es h = ap (λ (d : DriverModel). d.machine.placement.setup) h.0
 setup_stays OpenEpoch old new es h = h.0.setup
 
 -- ---- what is known of a driver that turns lead to

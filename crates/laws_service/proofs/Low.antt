@@ -13,7 +13,7 @@ use Rattle.sm_protocol.proofs.Reached.{run_same, same_machine}
 use Rattle.sm_driver.specs.Advance.{IsAdvanced}
 use Rattle.sm_driver.specs.Driver.{DriverModel, record_of}
 use Rattle.sm_driver.specs.Epochs.{fault_by, last_epoch, shard_spent}
-use Rattle.laws_driver.specs.Control.{ApproveRestart, BeginPlan, Command, EndRestart, JournalEntry, OpenEpoch, RestoreServer, TakeAnswer, Writes}
+use Rattle.laws_driver.specs.Control.{ApproveRestart, BeginPlan, Command, EndRestart, JournalEntry, NoteCopies, OpenEpoch, RestoreServer, TakeAnswer, Writes}
 use Rattle.laws_service.specs.Controlled.{AreLow}
 use Rattle.laws_service.proofs.Versions.{AreVersionsRaised}
 
@@ -55,6 +55,7 @@ low_stays (TakeAnswer id number) old new es raised low h =
 low_stays (ApproveRestart v) old new es raised low h = low_same (record_of old) (record_of new) (event_opening (record_of old) (record_of new) (Approve v) _ h.1.event) low
 low_stays (EndRestart permit server_base) old new es raised low h = low_same (record_of old) (record_of new) (event_opening (record_of old) (record_of new) (Done h.0) _ h.1.event) low
 low_stays (RestoreServer v nonce) old new es raised low h = low_same (record_of old) (record_of new) (ap (λ (d : DriverModel). (record_of d).opening) h.0.told) low
+low_stays (NoteCopies s copies) old new es raised low h = low_same (record_of old) (record_of new) (ap (λ (d : DriverModel). (record_of d).opening) h.0) low
 low_stays OpenEpoch old new es raised low h = subst (λ (w : State). AreLow w.opening.version) (sym h.0.state) before
   where
     w : State
