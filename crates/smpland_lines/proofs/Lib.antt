@@ -1,3 +1,4 @@
+pub mod Doubles
 pub mod Printed
 pub mod Unknown
 pub mod Written

@@ -106,6 +106,12 @@ bad_path (TooMany part member) = path_in part (member_text member)
 bad_path (Number part member) = path_in part (member_text member)
 bad_path (Within member fault) = path_in Line (member_text member) ++ below_path (inner_text fault)
 
+-- the entry at a place of a list that stands in a part; below an entry of such a list no list stands
+abbrev pub part_entry : LinePart → CommandMember → ℕ → LinePart
+part_entry Line list at = Entry list at
+part_entry (Entry outer outer_at) list at = InnerEntry outer outer_at list at
+part_entry (InnerEntry outer outer_at inner inner_at) _ _ = InnerEntry outer outer_at inner inner_at
+
 -- the list whose entry a part is; of the line itself what a bad line calls it
 abbrev pub part_member : LinePart → CommandMember
 part_member Line = Command

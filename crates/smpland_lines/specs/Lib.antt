@@ -1,6 +1,7 @@
 pub mod BadLines
 pub mod Choices
 pub mod Commands
+pub mod Entries
 pub mod Ids
 pub mod Lines
 pub mod Members

@@ -16,12 +16,14 @@ pub enum LinePart {
 
 impl LinePart {
     ghost use Rattle.std.specs.Prelude.{◌≡◌, ◌++◌, OnOk, string_bytes};
-    ghost use Rattle.smpland_lines.specs.BadLines.{part_member, part_path};
+    ghost use Rattle.smpland_lines.specs.BadLines.{part_entry, part_member, part_path};
     ghost use Rattle.smpland_lines.specs.Reading.{is_whole_line};
 
     /// Returns the entry at a place of a list that stands in the part. No list stands deeper than in an entry of the
     /// line's lists.
-    pub const fn entry(self, list: CommandMember, at: usize) -> LinePart {
+    pub const fn entry(self, list: CommandMember, at: usize) -> LinePart
+        ensures { result ≡ part_entry self list at }
+    {
         match self {
             LinePart::Line => LinePart::Entry(list, at),
             LinePart::Entry(outer, outer_at) => LinePart::InnerEntry(outer, outer_at, list, at),

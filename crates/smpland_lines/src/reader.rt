@@ -1,58 +1,34 @@
 //! An object of a line, with the faults that are met on the way.
 ghost use Rattle.std.specs.Prelude.{◌≡◌, ◌≢◌, ◌≤◌, ◌<◌, IfOk, IfSome, false, is_some, length};
-ghost use Rattle.std.specs.Prelude.{option_and_then, option_map, true};
+ghost use Rattle.std.specs.Prelude.{option_and_then, option_map, true, unwrap_or};
 ghost use Rattle.sm_placement.specs.Names.{is_name};
 ghost use Rattle.sm_placement.specs.Setup.{server_named, shard_named};
 ghost use Rattle.sm_plan_code.specs.declared.limits.TheConstants.{MOST_RIGHTS};
 ghost use Rattle.smpland_lines.specs.Commands.{IsServerOf, IsShardOf};
 ghost use Rattle.json_tree.specs.View.{items_view, view};
+ghost use Rattle.smpland_lines.specs.Ids.{id_fault};
 ghost use Rattle.smpland_lines.specs.Lines.{IsNameOrNull};
 ghost use Rattle.smpland_lines.specs.Reading.{IsRead, IsValueOf, ReadsOn, is_clean, object_data, row_member};
 ghost use Rattle.smpland_lines.specs.Values.{bits_at, truth_at, list_at, text_at, value_at, whole_at};
+ghost use Rattle.smpland_lines.specs.declared.bad_line.BadLine.TheVariants.{Malformed};
 
 use crate::bad_line::BadLine;
 use crate::command_member::CommandMember;
+use crate::entries::{first_double, first_nameless};
 use crate::faults::Faults;
 use crate::form::{id_in, is_label, random_bits};
 use crate::line_part::LinePart;
 use crate::row::{Row, object_fault};
-use indexmap::IndexSet;
 use json_tree::Tree;
 use sm_placement::{Config, is_name};
 use sm_plan_code::MOST_RIGHTS;
 use sm_server::{ServerId, ShardId};
 use std::alloc::{AllocError, Global};
 
-/// Returns the place of the first entry whose text in a member stands in an earlier one.
-fn first_double(
-    alloc: Global,
-    entries: &[Tree<'_>],
-    key: CommandMember,
-) -> Result<Option<usize>, AllocError> {
-    let mut seen = IndexSet::new(alloc);
-    for at in 0..entries.len() {
-        if let Some(text) = entries[at].get(key.text()).and_then(Tree::as_str)
-            && !seen.insert(text)?
-        {
-            return Ok(Some(at));
-        }
-    }
-    Ok(None)
-}
-
-/// Returns the place of the first entry that is no name.
-fn first_nameless(entries: &[Tree<'_>]) -> Option<usize> {
-    for at in 0..entries.len() {
-        match entries[at].as_str() {
-            Some(text) if is_name(text) => {}
-            _ => return Some(at),
-        }
-    }
-    None
-}
-
 /// Returns what is wrong with the id of a line, if it has one.
-fn id_fault<'a>(line: &Tree<'a>) -> Option<BadLine<'a>> {
+fn id_fault<'a>(line: &Tree<'a>) -> Option<BadLine<'a>>
+    ensures { result ≡ id_fault (view line.now) }
+{
     let id = line.get("id")?;
     match id_in(id) {
         Some(_) => None,
@@ -115,7 +91,9 @@ impl<'t, 'a> Reader<'t, 'a> {
     }
 
     /// Returns the fault to tell of an object of which something is missing.
-    pub fn fault(self) -> BadLine<'a> {
+    pub fn fault(self) -> BadLine<'a>
+        ensures { result ≡ unwrap_or self.entry.faults.lowest (Malformed self.entry.part) }
+    {
         match self.faults.lowest() {
             Some(fault) => fault,
             None => BadLine::Malformed(self.part),
