@@ -47,6 +47,8 @@ IsKnownCommand _ (line.Driver (driver.Answered _ _ number)) = number ≤ MOST_EX
 IsKnownCommand config (line.Driver (driver.Approve server _)) = IsServerOf config server.now
 IsKnownCommand _ (line.Driver (driver.Restarted permit base)) = (permit ≤ MOST_EXACT) × IfSome base (λ number. number ≤ MOST_EXACT)
 IsKnownCommand config (line.Driver (driver.Restore server nonce)) = IsServerOf config server.now × (nonce ≢ 0)
+IsKnownCommand config (line.Driver (driver.Copied shard journal fence _)) =
+    IsShardOf config shard.now × (journal ≢ 0) × (fence ≤ MOST_EXACT)
 IsKnownCommand _ (line.Reopening (reopening.Reopen _ lost journal epoch)) =
     (length lost.now ≤ MOST_SERVERS) × IfSome journal (λ bits. bits ≢ 0) × IfSome epoch (λ number. number ≢ 0)
 IsKnownCommand _ (line.Reopening (reopening.Fenced server base told)) = (base ≤ MOST_EXACT) × IsToldBy server told

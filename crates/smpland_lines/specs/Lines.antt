@@ -32,6 +32,7 @@ command_word (line.Driver (driver.Approve _ _)) = codes "approve"
 command_word (line.Driver (driver.Restarted _ _)) = codes "restarted"
 command_word (line.Driver (driver.Restore _ _)) = codes "restore"
 command_word (line.Driver driver.NewEpoch) = codes "new_epoch"
+command_word (line.Driver (driver.Copied _ _ _ _)) = codes "copied"
 command_word (line.Reopening (reopening.Reopen _ _ _ _)) = codes "reopen"
 command_word (line.Reopening (reopening.Fenced _ _ _)) = codes "fenced"
 command_word (line.Reopening (reopening.Confirm _ _ _)) = codes "confirm"
@@ -52,8 +53,8 @@ command_word (line.Question (question.InForce (plans.Failed _ _ _ _))) = codes "
 abbrev pub command_words : List (List ℕ)
 command_words =
     codes "open" ∷ codes "begin" ∷ codes "answered" ∷ codes "approve" ∷ codes "restarted" ∷ codes "restore"
-    ∷ codes "new_epoch" ∷ codes "reopen" ∷ codes "fenced" ∷ codes "confirm" ∷ codes "settled" ∷ codes "hello"
-    ∷ codes "orders" ∷ codes "map" ∷ codes "document" ∷ codes "state" ∷ codes "moves" ∷ codes "drain"
+    ∷ codes "new_epoch" ∷ codes "copied" ∷ codes "reopen" ∷ codes "fenced" ∷ codes "confirm" ∷ codes "settled"
+    ∷ codes "hello" ∷ codes "orders" ∷ codes "map" ∷ codes "document" ∷ codes "state" ∷ codes "moves" ∷ codes "drain"
     ∷ codes "check" ∷ codes "since" ∷ codes "audit" ∷ codes "failed" ∷ []
 
 -- a text is one of them
@@ -110,6 +111,9 @@ HasMembers d (line.Driver (driver.Answered plan stream number)) = IsOfOrder d pl
 HasMembers d (line.Driver (driver.Approve server by)) = (text_at at.Server d ≡ Some server.now) × (text_at at.By d ≡ Some by.now)
 HasMembers d (line.Driver (driver.Restarted permit base)) = (whole_at at.Permit d ≡ Some permit) × (whole_at at.Base d ≡ base)
 HasMembers d (line.Driver (driver.Restore server nonce)) = (text_at at.Server d ≡ Some server.now) × (bits_at at.Nonce d ≡ Some nonce)
+HasMembers d (line.Driver (driver.Copied shard journal fence copies)) =
+    (text_at at.Shard d ≡ Some shard.now) × (bits_at at.Journal d ≡ Some journal) × (whole_at at.Fence d ≡ Some fence)
+    × (whole_at at.Copies d ≡ Some copies)
 HasMembers d (line.Reopening (reopening.Reopen document lost journal epoch)) =
     (value_at at.Document d ≡ Some (view document.now)) × (entries_at at.Lost d ≡ items_view lost.now)
     × (bits_at at.Journal d ≡ journal) × (whole_at at.Epoch d ≡ epoch)

@@ -200,7 +200,7 @@ fn push_command_choices(out: &mut String) -> Result<(), AllocError>
     )?;
     write!(
         out,
-        " new_epoch reopen fenced confirm settled hello orders map document"
+        " new_epoch copied reopen fenced confirm settled hello orders map document"
     )?;
     write!(out, " state moves drain check since audit failed")?;
     Ok(())

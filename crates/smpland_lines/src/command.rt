@@ -41,17 +41,40 @@ pub enum FailedAnswer {
 #[derive(Clone, Copy)]
 pub enum DriverCommand<'t, 'a> {
     /// To begin a plan under a name.
-    Begin { plan: &'t Tree<'a>, name: &'a str },
+    Begin {
+        plan: &'t Tree<'a>,
+        name: &'a str,
+    },
     /// To take the answer to an order or a publication.
-    Answered { plan: u32, stream: u32, number: u64 },
+    Answered {
+        plan: u32,
+        stream: u32,
+        number: u64,
+    },
     /// To give leave to restart a server, for whom it names.
-    Approve { server: &'a str, by: &'a str },
+    Approve {
+        server: &'a str,
+        by: &'a str,
+    },
     /// To take the end of the restart that has this permit, of a server with this base.
-    Restarted { permit: u64, base: Option<u64> },
+    Restarted {
+        permit: u64,
+        base: Option<u64>,
+    },
     /// To give a server that has lost its slots what is recorded of them.
-    Restore { server: &'a str, nonce: u64 },
+    Restore {
+        server: &'a str,
+        nonce: u64,
+    },
     /// To open the next epoch.
     NewEpoch,
+    /// To note how many replicas of a shard have each acknowledged write.
+    Copied {
+        shard: &'a str,
+        journal: u64,
+        fence: u64,
+        copies: u32,
+    },
 }
 
 /// The command of a line on a reopening.

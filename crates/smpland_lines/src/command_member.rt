@@ -39,14 +39,16 @@ pub enum CommandMember {
     View,
     Reached,
     State,
+    Fence,
+    Copies,
 }
 
 /// The members as they are written, in their order.
-const TEXTS: [&str; 36] = [
+const TEXTS: [&str; 38] = [
     "command", "do", "id", "document", "journal", "epoch", "plan", "name", "stream", "number",
     "server", "shard", "moves", "from", "to", "by", "permit", "nonce", "lost", "why", "base",
     "slots", "unknown", "cells", "place", "answer", "cell", "party", "handover", "last", "load",
-    "cut", "position", "view", "reached", "state",
+    "cut", "position", "view", "reached", "state", "fence", "copies",
 ];
 
 impl CommandMember {

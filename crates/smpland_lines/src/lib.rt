@@ -8,6 +8,7 @@ mod changing_lines;
 mod choices;
 mod command;
 mod command_member;
+mod copied_line;
 mod entries;
 mod faults;
 mod field;

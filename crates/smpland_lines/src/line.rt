@@ -16,6 +16,7 @@ use crate::changing_lines::{
 };
 use crate::command::{DriverCommand, Id, LineCommand, Question};
 use crate::command_member::CommandMember;
+use crate::copied_line::read_copied;
 use crate::form::id_in;
 use crate::line_part::LinePart;
 use crate::reopening_lines::{read_confirm, read_fenced, read_reopen, read_settled};
@@ -67,6 +68,7 @@ fn read_worded<'t, 'a>(
         "restarted" => read_restarted(line),
         "restore" => read_restore(line, config),
         "new_epoch" => read_plain(line, LineCommand::Driver(DriverCommand::NewEpoch)),
+        "copied" => read_copied(line, config),
         "reopen" => read_reopen(line),
         "settled" => read_settled(line),
         "check" => read_check(line),
