@@ -1,10 +1,13 @@
--- The shards that may have lost acknowledged writes. A primary may have acknowledged some alone.
-use Rattle.std.specs.Prelude.{ℕ, ◌&&◌, ◌||◌, ◌==◌, Bool, is_none, is_some, length, nat_lt, not}
+-- The shards that may have lost acknowledged writes. A primary may have acknowledged some alone, unless it was told how
+-- many copies there are of each before.
+use Rattle.std.specs.Prelude.{ℕ, ◌&&◌, ◌||◌, ◌==◌, Bool, is_none, is_some, length, nat_le, nat_lt, not}
 use Rattle.sm_server.specs.Cell.{is_absent, is_secondary}
 use Rattle.sm_placement.specs.Lead.{has_part}
 use Rattle.sm_placement.specs.Opening.{first_below}
+use Rattle.sm_placement.specs.Sums.{count_below}
+use Rattle.laws_network.specs.Reopening.{Server}
 use Rattle.sm_reopening.specs.declared.ongoing.OngoingReopening.{OngoingReopening}
-use Rattle.sm_reopening.specs.Ongoing.{net_reopening, recorded_place, recorded_setup}
+use Rattle.sm_reopening.specs.Ongoing.{net_reopening, recorded_place, recorded_setup, told_copies}
 use Rattle.sm_reopening.specs.Proposal.{Documented, has_no_slots, has_whole}
 use Rattle.sm_reopening.specs.Survivors.{standing_of}
 
@@ -54,11 +57,43 @@ has_gone x s v =
     (may_have_served x s v && ((standing_of x s v).claim == 0))
     || ((may_have_served_any x v && has_no_slots x v) || may_be_first x s v)
 
--- acknowledged writes of the shard may be lost: no primary is left, and a server that may have served it is gone
-abbrev pub may_lack_writes : OngoingReopening → ℕ → Bool
-may_lack_writes x s =
-    is_none (first_below (net_reopening x).servers (is_primary_still x s))
-    && is_some (first_below (net_reopening x).servers (has_gone x s))
+-- ---- counting
+
+-- the server has answered that it has a whole copy of the shard: of one that is not whole neither view nor position is told
+abbrev pub tells_whole : OngoingReopening → ℕ → ℕ → Bool
+tells_whole x s v =
+    (is_some ((net_reopening x).told (Server v)) && not ((net_reopening x).lost v))
+    && (has_whole x s v && (nat_lt 0 (told_copies x s v).view || nat_lt 0 (told_copies x s v).position))
+
+-- the server is recorded with something of the shard, and tells no whole copy
+abbrev pub is_gone_member : OngoingReopening → ℕ → ℕ → Bool
+is_gone_member x s v = not (is_absent ((recorded_place x).cells s v)) && not (tells_whole x s v)
+
+-- how many there are
+abbrev pub gone_members : OngoingReopening → ℕ → ℕ
+gone_members x s = count_below (net_reopening x).servers (is_gone_member x s)
+
+-- a server that may have served the shard is gone, but has answered: since others told, they may have got writes of it
+abbrev pub has_gone_late : OngoingReopening → ℕ → ℕ → Bool
+has_gone_late x s v = has_gone x s v && is_some ((net_reopening x).told (Server v))
+
+-- nobody has answered that it has a whole copy
+abbrev pub is_untold : OngoingReopening → ℕ → Bool
+is_untold x s = is_none (first_below (net_reopening x).servers (tells_whole x s))
+
+-- A write that this many members had when it was acknowledged may be gone with them. One copy is the primary's own.
+abbrev pub may_lack_copies : OngoingReopening → ℕ → ℕ → Bool
+may_lack_copies x copies s =
+    (nat_lt copies 2 || nat_le copies (gone_members x s)) || (is_untold x s || is_some (first_below (net_reopening x).servers (has_gone_late x s)))
+
+-- ---- names
+
+-- Acknowledged writes of the shard may be lost: no primary is left, a server that may have served it is gone, and as many copies as each
+-- write surely had may be.
+abbrev pub may_lack_writes : OngoingReopening → ℕ → ℕ → Bool
+may_lack_writes x copies s =
+    (is_none (first_below (net_reopening x).servers (is_primary_still x s)) && is_some (first_below (net_reopening x).servers (has_gone x s)))
+    && may_lack_copies x copies s
 
 -- the server has, had, or may have had something of the shard
 abbrev pub had_something : OngoingReopening → Documented → ℕ → ℕ → Bool
@@ -71,6 +106,6 @@ is_bare x d s = is_none (first_below (net_reopening x).servers (has_whole x s)) 
 
 -- The proposal names the shard as lost: nobody is left who has all of it, and somebody had something; or somebody has,
 -- and it may lack acknowledged writes.
-abbrev pub is_named_lost : OngoingReopening → Documented → ℕ → Bool
-is_named_lost x d s =
-    is_bare x d s || (is_some (first_below (net_reopening x).servers (has_whole x s)) && may_lack_writes x s)
+abbrev pub is_named_lost : OngoingReopening → Documented → ℕ → ℕ → Bool
+is_named_lost x d copies s =
+    is_bare x d s || (is_some (first_below (net_reopening x).servers (has_whole x s)) && may_lack_writes x copies s)

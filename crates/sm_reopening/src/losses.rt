@@ -2,9 +2,11 @@
 ghost use Rattle.std.specs.Prelude.{◌≡◌, None};
 ghost use Rattle.sm_placement.specs.Layout.{grid_of};
 ghost use Rattle.sm_placement.specs.Opening.{first_below};
-ghost use Rattle.sm_reopening.specs.Losses.{had_something, has_gone, has_lost_settled, has_recorded_part};
-ghost use Rattle.sm_reopening.specs.Losses.{is_bare, is_named_lost, is_primary_still, is_settled_lost, may_be_first};
-ghost use Rattle.sm_reopening.specs.Losses.{may_have_order, may_have_served, may_have_served_any, may_lack_writes};
+ghost use Rattle.sm_reopening.specs.Losses.{gone_members, had_something, has_gone, has_gone_late, has_lost_settled};
+ghost use Rattle.sm_reopening.specs.Losses.{has_recorded_part, is_bare, is_gone_member, is_named_lost, is_primary_still};
+ghost use Rattle.sm_reopening.specs.Losses.{is_untold};
+ghost use Rattle.sm_reopening.specs.Losses.{is_settled_lost, may_be_first, may_have_order, may_have_served};
+ghost use Rattle.sm_reopening.specs.Losses.{may_have_served_any, may_lack_copies, may_lack_writes, tells_whole};
 ghost use Rattle.sm_reopening.specs.Ongoing.{net_reopening};
 
 use crate::ongoing::OngoingReopening;
@@ -138,11 +140,94 @@ impl OngoingReopening {
         None
     }
 
-    /// Whether acknowledged writes of a shard may be lost.
-    fn may_lack_writes(&self, shard: ShardId) -> bool
-        ensures { result ≡ may_lack_writes self.now shard }
+    /// Whether a server has answered that it has a whole copy of a shard.
+    fn tells_whole(&self, shard: ShardId, server: ServerId) -> bool
+        ensures { result ≡ tells_whole self.now shard server }
     {
-        self.first_primary(shard).is_none() && self.first_gone(shard).is_some()
+        let standing = self.standing(shard, server);
+        self.has_told(server)
+            && !self.is_lost(server)
+            && self.has_whole(shard, server)
+            && (standing.copy.view > 0 || standing.copy.position > 0)
+    }
+
+    /// Whether a server is recorded with something of a shard, and tells no whole copy.
+    fn is_gone_member(&self, shard: ShardId, server: ServerId) -> bool
+        ensures { result ≡ is_gone_member self.now shard server }
+    {
+        !self.recorded_cell(shard, server).is_absent() && !self.tells_whole(shard, server)
+    }
+
+    /// The number of such servers.
+    fn gone_members(&self, shard: ShardId) -> u32
+        ensures { result ≡ gone_members self.now shard }
+    {
+        let mut gone = 0;
+        for number in 0..self.server_count() {
+            if self.is_gone_member(shard, ServerId::new(number)) {
+                gone += 1;
+            }
+        }
+        gone
+    }
+
+    /// Whether a server that may have served a shard is gone, but has answered.
+    fn has_gone_late(&self, shard: ShardId, server: ServerId) -> bool
+        ensures { result ≡ has_gone_late self.now shard server }
+    {
+        self.has_gone(shard, server) && self.has_told(server)
+    }
+
+    /// The lowest such server.
+    #[tactic(auto, using(sm_placement::proofs::Searches::find_range_more))]
+    fn first_gone_late(&self, shard: ShardId) -> Option<ServerId>
+        ensures { result ≡ first_below (net_reopening self.now).servers (has_gone_late self.now shard) }
+    {
+        for number in 0..self.server_count() {
+            if self.has_gone_late(shard, ServerId::new(number)) {
+                return Some(ServerId::new(number));
+            }
+        }
+        None
+    }
+
+    /// The lowest server that has answered that it has a whole copy of a shard.
+    #[tactic(auto, using(sm_placement::proofs::Searches::find_range_more))]
+    fn first_told_whole(&self, shard: ShardId) -> Option<ServerId>
+        ensures { result ≡ first_below (net_reopening self.now).servers (tells_whole self.now shard) }
+    {
+        for number in 0..self.server_count() {
+            if self.tells_whole(shard, ServerId::new(number)) {
+                return Some(ServerId::new(number));
+            }
+        }
+        None
+    }
+
+    /// Whether nobody has.
+    fn is_untold(&self, shard: ShardId) -> bool
+        ensures { result ≡ is_untold self.now shard }
+    {
+        self.first_told_whole(shard).is_none()
+    }
+
+    /// Whether a write of a shard may be gone that had this many copies when it was acknowledged.
+    fn may_lack_copies(&self, copies: u32, shard: ShardId) -> bool
+        ensures { result ≡ may_lack_copies self.now copies shard }
+    {
+        copies < 2
+            || copies <= self.gone_members(shard)
+            || self.is_untold(shard)
+            || self.first_gone_late(shard).is_some()
+    }
+
+    /// Whether acknowledged writes of a shard may be lost.
+    fn may_lack_writes(&self, copies: u32, shard: ShardId) -> bool
+        ensures { result ≡ may_lack_writes self.now copies shard }
+    {
+        self.first_primary(shard).is_none()
+            && self.first_gone(shard).is_some()
+            && self.may_lack_copies(copies, shard)
     }
 
     /// Whether a server has, had, or may have had something of a shard.
@@ -177,12 +262,13 @@ impl OngoingReopening {
         self.first_whole(shard).is_none() && self.first_with_something(documented, shard).is_some()
     }
 
-    /// Whether the proposal names a shard as lost. `documented` has the document's roles, shard after shard, with
-    /// one for each number of a server.
-    pub fn is_named_lost(&self, documented: &[Option<Role>], shard: ShardId) -> bool
-        ensures { result ≡ is_named_lost self.now (grid_of (net_reopening self.now).servers None documented.now) shard }
+    /// Whether the proposal names a shard as lost, each of whose acknowledged writes surely had this many copies.
+    /// `documented` has the document's roles, shard after shard, with one for each number of a server.
+    pub fn is_named_lost(&self, documented: &[Option<Role>], copies: u32, shard: ShardId) -> bool
+        ensures { result ≡ is_named_lost self.now
+            (grid_of (net_reopening self.now).servers None documented.now) copies shard }
     {
         self.is_bare(documented, shard)
-            || (self.first_whole(shard).is_some() && self.may_lack_writes(shard))
+            || (self.first_whole(shard).is_some() && self.may_lack_writes(copies, shard))
     }
 }

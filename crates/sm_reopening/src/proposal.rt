@@ -254,7 +254,7 @@ impl OngoingReopening {
     }
 
     /// Returns whether a server has all of a shard.
-    fn has_whole(&self, shard: ShardId, server: ServerId) -> bool
+    pub(crate) fn has_whole(&self, shard: ShardId, server: ServerId) -> bool
         ensures { result ≡ has_whole self.now shard server }
     {
         self.standing(shard, server).claim > 1

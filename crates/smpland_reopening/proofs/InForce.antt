@@ -93,6 +93,7 @@ in_force r s p d kept marks is next settled keeps mark opens =
           ∙ ap (λ b. b && (place_of p).down v) (ap (λ ms. was_carried ms v) mark ∙ read_mapped (λ u. not (is_some ((net_reopening r.ongoing).told (Server u)))) r.servers v j false server)
           ∙ ap (λ b. not (is_some ((net_reopening r.ongoing).told (Server j))) && b) (n.same.down v j server);
       restores = opens.restored ∙ ap (λ n. replicate n None) as_many;
+      copies = opens.copies ∙ ap (λ n. replicate n 1) (is.next p s next settled).same.eased.shards.count;
     }
   where
     as_many : length p.setup.servers ≡ length r.document.config.servers

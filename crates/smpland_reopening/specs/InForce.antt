@@ -12,8 +12,8 @@ use Rattle.smpland_reopening.specs.Eased.{IsEased}
 use Rattle.smpland_reopening.specs.Reopening.{ReopeningModel}
 
 -- The driver was opened now, with the document's servers, shards and log, in its order, and with the cells that were settled for their numbers:
--- nothing has begun, and no server was restored. No floor is above the document's. Permits of servers that are down stay, and those are carried
--- over that are down and have told nothing.
+-- nothing has begun, no server was restored, and no copies were told. No floor is above the document's. Permits of servers that are down stay, and
+-- those are carried over that are down and have told nothing.
 pub record IsInForce (r : ReopeningModel) (s : Settlement) (d : DriverModel) : Type 0 where
   pub state : record_of d ≡ opened (record_of d).sizes (record_of d).place r.document.log
   pub journal : d.journal ≡ r.journal
@@ -25,6 +25,7 @@ pub record IsInForce (r : ReopeningModel) (s : Settlement) (d : DriverModel) : T
   pub permits : (v j permit : ℕ) → slice_get r.servers v ≡ Some j → permit_of r.permits j ≡ Some permit → s.place.down j ≡ true → permit_of d.permits v ≡ Some permit
   pub carried : (v j : ℕ) → slice_get r.servers v ≡ Some j → was_carried d.carried v ≡ (not (is_some ((net_reopening r.ongoing).told (Server j))) && s.place.down j)
   pub restores : d.restores ≡ replicate (length r.document.config.servers) None
+  pub copies : d.copies ≡ replicate (length r.document.config.shards) 1
 
 -- The driver was opened over a placement, with permits and carried servers of before: these determine it.
 pub record IsOpenedOver (p : PlacementModel) (log journal epoch : ℕ) (permits : List (Option ℕ)) (marks : List Bool) (d : DriverModel) : Type 0 where
@@ -36,6 +37,7 @@ pub record IsOpenedOver (p : PlacementModel) (log journal epoch : ℕ) (permits 
   pub given : d.permits ≡ opening_permits (base d) permits (length p.setup.servers) (place_of p).down
   pub carried : d.carried ≡ carried_down marks (length p.setup.servers) (place_of p).down
   pub restored : d.restores ≡ replicate (length p.setup.servers) None
+  pub copies : d.copies ≡ replicate (length p.setup.shards) 1
 
 -- what is known of the permits of the document's servers, in its order
 abbrev pub permits_kept : ReopeningModel → List (Option ℕ)

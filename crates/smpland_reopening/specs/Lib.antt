@@ -10,6 +10,7 @@ pub mod RoleGrids
 pub mod Reopening
 pub mod Begun
 pub mod Members
+pub mod Kept
 pub mod InForce
 pub mod Eased
 pub mod Settled

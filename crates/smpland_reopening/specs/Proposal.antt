@@ -8,6 +8,7 @@ use Rattle.sm_reopening.specs.Losses.{is_named_lost}
 use Rattle.sm_reopening.specs.Ongoing.{is_missing, net_reopening}
 use Rattle.sm_reopening.specs.Proposal.{Documented, is_silent_successor, is_the, primary_of}
 use Rattle.sm_reopening.specs.Settles.{net_party}
+use Rattle.smpland_reopening.specs.Kept.{kept_of}
 use Rattle.smpland_reopening.specs.Reopening.{ReopeningModel}
 use Rattle.smpland_reopening.specs.Waiting.{parties_in_order}
 
@@ -27,9 +28,13 @@ documented_roles r = grid_of (net_reopening r.ongoing).servers None r.documented
 abbrev pub proposed_primary : ReopeningModel → ℕ → Option ℕ
 proposed_primary r s = primary_of r.ongoing (documented_roles r) s
 
--- the shards that the proposal names as lost: those that the document leaves out, too
+-- the proposal names the shard as lost, by the copies that are kept of it
+abbrev pub names_shard : ReopeningModel → ℕ → Bool
+names_shard r s = is_named_lost r.ongoing (documented_roles r) (kept_of r s) s
+
+-- the shards that it names: those that the document leaves out, too
 abbrev pub lost_shards : ReopeningModel → List ℕ
-lost_shards r = filter (is_named_lost r.ongoing (documented_roles r)) (range_with_len 0 (length r.numbering.shards))
+lost_shards r = filter (names_shard r) (range_with_len 0 (length r.numbering.shards))
 
 -- one shard is among others
 abbrev pub is_shard_among : List ℕ → ℕ → Bool

@@ -30,6 +30,8 @@ pub record ReopeningModel : Type 0 where
   pub documented : Roles
   -- the permits of the servers that are recorded down
   pub permits : List (Option ℕ)
+  -- of each recorded shard, how many copies each acknowledged write surely has; 1 where nothing stands
+  pub kept : List ℕ
   pub unknown_shards : List UnknownShard
   -- what the next driver opens with, once a settlement is confirmed
   pub next : Option PlacementModel
@@ -71,3 +73,4 @@ pub record IsUnder (old new : ReopeningModel) : Type 0 where
   pub shards : new.shards ≡ old.shards
   pub documented : new.documented ≡ old.documented
   pub permits : new.permits ≡ old.permits
+  pub kept : new.kept ≡ old.kept

@@ -6,6 +6,7 @@ ghost use Rattle.sm_placement.specs.Setup.{IsSetup};
 ghost use Rattle.sm_placement.specs.Config.{setup_of};
 ghost use Rattle.sm_placement.specs.Opening.{opened_place};
 ghost use Rattle.laws_network.specs.ReopeningLaws.{no_reopening};
+ghost use Rattle.sm_driver.specs.Copies.{kept_copies};
 ghost use Rattle.sm_driver.specs.Driver.{record_of};
 ghost use Rattle.sm_driver.specs.Orders.{epoch_base};
 ghost use Rattle.sm_driver.specs.Permits.{AreEarlierPermits};
@@ -16,6 +17,7 @@ ghost use Rattle.smpland_reopening.specs.RoleGrids.{role_at};
 ghost use Rattle.smpland_reopening.specs.Roles.{role_by_cell};
 
 use crate::fault::ReopenFault;
+use crate::kept::KeptRecord;
 use crate::members::{first_lost, members_of};
 use crate::numbering::{no_config, number_servers, number_shards};
 use crate::roles::{Roles, role_of};
@@ -190,14 +192,14 @@ fn begin_over(
     Ok(Begun { ongoing, ground })
 }
 
-/// Begins a reopening over what a driver has recorded, and returns the permits of its servers that are down, too.
+/// Begins a reopening over what a driver has recorded, with what is kept of that beside the placement.
 pub(crate) fn begin_over_driver(
     alloc: Global,
     driver: &Driver,
     document: &Document,
     lost: &[&str],
     epoch: u32,
-) -> Result<(Begun, Vec<Option<u64>>), ReopenFault>
+) -> Result<(Begun, KeptRecord), ReopenFault>
     ensures begun { IfOk result (λ b. IsBegun document.now.config epoch b.0) }
     ensures over { IfOk result (λ b. BeginsUnder
         (no_reopening (length driver.now.machine.placement.setup.servers)) driver.now.machine.placement.setup
@@ -206,13 +208,17 @@ pub(crate) fn begin_over_driver(
         document.now.cells.items b.0.ground) }
     ensures recorded { IfOk result (λ b. HasRecorded driver.now.machine.placement.setup (record_of driver.now).place
         (length b.0.ground.numbering.shards) b.0.ongoing) }
-    ensures permits { IfOk result (λ b. b.1.items ≡ driver.now.permits) }
-    ensures earlier { IfOk result (λ b. AreEarlierPermits (epoch_base (driver.now.epoch + 1)) b.1.items) }
+    ensures permits { IfOk result (λ b. b.1.permits.items ≡ driver.now.permits) }
+    ensures earlier { IfOk result (λ b. AreEarlierPermits (epoch_base (driver.now.epoch + 1)) b.1.permits.items) }
+    ensures kept { IfOk result (λ b. b.1.copies.items ≡ kept_copies driver.now) }
 {
-    let permits = Vec::from_slice(alloc, driver.permits())?;
+    let kept = KeptRecord {
+        permits: Vec::from_slice(alloc, driver.permits())?,
+        copies: driver.kept_copies(alloc)?,
+    };
     let placement = driver.machine().placement();
     let begun = begin_over(alloc, placement, document, lost, epoch)?;
-    Ok((begun, permits))
+    Ok((begun, kept))
 }
 
 /// Begins a reopening over nothing.

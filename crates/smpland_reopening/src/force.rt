@@ -10,7 +10,7 @@ ghost use Rattle.sm_driver.specs.Orders.{epoch_base};
 ghost use Rattle.sm_driver.specs.Permits.{AreEarlierPermits, permit_of};
 ghost use Rattle.smpland_reopening.specs.InForce.{IsInForce, IsOpenedFrom, IsOpenedOver};
 
-use crate::reopening::DocumentReopening;
+use crate::reopening::{DocumentReopening, OpenedEpoch};
 use sm_driver::Driver;
 use sm_machine::OpenFault;
 use sm_placement::Placement;
@@ -38,23 +38,30 @@ fn want_of_memory(fault: OpenFault) -> AllocError
     }
 }
 
+/// What the next driver keeps of servers: the permits of earlier epochs, and who is carried over.
+#[derive(Clone, Copy)]
+struct KeptServers<'k> {
+    permits: &'k [Option<u64>],
+    carried: &'k [bool],
+}
+
 /// Opens the driver that a reopening comes to.
 fn driver_over(
     alloc: Global,
     next: Placement,
+    opened: OpenedEpoch,
     log: u32,
-    journal: u64,
-    epoch: u32,
-    permits: &[Option<u64>],
-    carried: &[bool],
+    kept: KeptServers<'_>,
 ) -> Result<Driver, AllocError>
     requires settled { IsSettled (sizes_of next.setup) (place_of next) }
-    requires permits { AreEarlierPermits (epoch_base epoch) permits.now }
+    requires permits { AreEarlierPermits (epoch_base opened.epoch) kept.permits.now }
     requires room { down_count (sizes_of next.setup) (place_of next) ≤ log }
     requires most { log ≤ MOST_PLACES }
-    ensures { IfOk result (λ d. IsOpenedOver next log journal epoch permits.now carried.now d) }
+    ensures { IfOk result (λ d.
+        IsOpenedOver next log opened.journal opened.epoch kept.entry.permits.now kept.entry.carried.now d) }
 {
-    match Driver::reopen(alloc, next, log, journal, epoch, permits, carried) {
+    let OpenedEpoch { journal, epoch } = opened;
+    match Driver::reopen(alloc, next, log, journal, epoch, kept.permits, kept.carried) {
         Ok(driver) => Ok(driver),
         Err((next, fault)) => {
             drop(next);
@@ -97,9 +104,14 @@ impl DocumentReopening {
         let carried = self.carried_marks(alloc)?;
         self.document.config.server_count();
         let (journal, epoch, log) = (self.journal, self.epoch, self.document.log);
+        let opened = OpenedEpoch { journal, epoch };
         match self.into_next() {
             Some(next) => {
-                let driver = driver_over(alloc, next, log, journal, epoch, &permits, &carried)?;
+                let kept = KeptServers {
+                    permits: &permits,
+                    carried: &carried,
+                };
+                let driver = driver_over(alloc, next, opened, log, kept)?;
                 Ok(driver)
             }
             None => unreachable!(),

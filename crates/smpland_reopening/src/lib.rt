@@ -8,6 +8,7 @@ mod choice;
 mod confirming;
 mod fault;
 mod force;
+mod kept;
 mod marks;
 mod members;
 mod numbering;

@@ -3,12 +3,11 @@ ghost use Rattle.std.specs.Prelude.{◌≡◌, ◌<◌, ◌++◌, ◌∷◌, ℕ
 ghost use Rattle.std.specs.Prelude.{slice_index_or};
 ghost use Rattle.std.specs.List.{filter};
 ghost use Rattle.sm_placement.specs.Setup.{sizes_of};
-ghost use Rattle.sm_reopening.specs.Losses.{is_named_lost};
 ghost use Rattle.sm_reopening.specs.Ongoing.{net_reopening};
 ghost use Rattle.sm_reopening.specs.Proposal.{proposed_cell};
 ghost use Rattle.smpland_reopening.specs.Chosen.{proposed_role, role_by_proposal, roles_with};
 ghost use Rattle.smpland_reopening.specs.Proposal.{NamesLost, document_shards, documented_roles, has_shard};
-ghost use Rattle.smpland_reopening.specs.Proposal.{is_shard_among, lost_shards, proposed_primary};
+ghost use Rattle.smpland_reopening.specs.Proposal.{is_shard_among, lost_shards, names_shard, proposed_primary};
 ghost use Rattle.smpland_reopening.specs.Proposed.{IsProposalOf, is_unmet, is_silent, live_and_floor, proposal_role};
 ghost use Rattle.smpland_reopening.specs.Proposed.{roles_proposed, unanswered_servers};
 ghost use Rattle.smpland_reopening.specs.Confirmed.{is_down_next};
@@ -163,12 +162,21 @@ impl DocumentReopening {
         Ok(shards)
     }
 
+    /// Whether the proposal names a shard as lost.
+    fn names_shard(&self, shard: ShardId) -> bool
+        ensures { result ≡ names_shard self.now shard }
+    {
+        let copies = self.kept_of(shard);
+        self.ongoing
+            .is_named_lost(&self.documented.list, copies, shard)
+    }
+
     /// Adds a shard if it is named as lost.
     fn push_lost(&self, lost: &mut Vec<ShardId>, shard: ShardId) -> Result<(), AllocError>
         ensures { OnOk result (lost.new.items
-            ≡ lost.old.items ++ filter (is_named_lost self.now.ongoing (documented_roles self.now)) (shard ∷ [])) }
+            ≡ lost.old.items ++ filter (names_shard self.now) (shard ∷ [])) }
     {
-        if self.ongoing.is_named_lost(&self.documented.list, shard) {
+        if self.names_shard(shard) {
             lost.push(shard)?;
         }
         Ok(())

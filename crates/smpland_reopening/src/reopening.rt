@@ -5,15 +5,18 @@ ghost use Rattle.sm_placement.specs.Opening.{opened_place};
 ghost use Rattle.sm_placement.specs.Setup.{Setup};
 ghost use Rattle.laws_network.specs.ReopeningLaws.{no_reopening};
 ghost use Rattle.sm_reopening.specs.Ongoing.{net_reopening, recorded_place, recorded_setup, shards_of};
+ghost use Rattle.sm_driver.specs.Copies.{kept_copies};
 ghost use Rattle.sm_driver.specs.Driver.{record_of};
 ghost use Rattle.sm_driver.specs.Orders.{epoch_base};
 ghost use Rattle.sm_driver.specs.Permits.{AreEarlierPermits};
 ghost use Rattle.smpland_reopening.specs.Begun.{BeginsUnder, HasRecorded, IsBegun, IsNumberedGround};
 ghost use Rattle.smpland_reopening.specs.Begun.{NumbersUnder};
+ghost use Rattle.smpland_reopening.specs.Kept.{kept_on};
 ghost use Rattle.smpland_reopening.specs.Proposal.{has_shard};
 
 use crate::beginning::{Begun, Ground, begin_over_driver, begin_over_nothing, ground_of};
 use crate::fault::ReopenFault;
+use crate::kept::KeptRecord;
 use crate::roles::Roles;
 use crate::unknown_shard::UnknownShard;
 use sm_driver::{Driver, EPOCH_STEP};
@@ -48,6 +51,8 @@ pub struct DocumentReopening {
     pub(crate) documented: Roles,
     /// The permits of the recorded servers that are down.
     pub(crate) permits: Vec<Option<u64>>,
+    /// Of each recorded shard, how many copies each acknowledged write surely has; one where nothing stands.
+    pub(crate) kept: Vec<u32>,
     pub(crate) unknown_shards: Vec<UnknownShard>,
     /// The placement on which the next driver opens, once a settlement is confirmed.
     pub(crate) next: Option<Placement>,
@@ -58,9 +63,9 @@ impl Model for DocumentReopening {
 
     ghost Value = { ReopeningModel };
 
-    ghost view = { λ r. record { ongoing = r.ongoing; journal = r.journal; epoch = r.epoch; document = r.document; numbering = r.numbering; servers = r.servers.items; shards = r.shards.items; documented = r.documented; permits = r.permits.items; unknown_shards = r.unknown_shards.items; next = r.next } };
+    ghost view = { λ r. record { ongoing = r.ongoing; journal = r.journal; epoch = r.epoch; document = r.document; numbering = r.numbering; servers = r.servers.items; shards = r.shards.items; documented = r.documented; permits = r.permits.items; kept = r.kept.items; unknown_shards = r.unknown_shards.items; next = r.next } };
 
-    ghost invariant = { λ r. IsReopening (record { ongoing = r.ongoing; journal = r.journal; epoch = r.epoch; document = r.document; numbering = r.numbering; servers = r.servers.items; shards = r.shards.items; documented = r.documented; permits = r.permits.items; unknown_shards = r.unknown_shards.items; next = r.next }) };
+    ghost invariant = { λ r. IsReopening (record { ongoing = r.ongoing; journal = r.journal; epoch = r.epoch; document = r.document; numbering = r.numbering; servers = r.servers.items; shards = r.shards.items; documented = r.documented; permits = r.permits.items; kept = r.kept.items; unknown_shards = r.unknown_shards.items; next = r.next }) };
 }
 
 impl Drop for DocumentReopening {
@@ -87,6 +92,7 @@ impl DocumentReopening {
             shards,
             documented,
             permits,
+            kept,
             unknown_shards,
             next,
         } = self;
@@ -97,35 +103,37 @@ impl DocumentReopening {
         drop(shards);
         drop(documented);
         drop(permits);
+        drop(kept);
         drop(unknown_shards);
         next
     }
 }
 
 impl DocumentReopening {
-    /// The reopening that has begun under a document, with these permits of the servers that are recorded down. Its
-    /// fences are to be sent.
+    /// The reopening that has begun under a document, with what it keeps of the record. Its fences are to be sent.
     fn new(
         alloc: Global,
         begun: Begun,
         document: Document,
-        permits: Vec<Option<u64>>,
+        kept: KeptRecord,
         opened: OpenedEpoch,
     ) -> DocumentReopening
         requires begun { IsBegun document.config opened.epoch begun }
-        requires permits { AreEarlierPermits (epoch_base opened.epoch) permits.items }
+        requires permits { AreEarlierPermits (epoch_base opened.epoch) kept.permits.items }
         ensures ongoing { result.ongoing ≡ begun.ongoing }
         ensures numbering { result.numbering ≡ begun.ground.numbering }
         ensures journal { result.journal ≡ opened.journal }
         ensures epoch { result.epoch ≡ opened.epoch }
         ensures document { result.document ≡ document }
-        ensures permits { result.permits ≡ permits.items }
+        ensures permits { result.permits ≡ kept.permits.items }
+        ensures kept { result.kept ≡ kept.copies.items }
         ensures numbered { (numbered : Setup)
             → IsNumberedGround numbered document.config document.cells.items begun.ground
             → NumbersUnder numbered result }
         ensures next { result.next ≡ None }
     {
         let Begun { ongoing, ground } = begun;
+        let KeptRecord { permits, copies } = kept;
         let Ground {
             numbering,
             servers,
@@ -142,6 +150,7 @@ impl DocumentReopening {
             shards,
             documented,
             permits,
+            kept: copies,
             unknown_shards: Vec::new(alloc),
             next: None,
         }
@@ -166,6 +175,7 @@ impl DocumentReopening {
             (length r.numbering.shards) r.ongoing) }
         ensures next { IfOk result (λ r. r.next ≡ None) }
         ensures permits { IfOk result (λ r. r.permits ≡ driver.now.permits) }
+        ensures kept { IfOk result (λ r. r.kept ≡ kept_copies driver.now) }
         ensures journal { IfOk result (λ r. r.journal ≡ driver.now.journal) }
         ensures epoch { IfOk result (λ r. r.epoch ≡ epoch) }
         ensures document { IfOk result (λ r. r.document ≡ document) }
@@ -174,7 +184,7 @@ impl DocumentReopening {
         let journal = driver.journal();
         let opened = OpenedEpoch { journal, epoch };
         match begin_over_driver(alloc, driver, &document, lost, epoch) {
-            Ok((begun, permits)) => Ok(Self::new(alloc, begun, document, permits, opened)),
+            Ok((begun, kept)) => Ok(Self::new(alloc, begun, document, kept, opened)),
             Err(fault) => Err((document, fault)),
         }
     }
@@ -196,6 +206,7 @@ impl DocumentReopening {
             (length r.numbering.shards) r.ongoing) }
         ensures next { IfOk result (λ r. r.next ≡ None) }
         ensures permits { IfOk result (λ r. r.permits ≡ []) }
+        ensures kept { IfOk result (λ r. r.kept ≡ []) }
         ensures journal { IfOk result (λ r. r.journal ≡ journal) }
         ensures epoch { IfOk result (λ r. r.epoch ≡ epoch) }
         ensures document { IfOk result (λ r. r.document ≡ document) }
@@ -204,8 +215,11 @@ impl DocumentReopening {
         let opened = OpenedEpoch { journal, epoch };
         match begin_over_nothing(alloc, &document, lost, epoch) {
             Ok(begun) => {
-                let permits = Vec::new(alloc);
-                Ok(Self::new(alloc, begun, document, permits, opened))
+                let kept = KeptRecord {
+                    permits: Vec::new(alloc),
+                    copies: Vec::new(alloc),
+                };
+                Ok(Self::new(alloc, begun, document, kept, opened))
             }
             Err(fault) => Err((document, fault)),
         }
@@ -229,16 +243,17 @@ impl DocumentReopening {
             (recorded_place self.now.ongoing) (length r.numbering.shards) r.ongoing) }
         ensures next { IfOk result (λ r. r.next ≡ None) }
         ensures permits { IfOk result (λ r. r.permits ≡ self.now.permits) }
+        ensures kept { IfOk result (λ r. r.kept ≡ kept_on self.now) }
         ensures journal { IfOk result (λ r. r.journal ≡ self.now.journal) }
         ensures epoch { IfOk result (λ r. r.epoch ≡ epoch) }
         ensures document { IfOk result (λ r. r.document ≡ document) }
         ensures back { IfErr result (λ e. e.0 ≡ document) }
     {
         match self.replaced(alloc, &document, lost, epoch) {
-            Ok((begun, permits)) => {
+            Ok((begun, kept)) => {
                 let journal = self.journal;
                 let opened = OpenedEpoch { journal, epoch };
-                Ok(Self::new(alloc, begun, document, permits, opened))
+                Ok(Self::new(alloc, begun, document, kept, opened))
             }
             Err(fault) => Err((document, fault)),
         }
@@ -251,7 +266,7 @@ impl DocumentReopening {
         document: &Document,
         lost: &[&str],
         epoch: u32,
-    ) -> Result<(Begun, Vec<Option<u64>>), ReopenFault>
+    ) -> Result<(Begun, KeptRecord), ReopenFault>
         ensures begun { IfOk result (λ b. IsBegun document.now.config epoch b.0) }
         ensures over { IfOk result (λ b. BeginsUnder
             (net_reopening self.now.ongoing) self.now.numbering document.now.config b.0.ground.numbering
@@ -260,15 +275,19 @@ impl DocumentReopening {
             document.now.cells.items b.0.ground) }
         ensures recorded { IfOk result (λ b. HasRecorded (recorded_setup self.now.ongoing)
             (recorded_place self.now.ongoing) (length b.0.ground.numbering.shards) b.0.ongoing) }
-        ensures permits { IfOk result (λ b. b.1.items ≡ self.now.permits) }
-        ensures earlier { IfOk result (λ b. AreEarlierPermits (epoch_base self.now.epoch) b.1.items) }
+        ensures permits { IfOk result (λ b. b.1.permits.items ≡ self.now.permits) }
+        ensures earlier { IfOk result (λ b. AreEarlierPermits (epoch_base self.now.epoch) b.1.permits.items) }
+        ensures kept { IfOk result (λ b. b.1.copies.items ≡ kept_on self.now) }
     {
         let (ground, members) = ground_of(alloc, &self.numbering, document, lost)?;
         let base = epoch as u64 * EPOCH_STEP;
         let shards = ground.numbering.shard_count();
         let ongoing = self.ongoing.replace(alloc, base, &members, shards)?;
-        let permits = Vec::from_slice(alloc, &self.permits)?;
-        Ok((Begun { ongoing, ground }, permits))
+        let kept = KeptRecord {
+            permits: Vec::from_slice(alloc, &self.permits)?,
+            copies: self.kept_on(alloc)?,
+        };
+        Ok((Begun { ongoing, ground }, kept))
     }
 
     /// Returns the number of the reopening, which becomes the base of all parties.

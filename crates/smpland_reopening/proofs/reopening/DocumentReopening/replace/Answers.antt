@@ -7,7 +7,7 @@ use Rattle.smpland_reopening.proofs.Begun.{earlier_permits}
 use Rattle.smpland_reopening.proofs.reopening.DocumentReopening.replace.Goals as goal
 
 pub new-requires-clause-permits : goal.new-requires-clause-permits
-new-requires-clause-permits c = earlier_permits (epoch_base c.args.self.now.epoch) (epoch_base c.args.epoch) c.in-Ok.permits.items c.in-Ok.ensures.earlier (omega (arith, c.requires))
+new-requires-clause-permits c = earlier_permits (epoch_base c.args.self.now.epoch) (epoch_base c.args.epoch) c.in-Ok.kept.permits.items c.in-Ok.ensures.earlier (omega (arith, c.requires))
 
 pub returns-in-Ok-clause-over : goal.returns-in-Ok-clause-over
 returns-in-Ok-clause-over c =
