@@ -24,7 +24,7 @@ pub fn restore(
         return Ok(DriverOutcome::Declined(Decline::UnknownServer));
     };
     // A server that asks again under the same nonce is told what it was told.
-    if opened.is_last_restore(server, nonce) {
+    if opened.is_told(server, nonce) {
         return Ok(DriverOutcome::RestoredBefore { server, nonce });
     }
     if at.is_reopening {

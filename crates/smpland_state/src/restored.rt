@@ -187,7 +187,7 @@ impl JournalState {
     }
 
     /// Whether a server was told under this nonce last.
-    pub fn is_last_restore(&self, server: ServerId, nonce: u64) -> bool
+    pub fn is_told(&self, server: ServerId, nonce: u64) -> bool
         requires { server < (record_of self.now.driver).sizes.servers }
         ensures { result ≡ is_told self.now server nonce }
     {
