@@ -7,6 +7,7 @@ pub mod Bits
 pub mod Calls
 pub mod Carryovers
 pub mod Cells
+pub mod Copied
 pub mod Copies
 pub mod Denied
 pub mod Document

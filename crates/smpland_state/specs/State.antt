@@ -11,6 +11,7 @@ use Rattle.sm_placement.specs.declared.entry.Entry.{Entry}
 use Rattle.sm_reservation.specs.declared.stream_id.StreamId.{StreamId}
 use Rattle.sm_protocol.specs.State.{State, free_places, pool, progress_of, stream_count, stream_id, stream_parts}
 use Rattle.sm_protocol.specs.Next.{blocked_on, unfinished_plans}
+use Rattle.sm_driver.specs.Copies.{copies_of}
 use Rattle.sm_driver.specs.Driver.{DriverModel, base, order_number, record_of}
 use Rattle.sm_driver.specs.Orders.{message_of}
 use Rattle.sm_driver.specs.Permits.{permit_of}
@@ -42,20 +43,20 @@ cell_rows d s =
     list_member (codes "cells") (flat_map (λ v. cell_row d.machine.placement.setup v (recorded_cell d s v))
     (range_with_len 0 (length d.machine.placement.setup.servers)))
 
--- a shard: its load, how many live replicas it has and has to have, and its entry in the map
-abbrev pub shard_head : Setup → ℕ → ℕ → Entry → List Token
-shard_head setup s live entry =
-    text_member (codes "shard") (shard_text setup s)
-    ++ number_member (codes "load") ((sizes_of setup).load s)
+-- a shard: its load, how many live replicas it has and has to have, how many surely have each acknowledged write, and its entry in the map
+abbrev pub shard_head : DriverModel → ℕ → ℕ → Entry → List Token
+shard_head d s live entry =
+    text_member (codes "shard") (shard_text d.machine.placement.setup s)
+    ++ number_member (codes "load") ((sizes_of d.machine.placement.setup).load s)
     ++ number_member (codes "live") live
-    ++ number_member (codes "floor") ((sizes_of setup).floor s)
-    ++ name_member (codes "listed") (option_map (server_text setup) entry.server)
+    ++ number_member (codes "floor") ((sizes_of d.machine.placement.setup).floor s)
+    ++ number_member (codes "copies") (copies_of d s)
+    ++ name_member (codes "listed") (option_map (server_text d.machine.placement.setup) entry.server)
     ++ number_member (codes "version") entry.version
 
 -- these, and what all servers have of it
 abbrev pub shard_state_members : DriverModel → ℕ → List Token
-shard_state_members d s =
-    shard_head d.machine.placement.setup s (live_at (record_of d).sizes (record_of d).place s) (recorded_entry d s) ++ cell_rows d s
+shard_state_members d s = shard_head d s (live_at (record_of d).sizes (record_of d).place s) (recorded_entry d s) ++ cell_rows d s
 
 -- the same as an object
 abbrev pub shard_state : DriverModel → ℕ → List Token

@@ -6,6 +6,7 @@ mod begun_plan;
 mod bits;
 mod calls;
 mod cells;
+mod copied;
 mod copying;
 mod denied;
 mod document;

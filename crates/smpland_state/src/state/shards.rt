@@ -10,6 +10,7 @@ use crate::cells::write_cell;
 use crate::holders::write_listed;
 use crate::journal_state::JournalState;
 use crate::published::recorded_entry;
+use sm_driver::Driver;
 use sm_placement::{Config, Entry};
 use sm_server::{Cell, ServerId, ShardId};
 use smpland_lines::{
@@ -84,18 +85,20 @@ fn write_cells(opened: &JournalState, writer: &mut Writer, shard: ShardId) -> Re
 /// Writes a shard's numbers, and its entry in the map.
 fn write_shard_head(
     writer: &mut Writer,
-    config: &Config,
+    driver: &Driver,
     shard: ShardId,
     live: u32,
     entry: Entry,
 ) -> Result<(), AllocError>
-    requires { shard < length config.now.shards }
-    ensures { OnOk result (writer.new.tokens ≡ writer.old.tokens ++ shard_head config.now shard live entry) }
+    requires { shard < length driver.now.machine.placement.setup.shards }
+    ensures { OnOk result (writer.new.tokens ≡ writer.old.tokens ++ shard_head driver.now shard live entry) }
 {
+    let config = driver.machine().config();
     write_text(writer, "shard", shard_name(config, shard))?;
     write_number(writer, "load", config.load(shard))?;
     write_number(writer, "live", u64::from(live))?;
     write_number(writer, "floor", u64::from(config.floor(shard)))?;
+    write_number(writer, "copies", u64::from(driver.copies(shard)))?;
     write_listed(writer, config, "listed", entry.server)?;
     write_number(writer, "version", entry.version)?;
     Ok(())
@@ -110,10 +113,9 @@ fn write_shard_members(
     requires { shard < length opened.now.driver.machine.placement.setup.shards }
     ensures { OnOk result (writer.new.tokens ≡ writer.old.tokens ++ shard_state_members opened.now.driver shard) }
 {
-    let machine = opened.driver.machine();
-    let live = machine.placement().live(shard);
+    let live = opened.driver.machine().placement().live(shard);
     let entry = recorded_entry(&opened.driver, shard);
-    write_shard_head(writer, machine.config(), shard, live, entry)?;
+    write_shard_head(writer, &opened.driver, shard, live, entry)?;
     write_cells(opened, writer, shard)?;
     Ok(())
 }
