@@ -25,7 +25,7 @@ use Rattle.smpland_reopening_lines.specs.Proposals.{waiting_or_proposal}
 use Rattle.smpland_reopening_lines.specs.Settles.{settles_member}
 use Rattle.smpland_reopening_lines.specs.declared.outcome.ReopeningOutcome.{ReopeningOutcome}
 use Rattle.smpland_reopening_lines.specs.declared.outcome.ReopeningOutcome.TheVariants as outcome
-use Rattle.smpland_session.specs.Answers.{Answers, AnswersAgain}
+use Rattle.smpland_session.specs.ToldAgain.{Answers, AnswersAgain}
 use Rattle.smpland_session.specs.Asked.{Does, DoesToDriver, StaysOpen, texts_among}
 use Rattle.smpland_session.specs.Changes.{Drives, Follows as GoesOn, HasChanged, Reopens as Begins}
 use Rattle.smpland_session.specs.Declines.{Declines, DriverDeclines, Ignored, Refused, SessionDeclines}

@@ -38,7 +38,7 @@ use Rattle.smpland_session.specs.declared.decline.Decline.TheVariants as decline
 use Rattle.smpland_session.specs.declared.decline.Ignored.TheVariants as ignored
 use Rattle.smpland_session.specs.declared.driver_outcome.DriverOutcome.{DriverOutcome}
 use Rattle.smpland_session.specs.declared.driver_outcome.DriverOutcome.TheVariants as outcome
-use Rattle.smpland_session.specs.Answers.{AnswersAgain, TellsGiven}
+use Rattle.smpland_session.specs.ToldAgain.{AnswersAgain, TellsGiven}
 use Rattle.smpland_session.specs.Asked.{DoesToDriver, SaysPlan}
 use Rattle.smpland_session.specs.Begins.{other_plan}
 use Rattle.smpland_session.specs.Changes.{Approves, Begins, Changes, Ends, OpensEpoch, Restores, Takes}

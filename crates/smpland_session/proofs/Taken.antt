@@ -15,7 +15,7 @@ use Rattle.smpland_lines.specs.declared.bad_line.BadLine.{BadLine}
 use Rattle.smpland_lines.specs.declared.bad_line.BadLine.TheVariants as bad
 use Rattle.smpland_lines.specs.declared.command.LineCommand.{LineCommand}
 use Rattle.smpland_state.specs.declared.journal_state.JournalState.{JournalState}
-use Rattle.smpland_session.specs.Answers.{AnswersLine, AnswersObject, IsBad, IsCommand, NoObject as HasNoObject, NotJson as IsNotJson, Object, TooLong as IsTooLong}
+use Rattle.smpland_session.specs.ToldAgain.{AnswersLine, AnswersObject, IsBad, IsCommand, NoObject as HasNoObject, NotJson as IsNotJson, Object, TooLong as IsTooLong}
 use Rattle.smpland_session.specs.Asked.{DoesAsSaid, DoesAsTold, IsKnownOver, setup_in_force}
 use Rattle.smpland_session.specs.Changes.{SessionChanges, count_after}
 use Rattle.smpland_session.specs.Declines.{DeclinesBy, DeclinesLine, DeclinesValue}

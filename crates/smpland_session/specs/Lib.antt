@@ -1,4 +1,3 @@
-pub mod Answers
 pub mod Asked
 pub mod Begins
 pub mod Changes
@@ -12,3 +11,4 @@ pub mod Outcomes
 pub mod Questions
 pub mod Reopenings
 pub mod Replies
+pub mod ToldAgain

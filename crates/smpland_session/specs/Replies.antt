@@ -30,7 +30,7 @@ use Rattle.smpland_reopening_lines.specs.Parties.{fences_member, waiting_member}
 use Rattle.smpland_reopening_lines.specs.Proposals.{TellsAwaited}
 use Rattle.smpland_reopening_lines.specs.Settles.{settles_member}
 use Rattle.smpland_reopening_lines.specs.Taken.{TakesConfirm, TakesSettled, TakesTold}
-use Rattle.smpland_session.specs.Answers.{AnswersLine}
+use Rattle.smpland_session.specs.ToldAgain.{AnswersLine}
 use Rattle.smpland_session.specs.Asked.{DoesToSession, IsKnownOver, SaysPlan, TakesAnswerOf, setup_in_force}
 use Rattle.smpland_session.specs.Changes.{ComesInForce, HasReopened, OpensNext}
 use Rattle.smpland_session.specs.declared.under_way.UnderWay.{UnderWay}
