@@ -76,17 +76,17 @@ module _ (d : DriverModel) (goes_on : Bool) (value : Data) (name : List ℕ) whe
       }
 
   -- it is not said, and that is told
-  not_said : (begun : BegunPlan) (why : Decline) (before after : List Token) →
-      IsSomeAnd (kept_plan d begun) (λ kept. IsNotSaid d.machine.placement.setup value name kept why) → TellsDecline why before after →
+  not_said : (setup : Setup) (begun : BegunPlan) (why : Decline) (before after : List Token) →
+      IsSomeAnd (kept_plan d begun) (λ kept. IsNotSaid d.machine.placement.setup value name kept why) → TellsDecline setup why before after →
       TellsUnder d goes_on value name begun before after
-  not_said begun (decline.NoPlan fault) before after is told =
+  not_said _ begun (decline.NoPlan fault) before after is told =
       let setup = d.machine.placement.setup in
       let found = kept_plan d begun in record {
         same = λ says. absurd (says_none setup value found fault says is);
         other = λ other. absurd (says_no_other setup value found fault other is);
         no_plan = λ next some isnt. told ∙ ap (λ f. before ++ told_bad (bad.Within PlanMember f)) (one_fault setup value found fault next is isnt);
       }
-  not_said begun (decline.OtherPlan other) before after is told =
+  not_said _ begun (decline.OtherPlan other) before after is told =
       let setup = d.machine.placement.setup in
       let found = kept_plan d begun in
       let parts = named_so (string_bytes other ≡ name) (SaysOther setup value) found is in record {
@@ -94,11 +94,11 @@ module _ (d : DriverModel) (goes_on : Bool) (value : Data) (name : List ℕ) whe
         other = λ _. told ∙ ap (λ n. before ++ refused_member (other_plan n)) parts.0;
         no_plan = λ fault some isnt. absurd (other_has_none setup value found fault parts.1 isnt);
       }
-  not_said begun _ before after is told = absurd (none_for (kept_plan d begun) is)
+  not_said setup begun _ before after is told = absurd (none_for (kept_plan d begun) is)
 
   -- so it is with the plan that has begun under the name, if one has
-  pub told_not_said : (why : Decline) (before after : List Token) (found : Option BegunPlan) →
-      IfSome found (λ begun. IsSomeAnd (kept_plan d begun) (λ kept. IsNotSaid d.machine.placement.setup value name kept why)) → TellsDecline why before after →
+  pub told_not_said : (setup : Setup) (why : Decline) (before after : List Token) (found : Option BegunPlan) →
+      IfSome found (λ begun. IsSomeAnd (kept_plan d begun) (λ kept. IsNotSaid d.machine.placement.setup value name kept why)) → TellsDecline setup why before after →
       IfSome found (λ begun. TellsUnder d goes_on value name begun before after)
-  told_not_said why before after None is told = tt
-  told_not_said why before after (Some begun) is told = not_said begun why before after is told
+  told_not_said setup why before after None is told = tt
+  told_not_said setup why before after (Some begun) is told = not_said setup begun why before after is told

@@ -120,6 +120,7 @@ declined_closed (driver.Restore name _) before after d = λ _. d
 declined_closed (driver.Answered _ _ _) before after d = d
 declined_closed (driver.Restarted _ _) before after d = d
 declined_closed driver.NewEpoch before after d = d
+declined_closed (driver.Copied _ _ _ _) before after d = d
 
 -- ---- all commands
 

@@ -34,7 +34,7 @@ pub driver_opened : (driver : DriverModel) (document : Document) (placement : Pl
     place_of placement ≡ opened_place (opening_of (rows_of document)) →
     record_of driver ≡ opened (sizes_of placement.setup) (place_of placement) document.log →
     driver.machine.placement.setup ≡ placement.setup → driver.journal ≡ journal → driver.epoch ≡ epoch →
-    IsFirstOpened (length placement.setup.servers) (place_of placement).down driver → IsOpenedBy value journal epoch driver
+    IsFirstOpened (length placement.setup.servers) (length placement.setup.shards) (place_of placement).down driver → IsOpenedBy value journal epoch driver
 driver_opened driver document placement value journal epoch said setup place state same of_journal of_epoch first = (
   rows_of document,
   said,
@@ -43,8 +43,8 @@ driver_opened driver document placement value journal epoch said setup place sta
       ∙ ap (λ (p : Place). opened (sizes_of document.config) p document.log) place,
   of_journal,
   of_epoch,
-  subst (λ (p : Place). IsFirstOpened (length document.config.servers) p.down driver) place
-      (subst (λ (s : Setup). IsFirstOpened (length s.servers) (place_of placement).down driver) setup first),
+  subst (λ (p : Place). IsFirstOpened (length document.config.servers) (length document.config.shards) p.down driver) place
+      (subst (λ (s : Setup). IsFirstOpened (length s.servers) (length s.shards) (place_of placement).down driver) setup first),
 )
 
 -- it is the one that is open now

@@ -1,12 +1,12 @@
 -- An outcome of a command, and the reply that tells it, say what was asked, what has changed and what is told: of one and the same thing.
-use Rattle.std.proofs.Common.{◌≡◌, ◌∙◌, ◌++◌, ◌∷◌, ◌⊎◌, [], Bool, true, false, ℕ, List, Option, Some, None, Result, Ok, Err, IfOk, ap, inl, inr, not, refl, string_bytes, subst, sym}
+use Rattle.std.proofs.Common.{◌≡◌, ◌<◌, ◌∙◌, ◌++◌, ◌∷◌, ◌⊎◌, [], Bool, true, false, ℕ, List, Option, Some, None, Result, Ok, Err, IfOk, ap, inl, inr, not, refl, string_bytes, subst, sym}
 use Rattle.std.specs.Prelude.{IfSome, bytes_eq, codes, if◌then◌else◌, is_some}
 use Rattle.std.proofs.lemmas.Bool.{and_parts}
 use Rattle.std.proofs.lemmas.Slice.Eq.{bytes_eq-Decides}
 use Rattle.json.specs.Token.{Token, key}
 use Rattle.serde_json.specs.Data.{Data}
 use Rattle.json_tree.specs.View.{view}
-use Rattle.sm_placement.specs.Setup.{Setup, server_named, sizes_of}
+use Rattle.sm_placement.specs.Setup.{Setup, server_named, shard_named, sizes_of}
 use Rattle.sm_machine.specs.Machine.{MachineModel}
 use Rattle.sm_machine.specs.State.{whole_of}
 use Rattle.sm_reservation.specs.declared.stream_id.StreamId.{StreamId}
@@ -15,6 +15,9 @@ use Rattle.sm_verifier.specs.Plan.{IsCheckedPlan}
 use Rattle.smpland_state.specs.Names.{value_of}
 use Rattle.sm_driver.specs.Driver.{DriverModel, HasBegunPlan, HasTakenStep, answer_effect, is_due, is_past, record_of}
 use Rattle.sm_driver.specs.Restores.{RestoreModel, restore_at}
+use Rattle.sm_driver.specs.declared.copies.CopiesEffect.{CopiesEffect}
+use Rattle.sm_driver.specs.declared.copies.CopiesEffect.TheVariants as copied
+use Rattle.sm_driver.specs.declared.copies.ToldCopies.{ToldCopies}
 use Rattle.sm_driver.specs.declared.driver.AnswerEffect.{AnswerEffect}
 use Rattle.sm_driver.specs.declared.driver.AnswerEffect.TheVariants as effect
 use Rattle.sm_driver.proofs.Effects.{moved_is_due}
@@ -29,6 +32,7 @@ use Rattle.smpland_state.specs.declared.begun_plan.BegunPlan.{BegunPlan}
 use Rattle.smpland_state.specs.declared.given_permits.GivenPermit.{GivenPermit}
 use Rattle.smpland_state.specs.declared.journal_state.JournalState.{JournalState}
 use Rattle.smpland_state.specs.Begun.{begun_again_members, begun_members, begun_plan}
+use Rattle.smpland_state.specs.Copied.{copied_member}
 use Rattle.smpland_state.specs.Given.{given_at}
 use Rattle.smpland_state.specs.Permits.{approved_member, given_member, opened_member}
 use Rattle.smpland_state.specs.Replies.{gone_on, moved_members, sinces_of}
@@ -38,12 +42,12 @@ use Rattle.smpland_session.specs.declared.decline.Decline.TheVariants as decline
 use Rattle.smpland_session.specs.declared.decline.Ignored.TheVariants as ignored
 use Rattle.smpland_session.specs.declared.driver_outcome.DriverOutcome.{DriverOutcome}
 use Rattle.smpland_session.specs.declared.driver_outcome.DriverOutcome.TheVariants as outcome
-use Rattle.smpland_session.specs.ToldAgain.{AnswersAgain, TellsGiven}
+use Rattle.smpland_session.specs.ToldAgain.{AnswersAgain, TellsGiven, TellsNotNoted}
 use Rattle.smpland_session.specs.Asked.{DoesToDriver, SaysPlan}
 use Rattle.smpland_session.specs.Begins.{other_plan}
-use Rattle.smpland_session.specs.Changes.{Approves, Begins, Changes, Ends, OpensEpoch, Restores, Takes}
+use Rattle.smpland_session.specs.Changes.{Approves, Begins, Changes, Ends, Notes, OpensEpoch, Restores, Takes}
 use Rattle.smpland_session.specs.Declines.{Bad, Declines, DriverDeclines, Ignored, Refused}
-use Rattle.smpland_session.specs.Outcomes.{AnsweredOutcome, BeginOutcome, HasMovedWith, HasOutcome, KnowsServers, StartOutcome, TellsDecline, TellsOutcome, has_changed, ignored_word}
+use Rattle.smpland_session.specs.Outcomes.{AnsweredOutcome, BeginOutcome, HasMovedWith, HasOutcome, IsNotNoted, KnowsServers, StartOutcome, TellsDecline, TellsOutcome, above_want, copies_effect_now, has_changed, ignored_word}
 use Rattle.smpland_session.specs.Replies.{TellsChange}
 use Rattle.smpland_session.proofs.Begins.{told_not_said, told_same}
 
@@ -114,13 +118,14 @@ Did Asked Tells is_reopening old o new =
     × ((before after : List Token) → TellsOutcome new o before after → Tells old.driver new.driver before after)
 
 -- a reply that tells why nothing has come of a command declines it
-declines_by : (why : Decline) (before after : List Token) → TellsDecline why before after → Declines before after
-declines_by (decline.Ignored why) before after told = Ignored (ignored_word why, told)
-declines_by (decline.NoPlan fault) before after told = Bad (bad.Within PlanMember fault, told)
-declines_by (decline.Unchecked fault) before after told = Refused (shared_refusal (check_refusal fault), told)
-declines_by (decline.OtherPlan name) before after told = Refused (other_plan (string_bytes name), told)
-declines_by (decline.OtherServer at) before after told = Refused told
-declines_by _ before after told = told
+declines_by : (setup : Setup) (why : Decline) (before after : List Token) → TellsDecline setup why before after → Declines before after
+declines_by setup (decline.Ignored why) before after told = Ignored (ignored_word why, told)
+declines_by setup (decline.NoPlan fault) before after told = Bad (bad.Within PlanMember fault, told)
+declines_by setup (decline.Unchecked fault) before after told = Refused (shared_refusal (check_refusal fault), told)
+declines_by setup (decline.OtherPlan name) before after told = Refused (other_plan (string_bytes name), told)
+declines_by setup (decline.OtherServer at) before after told = Refused told
+declines_by setup (decline.AboveWant shard) before after told = Refused (above_want setup shard, told)
+declines_by setup _ before after told = told
 
 -- one is told what it was told before
 given_again : (d : DriverModel) (server : List ℕ) (found : Option GivenPermit) (before after : List Token) →
@@ -154,6 +159,21 @@ untold : (o : JournalState) (nonce : ℕ) (found : Option ℕ) (before after : L
     IfSome found (λ v. TellsAgain o v nonce before after)
 untold o nonce None before after is = tt
 untold o nonce (Some v) before after is = nothing_told (told_again o v nonce) before after is
+
+-- copies that were not noted are told as what they are
+told_not_noted : (setup : Setup) (came : CopiesEffect) (shard : ℕ) (why : Decline) (before after : List Token) → IsNotNoted came shard why →
+    TellsDecline setup why before after → TellsNotNoted came setup shard before after
+told_not_noted setup copied.Noted shard why before after is told = absurd is
+told_not_noted setup copied.Old shard why before after is told = subst (λ (w : Decline). TellsDecline setup w before after) is told
+told_not_noted setup copied.AboveWant shard why before after is told = subst (λ (w : Decline). TellsDecline setup w before after) is told
+
+-- so it is with those of the shard of a name, if there is one
+not_copied : (d : DriverModel) (r : Bool) (line : ToldCopies) (why : Decline) (before after : List Token) (found : Option ℕ) →
+    IfSome found (λ shard. IsNotNoted (copies_effect_now r d shard line) shard why) → TellsDecline d.machine.placement.setup why before after →
+    IfSome found (λ shard. TellsNotNoted (copies_effect_now r d shard line) d.machine.placement.setup shard before after)
+not_copied d r line why before after None is told = tt
+not_copied d r line why before after (Some shard) is told =
+    told_not_noted d.machine.placement.setup (copies_effect_now r d shard line) shard why before after is told
 
 -- a command that changed something
 pub did : (command : DriverCommand) (r : Bool) (old new : JournalState) (o : DriverOutcome) → HasOutcome command r old o new → has_changed o ≡ true →
@@ -191,6 +211,13 @@ did (driver.Restore name nonce) r old new (outcome.Restored server under) h is =
   λ before after told. (server, h.1, h.3, told),
 )
 did driver.NewEpoch r old new outcome.NextEpoch h is = (h.0, h.1, OpensEpoch h.1, λ before after told. (h.1, told))
+did (driver.Copied name journal fence copies) r old new (outcome.Copied shard) h is =
+    let line : ToldCopies = record { journal = journal; fence = fence; copies = copies } in (
+      h.0,
+      (shard, h.1, h.2),
+      Notes (shard, line, h.2),
+      λ before after told. (shard, h.1, h.2.2, told),
+    )
 did _ r old new _ h is = absurd h
 
 -- one that changed nothing
@@ -201,6 +228,7 @@ kept command r old new (outcome.Approved server permit) h is = absurd (let z = i
 kept command r old new (outcome.Up server) h is = absurd (let z = is in cc)
 kept command r old new (outcome.Restored server nonce) h is = absurd (let z = is in cc)
 kept command r old new outcome.NextEpoch h is = absurd (let z = is in cc)
+kept command r old new (outcome.Copied shard) h is = absurd (let z = is in cc)
 kept (driver.Begin plan name) r old new (outcome.BegunBefore begun goes_on) h is = h.2
 kept (driver.Begin plan name) r old new (outcome.Declined why) h is = h.0
 kept (driver.Answered plan stream number) r old new (outcome.Declined why) h is = h.2
@@ -211,14 +239,18 @@ kept (driver.Restarted permit base) r old new (outcome.Declined why) h is = h
 kept (driver.Restore name nonce) r old new (outcome.RestoredBefore server under) h is = h.4
 kept (driver.Restore name nonce) r old new (outcome.Declined why) h is = h.1
 kept driver.NewEpoch r old new (outcome.Declined why) h is = h
+kept (driver.Copied name journal fence copies) r old new (outcome.Declined why) h is = h.0
 kept _ r old new _ h is = absurd h
 
--- a server that is told its cells is known
+-- a server that is told its cells is known, and a shard whose copies are told
 pub names_known : (command : DriverCommand) (r : Bool) (old new : JournalState) (o : DriverOutcome) → HasOutcome command r old o new → KnowsServers new.driver o
 names_known (driver.Restore name nonce) r old new (outcome.Restored server under) h = h.5
 names_known (driver.Restore name nonce) r old new (outcome.RestoredBefore server under) h = h.3
+names_known (driver.Copied name journal fence copies) r old new (outcome.Copied shard) h =
+    subst (λ (d : DriverModel). shard < (record_of d).sizes.shards) (sym h.2.2) h.2.0
 names_known _ r old new (outcome.Restored server under) h = absurd h
 names_known _ r old new (outcome.RestoredBefore server under) h = absurd h
+names_known _ r old new (outcome.Copied shard) h = absurd h
 names_known _ r old new _ h = tt
 
 module _ (before after : List Token) where
@@ -231,10 +263,10 @@ module _ (before after : List Token) where
       (told ∙ ap (λ g. before ++ begun_again_members new.driver begun g) h.1
       ∙ ap (λ (o : JournalState). before ++ begun_again_members o.driver begun (not r)) h.2))
   again (driver.Begin plan name) r old new (outcome.Declined why) h told =
-      told_not_said old.driver (not r) (view plan.now) name.now why before after (value_of old.plans name.now) h.1 told
+      told_not_said old.driver (not r) (view plan.now) name.now new.driver.machine.placement.setup why before after (value_of old.plans name.now) h.1 told
   again (driver.Answered plan stream number) r old new (outcome.Moved id gone) h told = λ none. absurd (let a = h.0 in let b = none in cc)
   again (driver.Answered plan stream number) r old new (outcome.Declined why) h told =
-      λ none. subst (λ (w : Decline). TellsDecline w before after) h.1 told
+      λ none. subst (λ (w : Decline). TellsDecline new.driver.machine.placement.setup w before after) h.1 told
   again (driver.Approve name by) r old new (outcome.Approved server permit) h told = rw h.1 tt
   again (driver.Approve name by) r old new (outcome.ApprovedBefore at) h told =
       rw h.0 (given_again old.driver name.now (given_at old.permits at) before after h.1.1
@@ -250,6 +282,11 @@ module _ (before after : List Token) where
   again (driver.Restore name nonce) r old new (outcome.Declined why) h told =
       untold old nonce (server_named old.driver.machine.placement.setup name.now) before after h.0
   again driver.NewEpoch r old new o h told = tt
+  again (driver.Copied name journal fence copies) r old new (outcome.Copied shard) h told = rw (h.1, h.0, h.2.1) tt
+  again (driver.Copied name journal fence copies) r old new (outcome.Declined why) h told =
+      let line : ToldCopies = record { journal = journal; fence = fence; copies = copies } in
+      not_copied old.driver r line why before after (shard_named old.driver.machine.placement.setup name.now) h.1
+      (subst (λ (o : JournalState). TellsDecline o.driver.machine.placement.setup why before after) h.0 told)
   again _ r old new _ h told = absurd h
 
   -- a command is declined that changes nothing, but for one under a name that was used before
@@ -261,15 +298,17 @@ module _ (before after : List Token) where
   declines command r old new (outcome.Up server) h told is = absurd (let z = is in cc)
   declines command r old new (outcome.Restored server nonce) h told is = absurd (let z = is in cc)
   declines command r old new outcome.NextEpoch h told is = absurd (let z = is in cc)
+  declines command r old new (outcome.Copied shard) h told is = absurd (let z = is in cc)
   declines (driver.Begin plan name) r old new (outcome.BegunBefore begun goes_on) h told is = λ none. absurd (let z : Some begun ≡ None = sym h.0 ∙ none in cc)
-  declines (driver.Begin plan name) r old new (outcome.Declined why) h told is = λ none. declines_by why before after told
-  declines (driver.Answered plan stream number) r old new (outcome.Declined why) h told is = declines_by why before after told
+  declines (driver.Begin plan name) r old new (outcome.Declined why) h told is = λ none. declines_by new.driver.machine.placement.setup why before after told
+  declines (driver.Answered plan stream number) r old new (outcome.Declined why) h told is = declines_by new.driver.machine.placement.setup why before after told
   declines (driver.Approve name by) r old new (outcome.ApprovedBefore at) h told is = λ none. absurd (let z : Some at ≡ None = sym h.0 ∙ none in cc)
-  declines (driver.Approve name by) r old new (outcome.Declined why) h told is = λ none. declines_by why before after told
-  declines (driver.Restarted permit base) r old new (outcome.Declined why) h told is = declines_by why before after told
+  declines (driver.Approve name by) r old new (outcome.Declined why) h told is = λ none. declines_by new.driver.machine.placement.setup why before after told
+  declines (driver.Restarted permit base) r old new (outcome.Declined why) h told is = declines_by new.driver.machine.placement.setup why before after told
   declines (driver.Restore name nonce) r old new (outcome.RestoredBefore server under) h told is = λ none. absurd (let z : Some server ≡ None = sym h.0 ∙ none in cc)
-  declines (driver.Restore name nonce) r old new (outcome.Declined why) h told is = λ none. declines_by why before after told
-  declines driver.NewEpoch r old new (outcome.Declined why) h told is = declines_by why before after told
+  declines (driver.Restore name nonce) r old new (outcome.Declined why) h told is = λ none. declines_by new.driver.machine.placement.setup why before after told
+  declines driver.NewEpoch r old new (outcome.Declined why) h told is = declines_by new.driver.machine.placement.setup why before after told
+  declines (driver.Copied name journal fence copies) r old new (outcome.Declined why) h told is = declines_by new.driver.machine.placement.setup why before after told
   declines _ r old new _ h told is = absurd h
 
 module _ (front : List Token) where
@@ -293,6 +332,7 @@ module _ (front : List Token) where
   told_by new (outcome.Restored server nonce) is = kept_told new.driver server
   told_by new (outcome.RestoredBefore server nonce) is = absurd (let z = is in cc)
   told_by new outcome.NextEpoch is = (front ++ opened_member new.driver, refl)
+  told_by new (outcome.Copied shard) is = (front ++ copied_member new.driver shard, refl)
   told_by new (outcome.Declined why) is = absurd (let z = is in cc)
 
 -- ---- begins

@@ -46,13 +46,13 @@ tells_sound (Err x) m n value plan before after says sound same told = tt
 
 -- any other value is declined
 tells_why : (m : MachineModel) (value : Data) (why : Decline) (before after : List Token) →
-    IsUnchecked m.placement.setup value why → TellsDecline why before after → TellsCheck m value before after
+    IsUnchecked m.placement.setup value why → TellsDecline m.placement.setup why before after → TellsCheck m value before after
 tells_why m value (decline.NoPlan fault) before after is told = NoPlan fault is told
 tells_why m value (decline.Unchecked fault) before after is told = Unsound fault is told
 tells_why m value _ before after is told = absurd is
 
 -- so it is as long as memory is not short
 pub tells_unchecked : {A E : Type 0} (r : Result A E) (m : MachineModel) (value : Data) (why : Decline) (before after : List Token) →
-    IsUnchecked m.placement.setup value why → OnOk r (TellsDecline why before after) → OnOk r (TellsCheck m value before after)
+    IsUnchecked m.placement.setup value why → OnOk r (TellsDecline m.placement.setup why before after) → OnOk r (TellsCheck m value before after)
 tells_unchecked (Ok x) m value why before after is told = tells_why m value why before after is told
 tells_unchecked (Err x) m value why before after is told = tt

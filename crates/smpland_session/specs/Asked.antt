@@ -8,7 +8,7 @@ use Rattle.serde_json.specs.Find.{as_str}
 use Rattle.json_tree.specs.View.{view}
 use Rattle.json_tree.specs.declared.tree.Tree.{Tree}
 use Rattle.sm_placement.specs.Opening.{opened_place}
-use Rattle.sm_placement.specs.Setup.{Setup, names_of_servers, names_of_shards, server_named, sizes_of}
+use Rattle.sm_placement.specs.Setup.{Setup, names_of_servers, names_of_shards, server_named, shard_named, sizes_of}
 use Rattle.sm_reservation.specs.declared.stream_id.StreamId.{StreamId}
 use Rattle.sm_plan_code.specs.Plan.{PlanModel}
 use Rattle.sm_verifier.specs.Plan.{IsCheckedPlan}
@@ -18,6 +18,7 @@ use Rattle.sm_plan_text.specs.Reading.{data_of, read_data, read_plan_data, rows_
 use Rattle.sm_protocol.specs.State.{opened}
 use Rattle.sm_driver.specs.Driver.{DriverModel, HasApproved, HasBegunPlan, HasRestored, HasTakenStep, base, is_due, record_of}
 use Rattle.sm_driver.specs.Permits.{opening_permits}
+use Rattle.sm_driver.specs.declared.copies.ToldCopies.{ToldCopies}
 use Rattle.smpland_lines.specs.Commands.{IsKnownCommand}
 use Rattle.smpland_lines.specs.Lines.{Says}
 use Rattle.smpland_lines.specs.declared.command.LineCommand.{LineCommand}
@@ -30,7 +31,7 @@ use Rattle.laws_network.specs.ReopeningLaws.{AllTook}
 use Rattle.sm_reopening.specs.Ongoing.{net_reopening}
 use Rattle.smpland_reopening.specs.Reopening.{ReopeningModel}
 use Rattle.smpland_reopening_lines.specs.Taken.{ConfirmsAt, TakesFenced, TakesSettledBy}
-use Rattle.smpland_session.specs.Changes.{ComesInForceBy, EndsRestart, OpensNext, ReopensWithout}
+use Rattle.smpland_session.specs.Changes.{ComesInForceBy, EndsRestart, NotesTold, OpensNext, ReopensWithout}
 use Rattle.smpland_session.specs.declared.under_way.UnderWay.{UnderWay}
 use Rattle.smpland_session.specs.declared.session.Session.{Session}
 
@@ -59,6 +60,10 @@ abbrev pub RestoresServerOf : List ℕ → ℕ → DriverModel → DriverModel �
 RestoresServerOf name nonce old new =
     (server : ℕ) × (server_named old.machine.placement.setup name ≡ Some server) × HasRestored server nonce old new
 
+-- these copies of the shard with this name were noted
+abbrev pub NotesCopiesOf : List ℕ → ToldCopies → DriverModel → DriverModel → Type 0
+NotesCopiesOf name told old new = (shard : ℕ) × (shard_named old.machine.placement.setup name ≡ Some shard) × NotesTold shard told old new
+
 -- the effect of a command on the driver of an open journal
 abbrev pub DoesToDriver : DriverCommand → DriverModel → DriverModel → Type 0
 DoesToDriver (driver.Begin plan _) old new = BeginsPlanOf (view plan.now) old new
@@ -67,14 +72,17 @@ DoesToDriver (driver.Approve server _) old new = ApprovesRestartOf server.now ol
 DoesToDriver (driver.Restarted permit base) old new = EndsRestart permit base old new
 DoesToDriver (driver.Restore server nonce) old new = RestoresServerOf server.now nonce old new
 DoesToDriver driver.NewEpoch old new = OpensNext old new
+DoesToDriver (driver.Copied shard journal fence copies) old new =
+    NotesCopiesOf shard.now (record { journal = journal; fence = fence; copies = copies }) old new
 
--- A driver has just opened the first epoch of a journal: nothing fences it, each server that is down has a new permit, and none was carried
--- over or restored.
-pub record IsFirstOpened (servers : ℕ) (down : ℕ → Bool) (d : DriverModel) : Type 0 where
+-- A driver has just opened the first epoch of a journal: nothing fences it, each server that is down has a new permit, none was carried
+-- over or restored, and no copies of a shard were told.
+pub record IsFirstOpened (servers shards : ℕ) (down : ℕ → Bool) (d : DriverModel) : Type 0 where
   pub fence : d.fence ≡ 0
   pub permits : d.permits ≡ opening_permits (base d) [] servers down
   pub carried : d.carried ≡ replicate servers false
   pub restores : d.restores ≡ replicate servers None
+  pub copies : d.copies ≡ replicate shards 1
 
 -- a driver is open over the document that a value says, in the first epoch of a journal
 abbrev pub IsOpenedBy : Data → ℕ → ℕ → DriverModel → Type 0
@@ -82,7 +90,8 @@ IsOpenedBy value journal epoch d =
     (document : DocumentModel) × (read_data (Some value) ≡ Ok document)
     × (d.machine.placement.setup ≡ document.setup)
     × (record_of d ≡ opened (sizes_of document.setup) (opened_place (opening_of document)) document.log)
-    × (d.journal ≡ journal) × (d.epoch ≡ epoch) × IsFirstOpened (length document.setup.servers) (opened_place (opening_of document)).down d
+    × (d.journal ≡ journal) × (d.epoch ≡ epoch)
+    × IsFirstOpened (length document.setup.servers) (length document.setup.shards) (opened_place (opening_of document)).down d
 
 -- none was open, and now this one is
 abbrev pub OpensOver : Data → ℕ → ℕ → Option JournalState → Option JournalState → Type 0

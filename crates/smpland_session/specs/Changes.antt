@@ -10,14 +10,18 @@ use Rattle.sm_plan_code.specs.Plan.{PlanModel}
 use Rattle.sm_verifier.specs.Plan.{IsCheckedPlan}
 use Rattle.sm_protocol.specs.Laws.{IsReached}
 use Rattle.sm_protocol.specs.State.{opened}
+use Rattle.sm_driver.specs.Copies.{HasNotedCopies, copies_effect, kept_copies}
 use Rattle.sm_driver.specs.Driver.{DriverModel, HasApproved, HasBegunPlan, HasEndedRestart, HasRestored, HasTakenStep, is_due, record_of}
 use Rattle.sm_driver.specs.Epochs.{HasOpenedEpoch, epoch_fault}
+use Rattle.sm_driver.specs.declared.copies.CopiesEffect.TheVariants.{Noted}
+use Rattle.sm_driver.specs.declared.copies.ToldCopies.{ToldCopies}
 use Rattle.smpland_state.specs.declared.journal_state.JournalState.{JournalState}
 use Rattle.laws_network.specs.Reopening.{Reopening, Settlement}
 use Rattle.laws_network.specs.ReopeningLaws.{AllTook, no_reopening}
 use Rattle.sm_reopening.specs.Ongoing.{net_reopening, recorded_place, recorded_setup}
 use Rattle.smpland_reopening.specs.Begun.{BeginsUnder, HasRecorded, NumbersUnder}
 use Rattle.smpland_reopening.specs.InForce.{IsInForce, IsOpenedFrom}
+use Rattle.smpland_reopening.specs.Kept.{kept_on}
 use Rattle.smpland_reopening.specs.Reopening.{ReopeningModel}
 use Rattle.smpland_reopening_lines.specs.Taken.{TakesConfirm, TakesSettled, TakesTold}
 use Rattle.smpland_session.specs.declared.under_way.UnderWay.{UnderWay}
@@ -53,6 +57,16 @@ EndsRestart permit base old new = (server : ℕ) × HasEndedRestart server permi
 abbrev pub RestoresServer : DriverModel → DriverModel → Type 0
 RestoresServer old new = (server : ℕ) × (nonce : ℕ) × HasRestored server nonce old new
 
+-- The copies that a line tells were noted of a known shard. The line is of this journal and its last reopening, and tells more than was noted before,
+-- but no more than the shard wants.
+abbrev pub NotesTold : ℕ → ToldCopies → DriverModel → DriverModel → Type 0
+NotesTold shard told old new =
+    (shard < (record_of old).sizes.shards) × (copies_effect old shard told ≡ Noted) × HasNotedCopies shard told.copies old new
+
+-- copies were noted of a shard
+abbrev pub NotesCopies : DriverModel → DriverModel → Type 0
+NotesCopies old new = (shard : ℕ) × (told : ToldCopies) × NotesTold shard told old new
+
 -- the next epoch has opened, which nothing was against
 abbrev pub OpensNext : DriverModel → DriverModel → Type 0
 OpensNext old new = (epoch_fault old ≡ None) × HasOpenedEpoch old new
@@ -64,6 +78,7 @@ pub data Changes (old new : DriverModel) : Type 0 where
   Approves : ApprovesRestart old new → Changes old new
   Ends : (permit : ℕ) (base : Option ℕ) → EndsRestart permit base old new → Changes old new
   Restores : RestoresServer old new → Changes old new
+  Notes : NotesCopies old new → Changes old new
   OpensEpoch : OpensNext old new → Changes old new
 
 -- what a command that changed something made of the driver
@@ -99,18 +114,21 @@ pub record BeginsFresh (numbered setup : Setup) (place : Place) (r : ReopeningMo
 pub record BeginsOver (lost : List (List ℕ)) (d : DriverModel) (new : ReopeningModel) : Type 0 where
   pub under : IsBegunOver (no_reopening (length d.machine.placement.setup.servers)) d.machine.placement.setup lost new
   pub record_is : KeepsRecord d.journal d.epoch (record_of d).place d.permits new
+  pub kept : new.kept ≡ kept_copies d
   pub fresh : BeginsFresh d.machine.placement.setup d.machine.placement.setup (record_of d).place new
 
 -- a reopening has begun in place of another
 pub record Replaces (lost : List (List ℕ)) (before new : ReopeningModel) : Type 0 where
   pub under : IsBegunOver (net_reopening before.ongoing) before.numbering lost new
   pub record_is : KeepsRecord before.journal before.epoch (recorded_place before.ongoing) before.permits new
+  pub kept : new.kept ≡ kept_on before
   pub fresh : BeginsFresh before.numbering (recorded_setup before.ongoing) (recorded_place before.ongoing) new
 
 -- a reopening has begun over nothing that is recorded
 pub record BeginsAnew (lost : List (List ℕ)) (new : ReopeningModel) : Type 0 where
   pub under : IsBegunOver (no_reopening 0) (setup_of [] []) lost new
   pub permits : new.permits ≡ []
+  pub kept : new.kept ≡ []
   pub fresh : BeginsFresh (setup_of [] []) (setup_of [] []) (opened_place (record { cells = []; listed = []; down = []; limit = 0 })) new
 
 -- a reopening has begun without these servers: in place of the one under way, over what the driver has recorded, or over nothing

@@ -43,6 +43,7 @@ DriverDeclines (driver.Restore name _) opened before after =
 DriverDeclines (driver.Answered _ _ _) opened before after = Declines before after
 DriverDeclines (driver.Restarted _ _) opened before after = Declines before after
 DriverDeclines driver.NewEpoch opened before after = Declines before after
+DriverDeclines (driver.Copied _ _ _ _) opened before after = Declines before after
 
 -- So is one of a session. Of questions nothing is said, nor of lines of a reopening.
 abbrev pub SessionDeclines : LineCommand → Session → List Token → List Token → Type 0

@@ -60,10 +60,11 @@ ReadsObject text (Err fault) = IsNoObject text fault
 
 -- ---- changes
 
--- why nothing comes of a command on a journal, as long as none is open: what ends or answers something of an epoch before a reopening is old
+-- why nothing comes of a command on a journal, as long as none is open: what ends, answers or tells something of before a reopening is old
 abbrev pub why_closed : DriverCommand → Bool → Closed
 why_closed (driver.Restarted _ _) is_reopening = if is_reopening then closed.Old else closed.NotOpened
 why_closed (driver.Answered _ _ _) is_reopening = if is_reopening then closed.Old else closed.NotOpened
+why_closed (driver.Copied _ _ _ _) is_reopening = if is_reopening then closed.Old else closed.NotOpened
 why_closed _ is_reopening = if is_reopening then closed.Reopening else closed.NotOpened
 
 -- something has changed

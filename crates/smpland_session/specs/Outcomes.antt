@@ -1,24 +1,27 @@
 -- The outcomes of commands on an open journal, and the replies that tell them.
 -- `TellsDecline`, `TellsOutcome`, `KnowsServers`, `StartOutcome`, `HasMovedWith`, `is_down_under` and `why_not_ended` are internal: you need not
 -- read them for the public contracts.
-use Rattle.std.specs.Prelude.{◌≡◌, ◌<◌, ℕ, ◌&&◌, ◌||◌, Bool, true, false, List, ◌++◌, Option, Some, None, IfSome, bytes_eq, codes, if◌then◌else◌, not, string_bytes}
+use Rattle.std.specs.Prelude.{◌≡◌, ◌<◌, ℕ, ◌&&◌, ◌||◌, Bool, true, false, List, ◌++◌, Option, Some, None, IfSome, bytes_eq, codes, decimal, if◌then◌else◌, not, string_bytes}
 use Rattle.std.specs.List.{list_any}
 use Rattle.std.specs.Option.{IsSomeAnd}
 use Rattle.json.specs.Token.{Token}
 use Rattle.serde_json.specs.Data.{Data}
 use Rattle.json_tree.specs.View.{view}
-use Rattle.sm_placement.specs.Setup.{server_named}
+use Rattle.sm_placement.specs.Setup.{Setup, server_named, shard_named}
 use Rattle.sm_reservation.specs.declared.stream_id.StreamId.{StreamId}
 use Rattle.sm_plan_code.specs.Plan.{PlanModel}
 use Rattle.sm_verifier.specs.Plan.{IsCheckedPlan}
 use Rattle.smpland_state.specs.Names.{value_of}
 use Rattle.laws_network.specs.Controller.{is_permitted}
+use Rattle.sm_driver.specs.Copies.{copies_effect, shard_want}
 use Rattle.sm_driver.specs.Driver.{DriverModel, HasApproved, HasBegunPlan, HasEndedRestart, HasRestored, HasTakenStep, is_due, is_past, record_of}
-use Rattle.sm_driver.specs.Restores.{is_last_restore}
+use Rattle.sm_driver.specs.declared.copies.CopiesEffect.{CopiesEffect}
+use Rattle.sm_driver.specs.declared.copies.CopiesEffect.TheVariants as effect
+use Rattle.sm_driver.specs.declared.copies.ToldCopies.{ToldCopies}
 use Rattle.sm_refusals.specs.Plans.{check_refusal}
 use Rattle.smpland_lines.specs.BadLines.{told_bad}
-use Rattle.smpland_lines.specs.Members.{server_text, text_member}
-use Rattle.smpland_lines.specs.Refusals.{TellsRefused, refused_member, shared_refusal}
+use Rattle.smpland_lines.specs.Members.{number_member, server_text, shard_text, text_member}
+use Rattle.smpland_lines.specs.Refusals.{RefusedLine, TellsRefused, refused_member, shared_refusal}
 use Rattle.smpland_lines.specs.declared.bad_line.BadLine.TheVariants as bad
 use Rattle.smpland_lines.specs.declared.command_member.CommandMember.TheVariants.{Plan as PlanMember}
 use Rattle.smpland_lines.specs.declared.command.DriverCommand.{DriverCommand}
@@ -28,13 +31,14 @@ use Rattle.smpland_state.specs.declared.given_permits.GivenAt.{GivenAt}
 use Rattle.smpland_state.specs.declared.given_permits.GivenPermit.{GivenPermit}
 use Rattle.smpland_state.specs.declared.journal_state.JournalState.{JournalState}
 use Rattle.smpland_state.specs.Begun.{begun_again_members, begun_members, begun_plan}
+use Rattle.smpland_state.specs.Copied.{copied_member}
 use Rattle.smpland_state.specs.Given.{given_at}
 use Rattle.smpland_state.specs.Permits.{approved_member, given_member, opened_member}
 use Rattle.smpland_state.specs.Replies.{gone_on, moved_members, sinces_of}
 use Rattle.smpland_state.specs.Restores.{TellsAgain, TellsKept, is_told}
 use Rattle.smpland_session.specs.Asked.{SaysPlan}
 use Rattle.smpland_session.specs.Begins.{IsNotSaid, kept_plan, other_plan}
-use Rattle.smpland_session.specs.Changes.{OpensNext}
+use Rattle.smpland_session.specs.Changes.{NotesTold, OpensNext}
 use Rattle.smpland_session.specs.Declines.{Declines}
 use Rattle.smpland_session.specs.declared.decline.Decline.{Decline}
 use Rattle.smpland_session.specs.declared.decline.Decline.TheVariants as decline
@@ -50,14 +54,24 @@ abbrev pub ignored_word : Ignored → List ℕ
 ignored_word ignored.Old = codes "old"
 ignored_word ignored.Unknown = codes "unknown"
 
--- behind what was written is told why nothing has come of a command
-abbrev pub TellsDecline : Decline → List Token → List Token → Type 0
-TellsDecline (decline.Ignored why) before after = after ≡ before ++ text_member (codes "ignored") (ignored_word why)
-TellsDecline (decline.NoPlan fault) before after = after ≡ before ++ told_bad (bad.Within PlanMember fault)
-TellsDecline (decline.Unchecked fault) before after = after ≡ before ++ refused_member (shared_refusal (check_refusal fault))
-TellsDecline (decline.OtherPlan name) before after = after ≡ before ++ refused_member (other_plan (string_bytes name))
-TellsDecline (decline.OtherServer at) before after = TellsRefused before after
-TellsDecline _ before after = Declines before after
+-- a shard does not want as many copies as are told
+abbrev pub above_want : Setup → ℕ → RefusedLine
+above_want setup s = record {
+  kind = codes "AboveWant";
+  number = None;
+  fields = text_member (codes "shard") (shard_text setup s) ++ number_member (codes "want") (shard_want setup s);
+  text = codes "refused: AboveWant shard " ++ shard_text setup s ++ codes " want " ++ decimal (shard_want setup s);
+}
+
+-- behind what was written is told, over these servers and shards, why nothing has come of a command
+abbrev pub TellsDecline : Setup → Decline → List Token → List Token → Type 0
+TellsDecline setup (decline.Ignored why) before after = after ≡ before ++ text_member (codes "ignored") (ignored_word why)
+TellsDecline setup (decline.NoPlan fault) before after = after ≡ before ++ told_bad (bad.Within PlanMember fault)
+TellsDecline setup (decline.Unchecked fault) before after = after ≡ before ++ refused_member (shared_refusal (check_refusal fault))
+TellsDecline setup (decline.OtherPlan name) before after = after ≡ before ++ refused_member (other_plan (string_bytes name))
+TellsDecline setup (decline.OtherServer at) before after = TellsRefused before after
+TellsDecline setup (decline.AboveWant shard) before after = after ≡ before ++ refused_member (above_want setup shard)
+TellsDecline setup _ before after = Declines before after
 
 -- behind it is told, by the journal after the change, the outcome of a command
 abbrev pub TellsOutcome : JournalState → DriverOutcome → List Token → List Token → Type 0
@@ -72,12 +86,14 @@ TellsOutcome o (outcome.Up server) before after = after ≡ before ++ text_membe
 TellsOutcome o (outcome.Restored server nonce) before after = TellsKept o.driver server before after
 TellsOutcome o (outcome.RestoredBefore server nonce) before after = TellsAgain o server nonce before after
 TellsOutcome o outcome.NextEpoch before after = after ≡ before ++ opened_member o.driver
-TellsOutcome o (outcome.Declined why) before after = TellsDecline why before after
+TellsOutcome o (outcome.Copied shard) before after = after ≡ before ++ copied_member o.driver shard
+TellsOutcome o (outcome.Declined why) before after = TellsDecline o.driver.machine.placement.setup why before after
 
--- the server that is told its cells is known
+-- the server that is told its cells is known, and the shard whose copies are told
 abbrev pub KnowsServers : DriverModel → DriverOutcome → Type 0
 KnowsServers d (outcome.Restored server nonce) = server < (record_of d).sizes.servers
 KnowsServers d (outcome.RestoredBefore server nonce) = server < (record_of d).sizes.servers
+KnowsServers d (outcome.Copied shard) = shard < (record_of d).sizes.shards
 KnowsServers d _ = Unit {0}
 
 -- something has changed
@@ -91,6 +107,7 @@ has_changed (outcome.Up _) = true
 has_changed (outcome.Restored _ _) = true
 has_changed (outcome.RestoredBefore _ _) = false
 has_changed outcome.NextEpoch = true
+has_changed (outcome.Copied _) = true
 has_changed (outcome.Declined _) = false
 
 -- ---- begins
@@ -195,6 +212,27 @@ RestoreOutcome name nonce is_reopening old (outcome.Declined why) new =
     IfSome (server_named old.driver.machine.placement.setup name) (λ server. is_told old server nonce ≡ false) × (new ≡ old)
 RestoreOutcome name nonce is_reopening old _ new = ⊥
 
+-- ---- copies
+
+-- the effect of copies that a line tells of a shard: while a reopening is under way they are old
+abbrev pub copies_effect_now : Bool → DriverModel → ℕ → ToldCopies → CopiesEffect
+copies_effect_now is_reopening d shard told = if is_reopening then effect.Old else copies_effect d shard told
+
+-- why copies of a shard are not noted
+abbrev pub IsNotNoted : CopiesEffect → ℕ → Decline → Type 0
+IsNotNoted effect.Noted shard why = ⊥
+IsNotNoted effect.Old shard why = why ≡ decline.Ignored ignored.Old
+IsNotNoted effect.AboveWant shard why = why ≡ decline.AboveWant shard
+
+-- these copies of the shard with this name are noted; or they are not: they are old, or more than the shard wants
+abbrev pub CopiedOutcome : List ℕ → ToldCopies → Bool → JournalState → DriverOutcome → JournalState → Type 0
+CopiedOutcome name told is_reopening old (outcome.Copied shard) new =
+    (is_reopening ≡ false) × (shard_named old.driver.machine.placement.setup name ≡ Some shard) × NotesTold shard told old.driver new.driver
+CopiedOutcome name told is_reopening old (outcome.Declined why) new =
+    (new ≡ old) × IfSome (shard_named old.driver.machine.placement.setup name)
+    (λ shard. IsNotNoted (copies_effect_now is_reopening old.driver shard told) shard why)
+CopiedOutcome name told is_reopening old _ new = ⊥
+
 -- ---- epochs
 
 -- the next epoch has opened, or it has not
@@ -213,3 +251,5 @@ HasOutcome (driver.Approve server by) is_reopening old o new = ApproveOutcome se
 HasOutcome (driver.Restarted permit base) is_reopening old o new = RestartedOutcome permit base is_reopening old o new
 HasOutcome (driver.Restore name nonce) is_reopening old o new = RestoreOutcome name.now nonce is_reopening old o new
 HasOutcome driver.NewEpoch is_reopening old o new = EpochOutcome is_reopening old o new
+HasOutcome (driver.Copied shard journal fence copies) is_reopening old o new =
+    CopiedOutcome shard.now (record { journal = journal; fence = fence; copies = copies }) is_reopening old o new

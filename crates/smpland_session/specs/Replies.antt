@@ -7,8 +7,10 @@ use Rattle.sm_reservation.specs.declared.stream_id.StreamId.{StreamId}
 use Rattle.sm_plan_code.specs.Plan.{PlanModel}
 use Rattle.sm_plan_text.specs.Reading.{data_of}
 use Rattle.json_tree.specs.View.{view}
-use Rattle.sm_placement.specs.Setup.{server_named}
+use Rattle.sm_placement.specs.Setup.{server_named, shard_named}
+use Rattle.sm_driver.specs.Copies.{HasNotedCopies}
 use Rattle.sm_driver.specs.Driver.{DriverModel, HasApproved, HasBegunPlan, HasEndedRestart, HasRestored, record_of}
+use Rattle.sm_driver.specs.declared.copies.ToldCopies.{ToldCopies}
 use Rattle.smpland_lines.specs.Lines.{Says}
 use Rattle.smpland_lines.specs.declared.command.DriverCommand.{DriverCommand}
 use Rattle.smpland_lines.specs.declared.command.DriverCommand.TheVariants as driver
@@ -20,6 +22,7 @@ use Rattle.smpland_lines.specs.Writer.{HasNoLineFeed}
 use Rattle.smpland_state.specs.declared.journal_state.JournalState.{JournalState}
 use Rattle.smpland_state.specs.Begun.{begun_members, begun_plan}
 use Rattle.smpland_state.specs.Bits.{hexadecimal}
+use Rattle.smpland_state.specs.Copied.{copied_member}
 use Rattle.smpland_state.specs.Permits.{approved_member, opened_member}
 use Rattle.smpland_state.specs.Replies.{sinces_of, taken_members}
 use Rattle.smpland_state.specs.Restores.{TellsKept}
@@ -75,6 +78,12 @@ abbrev pub TellsRestored : List ℕ → ℕ → DriverModel → DriverModel → 
 TellsRestored name nonce old new before after =
     (server : ℕ) × (server_named old.machine.placement.setup name ≡ Some server) × HasRestored server nonce old new × TellsKept new server before after
 
+-- these copies of the shard with this name were noted, and it is told what is noted of it now
+abbrev pub TellsCopied : List ℕ → ToldCopies → DriverModel → DriverModel → List Token → List Token → Type 0
+TellsCopied name told old new before after =
+    (shard : ℕ) × (shard_named old.machine.placement.setup name ≡ Some shard) × HasNotedCopies shard told.copies old new
+    × (after ≡ before ++ copied_member new shard)
+
 -- the next epoch has opened, and that is told
 abbrev pub TellsNext : DriverModel → DriverModel → List Token → List Token → Type 0
 TellsNext old new before after = OpensNext old new × (after ≡ before ++ opened_member new)
@@ -87,6 +96,8 @@ TellsChange (driver.Approve server _) old new before after = TellsApproved serve
 TellsChange (driver.Restarted permit base) old new before after = TellsUp permit base old new before after
 TellsChange (driver.Restore server nonce) old new before after = TellsRestored server.now nonce old new before after
 TellsChange driver.NewEpoch old new before after = TellsNext old new before after
+TellsChange (driver.Copied shard journal fence copies) old new before after =
+    TellsCopied shard.now (record { journal = journal; fence = fence; copies = copies }) old new before after
 
 -- the reply tells the journal that is open
 abbrev pub TellsOpened : Option JournalState → List Token → List Token → Type 0

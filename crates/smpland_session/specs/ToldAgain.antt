@@ -1,21 +1,24 @@
 -- Answers to lines, whether they change something or not: a command that comes again is told what it was told, an answer that no stream waits for is
--- ignored, a question is told what it asks, and a line that is no command is told as bad.
+-- ignored, so are copies that are not noted, a question is told what it asks, and a line that is no command is told as bad.
 use Rattle.std.specs.Prelude.{◌≡◌, ◌<◌, ◌⊎◌, ℕ, Bool, true, false, List, ◌++◌, Some, None, IfSome, bytes_eq, codes, is_some, length, not, string_bytes}
 use Rattle.json.specs.Token.{Token}
 use Rattle.serde_json.specs.Data.{Data}
 use Rattle.serde_json.specs.Find.{as_object}
 use Rattle.json_tree.specs.View.{view}
 use Rattle.journal_lines.specs.Objects.{IsObject}
-use Rattle.sm_placement.specs.Setup.{server_named}
+use Rattle.sm_placement.specs.Setup.{Setup, server_named, shard_named}
 use Rattle.sm_reservation.specs.declared.stream_id.StreamId.{StreamId}
 use Rattle.sm_plan_text.specs.Reading.{data_of}
 use Rattle.smpland_state.specs.Names.{value_of}
 use Rattle.sm_driver.specs.Driver.{DriverModel}
+use Rattle.sm_driver.specs.declared.copies.CopiesEffect.{CopiesEffect}
+use Rattle.sm_driver.specs.declared.copies.CopiesEffect.TheVariants as effect
+use Rattle.sm_driver.specs.declared.copies.ToldCopies.{ToldCopies}
 use Rattle.smpland_lines.specs.BadLines.{told_bad}
 use Rattle.smpland_lines.specs.Ids.{line_id}
 use Rattle.smpland_lines.specs.Lines.{Says}
 use Rattle.smpland_lines.specs.Members.{text_member}
-use Rattle.smpland_lines.specs.Refusals.{TellsRefused}
+use Rattle.smpland_lines.specs.Refusals.{TellsRefused, refused_member}
 use Rattle.smpland_lines.specs.declared.bad_line.BadLine.{BadLine}
 use Rattle.smpland_lines.specs.declared.bad_line.BadLine.TheVariants as bad
 use Rattle.smpland_lines.specs.declared.command.LineCommand.{LineCommand}
@@ -31,7 +34,7 @@ use Rattle.smpland_state.specs.Permits.{given_member}
 use Rattle.smpland_state.specs.Restores.{TellsAgain}
 use Rattle.smpland_session.specs.Asked.{IsKnownOver, setup_in_force}
 use Rattle.smpland_session.specs.Begins.{TellsUnder}
-use Rattle.smpland_session.specs.Outcomes.{ignored_word, is_expected, why_ignored}
+use Rattle.smpland_session.specs.Outcomes.{above_want, copies_effect_now, ignored_word, is_expected, why_ignored}
 use Rattle.smpland_session.specs.Questions.{TellsAnswer}
 use Rattle.smpland_session.specs.declared.session.Session.{Session}
 use Rattle.smpland_session.specs.declared.reading.TheConstants.{MOST_BYTES}
@@ -68,6 +71,19 @@ abbrev pub TellsIgnored : DriverModel → Bool → StreamId → ℕ → List Tok
 TellsIgnored d is_reopening id number before after = is_expected is_reopening d id number ≡ false
     → after ≡ before ++ text_member (codes "ignored") (ignored_word (why_ignored is_reopening d id number))
 
+-- ---- copies that are not noted
+
+-- copies of a shard that are not noted are ignored, or refused as more than it wants
+abbrev pub TellsNotNoted : CopiesEffect → Setup → ℕ → List Token → List Token → Type 0
+TellsNotNoted effect.Noted setup shard before after = Unit {0}
+TellsNotNoted effect.Old setup shard before after = after ≡ before ++ text_member (codes "ignored") (codes "old")
+TellsNotNoted effect.AboveWant setup shard before after = after ≡ before ++ refused_member (above_want setup shard)
+
+-- so it is with those of the shard of this name
+abbrev pub TellsNotCopied : DriverModel → Bool → List ℕ → ToldCopies → List Token → List Token → Type 0
+TellsNotCopied d is_reopening name told before after = IfSome (shard_named d.machine.placement.setup name)
+    (λ shard. TellsNotNoted (copies_effect_now is_reopening d shard told) d.machine.placement.setup shard before after)
+
 -- ---- commands
 
 -- a command on a journal that is open is told what it was told before, or that it tells nothing new
@@ -77,6 +93,8 @@ AnswersAgain (driver.Approve server by) o is_reopening before after = TellsAppro
 AnswersAgain (driver.Restore name nonce) o is_reopening before after = TellsRestoredAgain o name.now nonce before after
 AnswersAgain (driver.Answered plan stream number) o is_reopening before after =
     TellsIgnored o.driver is_reopening (record { plan = plan; stream = stream }) number before after
+AnswersAgain (driver.Copied shard journal fence copies) o is_reopening before after =
+    TellsNotCopied o.driver is_reopening shard.now (record { journal = journal; fence = fence; copies = copies }) before after
 AnswersAgain _ o is_reopening before after = Unit {0}
 
 -- So is a command to a session, and a question is told what it asks. Of other commands nothing is said.

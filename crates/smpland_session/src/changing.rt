@@ -6,10 +6,12 @@ use crate::answering::answered;
 use crate::approving::approve;
 use crate::beginning::begin;
 use crate::command_context::CommandContext;
+use crate::copied::{CopiedLine, copied};
 use crate::driver_outcome::DriverOutcome;
 use crate::next_epoch::open_next;
 use crate::restarting::restarted;
 use crate::restoring::restore;
+use sm_driver::ToldCopies;
 use sm_reservation::StreamId;
 use smpland_lines::DriverCommand;
 use smpland_state::JournalState;
@@ -35,5 +37,18 @@ pub fn change(
         DriverCommand::Restarted { permit, base } => Ok(restarted(opened, at, permit, base)),
         DriverCommand::Restore { server, nonce } => restore(opened, at, alloc, server, nonce),
         DriverCommand::NewEpoch => open_next(opened, at, alloc),
+        DriverCommand::Copied {
+            shard,
+            journal,
+            fence,
+            copies,
+        } => {
+            let told = ToldCopies {
+                journal,
+                fence,
+                copies,
+            };
+            Ok(copied(opened, at, CopiedLine { shard, told }))
+        }
     }
 }

@@ -23,15 +23,17 @@ impl Closed {
         ensures { result ≡ why_closed command.entry is_reopening }
     {
         match command {
-            DriverCommand::Restarted { .. } | DriverCommand::Answered { .. } if is_reopening => {
-                Closed::Old
-            }
+            DriverCommand::Restarted { .. }
+            | DriverCommand::Answered { .. }
+            | DriverCommand::Copied { .. }
+                if is_reopening => { Closed::Old }
             DriverCommand::Begin { .. }
             | DriverCommand::Answered { .. }
             | DriverCommand::Approve { .. }
             | DriverCommand::Restarted { .. }
             | DriverCommand::Restore { .. }
-            | DriverCommand::NewEpoch => {
+            | DriverCommand::NewEpoch
+            | DriverCommand::Copied { .. } => {
                 if is_reopening {
                     Closed::Reopening
                 } else {

@@ -1,15 +1,17 @@
 //! The reasons why nothing comes of commands on an open journal.
 ghost use Rattle.std.specs.Prelude.{◌≡◌, ◌++◌, OnOk};
+ghost use Rattle.sm_driver.specs.Copies.{shard_want};
 ghost use Rattle.smpland_lines.specs.Refusals.{TellsRefused, refused_member};
 ghost use Rattle.smpland_session.specs.Begins.{other_plan};
 ghost use Rattle.smpland_session.specs.Declines.{Declines};
-ghost use Rattle.smpland_session.specs.Outcomes.{TellsDecline, ignored_word};
+ghost use Rattle.smpland_session.specs.Outcomes.{TellsDecline, above_want, ignored_word};
 
 use sm_driver::EpochFault;
+use sm_placement::Config;
 use sm_plan_text::TextFault;
 use sm_protocol::BeginFault;
 use sm_reservation::StreamId;
-use sm_server::ServerId;
+use sm_server::{ServerId, ShardId};
 use sm_task_controller::Denied;
 use sm_verifier::Fault;
 use smpland_lines::{
@@ -53,6 +55,8 @@ pub enum Decline {
     OtherPlan(String),
     /// No server has the name.
     UnknownServer,
+    /// No shard has the name.
+    UnknownShard,
     /// The restart of the server is not approved.
     Denied { server: ServerId, why: Denied },
     /// Another server's restart was approved under this name.
@@ -63,17 +67,19 @@ pub enum Decline {
     Engaged { server: ServerId, stream: StreamId },
     /// The next epoch does not open.
     NoEpoch(EpochFault),
+    /// The shard does not want as many copies.
+    AboveWant(ShardId),
     /// A reopening is under way.
     Reopening,
     /// The command tells nothing new.
     Ignored(Ignored),
 }
 
-/// Writes what is wrong with a line.
-fn tell_bad(writer: &mut Writer, alloc: Global, bad: BadLine<'_>) -> Result<(), AllocError>
+/// Writes that nothing has the name that stands in this member of a line.
+fn tell_unknown(writer: &mut Writer, alloc: Global, member: CommandMember) -> Result<(), AllocError>
     ensures { OnOk result (Declines writer.old.tokens writer.new.tokens) }
 {
-    write_bad(writer, alloc, bad)
+    write_bad(writer, alloc, BadLine::UnknownName(LinePart::Line, member))
 }
 
 /// Writes that a stream engages a server.
@@ -122,6 +128,30 @@ fn refuse_other_plan(writer: &mut Writer, alloc: Global, name: &str) -> Result<(
     refuse(writer, alloc, "OtherPlan", &[Field::Name("name", name)])
 }
 
+/// The replicas that a shard wants, none if there is no such shard.
+fn wanted(config: &Config, shard: ShardId) -> u32
+    ensures { result ≡ shard_want config.now shard }
+{
+    match config.shards().get(shard.number() as usize) {
+        Some(shard) => shard.want,
+        None => 0,
+    }
+}
+
+/// Writes that a shard does not want as many copies.
+fn refuse_above_want(
+    writer: &mut Writer,
+    alloc: Global,
+    config: &Config,
+    shard: ShardId,
+) -> Result<(), AllocError>
+    ensures { OnOk result (writer.new.tokens ≡ writer.old.tokens ++ refused_member (above_want config.now shard)) }
+{
+    let want = Field::Number("want", u64::from(wanted(config, shard)));
+    let shard = Field::Name("shard", shard_name(config, shard));
+    refuse(writer, alloc, "AboveWant", &[shard, want])
+}
+
 /// Writes that another server's restart was approved under the name of a command.
 fn refuse_other(
     opened: &JournalState,
@@ -148,7 +178,8 @@ impl Decline {
         alloc: Global,
         writer: &mut Writer,
     ) -> Result<(), AllocError>
-        ensures { OnOk result (TellsDecline self.now writer.old.tokens writer.new.tokens) }
+        ensures { OnOk result (TellsDecline opened.now.driver.machine.placement.setup self.now
+            writer.old.tokens writer.new.tokens) }
     {
         let config = opened.driver.machine().config();
         match self {
@@ -158,10 +189,8 @@ impl Decline {
             Decline::Unchecked(fault) => refuse_check(writer, alloc, fault),
             Decline::NotBegun(fault) => refuse_begin(writer, alloc, config, *fault),
             Decline::OtherPlan(name) => refuse_other_plan(writer, alloc, name.as_str()),
-            Decline::UnknownServer => {
-                let bad = BadLine::UnknownName(LinePart::Line, CommandMember::Server);
-                tell_bad(writer, alloc, bad)
-            }
+            Decline::UnknownServer => tell_unknown(writer, alloc, CommandMember::Server),
+            Decline::UnknownShard => tell_unknown(writer, alloc, CommandMember::Shard),
             Decline::Denied { server, why } => opened.write_denied(alloc, writer, *server, why),
             Decline::OtherServer(at) => refuse_other(opened, alloc, writer, *at),
             Decline::Unsettled(server) => {
@@ -172,6 +201,7 @@ impl Decline {
                 refuse_engaged(writer, alloc, opened.name_of(*server), *stream)
             }
             Decline::NoEpoch(fault) => refuse_epoch(opened, alloc, writer, *fault),
+            Decline::AboveWant(shard) => refuse_above_want(writer, alloc, config, *shard),
             Decline::Reopening => refuse(writer, alloc, "Reopening", &[]),
             Decline::Ignored(why) => write_text(writer, "ignored", why.word()),
         }

@@ -6,7 +6,7 @@ ghost use Rattle.smpland_session.specs.Outcomes.{KnowsServers, TellsOutcome, has
 
 use crate::decline::Decline;
 use sm_reservation::StreamId;
-use sm_server::ServerId;
+use sm_server::{ServerId, ShardId};
 use smpland_lines::{Writer, write_text};
 use smpland_state::{BegunPlan, GivenAt, JournalState};
 use std::alloc::{AllocError, Global};
@@ -47,6 +47,8 @@ pub enum DriverOutcome {
     },
     /// The next epoch has opened.
     NextEpoch,
+    /// The copies of a shard are noted.
+    Copied(ShardId),
     /// Nothing has come of the command.
     Declined(Decline),
 }
@@ -77,7 +79,8 @@ impl DriverOutcome {
             | DriverOutcome::Approved { .. }
             | DriverOutcome::Up(_)
             | DriverOutcome::Restored { .. }
-            | DriverOutcome::NextEpoch => true,
+            | DriverOutcome::NextEpoch
+            | DriverOutcome::Copied(_) => true,
             DriverOutcome::BegunBefore { .. }
             | DriverOutcome::ApprovedBefore(_)
             | DriverOutcome::RestoredBefore { .. }
@@ -115,6 +118,7 @@ impl DriverOutcome {
                 opened.write_told(alloc, writer, *server, *nonce)
             }
             DriverOutcome::NextEpoch => opened.write_opened(alloc, writer),
+            DriverOutcome::Copied(shard) => opened.write_copied(writer, *shard),
             DriverOutcome::Declined(why) => why.write(opened, alloc, writer),
         }
     }

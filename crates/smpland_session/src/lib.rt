@@ -7,6 +7,7 @@ mod beginning;
 mod changing;
 mod closed;
 mod command_context;
+mod copied;
 mod decline;
 mod driver_outcome;
 mod lost;

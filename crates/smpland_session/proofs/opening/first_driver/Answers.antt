@@ -13,4 +13,5 @@ returns-in-Ok-open-clause-asked c =
       permits = c.in-Ok-open.ensures.permits;
       carried = c.in-Ok-open.ensures.carried;
       restores = c.in-Ok-open.ensures.restores;
+      copies = c.in-Ok-open.ensures.copies;
     })
