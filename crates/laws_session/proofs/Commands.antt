@@ -3,17 +3,19 @@ use Rattle.std.proofs.Common.{◌≡◌, ◌∙◌, ℕ, true, false, List, Opti
 use Rattle.std.proofs.lemmas.Slice.Eq.{bytes_eq-Decides}
 use Rattle.serde_json.specs.Data.{Data}
 use Rattle.json_tree.specs.View.{view}
-use Rattle.sm_placement.specs.Setup.{Setup, names_of_servers, names_of_shards, server_named}
+use Rattle.sm_placement.specs.Setup.{Setup, names_of_servers, names_of_shards, server_named, shard_named}
 use Rattle.sm_reservation.specs.declared.stream_id.StreamId.{StreamId}
 use Rattle.sm_plan_code.specs.Plan.{PlanModel}
 use Rattle.sm_plan_text.specs.Reading.{read_plan_data}
 use Rattle.sm_driver.specs.Alike.{AreAlike, EachAlike, GoAlike}
+use Rattle.sm_driver.specs.Copies.{HasNotedCopies}
+use Rattle.sm_driver.specs.declared.copies.ToldCopies.{ToldCopies}
 use Rattle.sm_driver.specs.Driver.{DriverModel, HasApproved, HasBegunPlan, HasRestored}
 use Rattle.smpland_lines.specs.Lines.{Says}
 use Rattle.smpland_lines.specs.declared.command.LineCommand.TheVariants as line
 use Rattle.smpland_lines.specs.declared.command.DriverCommand.{DriverCommand}
 use Rattle.smpland_lines.specs.declared.command.DriverCommand.TheVariants as driver
-use Rattle.smpland_session.specs.Asked.{ApprovesRestartOf, BeginsPlanOf, DoesToDriver, RestoresServerOf, SaysPlan, TakesAnswerOf}
+use Rattle.smpland_session.specs.Asked.{ApprovesRestartOf, BeginsPlanOf, DoesToDriver, NotesCopiesOf, RestoresServerOf, SaysPlan, TakesAnswerOf}
 use Rattle.smpland_session.specs.Changes.{EndsRestart}
 
 -- ---- one value
@@ -58,6 +60,16 @@ restore_alike go name other nonce d e new next names is x y =
     let server = one_server d.machine.placement.setup e.machine.placement.setup name other x.0 y.0 is.setup names x.1 y.1 in
     (go d e is).restored x.0 nonce new next x.2 (subst (λ v. HasRestored v nonce e next) server y.2)
 
+one_shard : (s t : Setup) (name other : List ℕ) (u v : ℕ) → t ≡ s → other ≡ name → shard_named s name ≡ Some u → shard_named t other ≡ Some v → v ≡ u
+one_shard s t name other u v rows names x y =
+    one_value (shard_named s name) u v x (subst₂ (λ (rows : Setup) (n : List ℕ). shard_named rows n ≡ Some v) rows names y)
+
+copied_alike : EachAlike GoAlike → (name other : List ℕ) (told tells : ToldCopies) (d e new next : DriverModel) → other ≡ name → tells.copies ≡ told.copies → AreAlike d e →
+    NotesCopiesOf name told d new → NotesCopiesOf other tells e next → AreAlike new next
+copied_alike go name other told tells d e new next names same is x y =
+    let shard = one_shard d.machine.placement.setup e.machine.placement.setup name other x.0 y.0 is.setup names x.1 y.1 in
+    (go d e is).noted x.0 told.copies new next x.2.2 (subst₂ (λ (s copies : ℕ). HasNotedCopies s copies e next) shard same y.2.2)
+
 -- a stream of a plan
 abbrev stream_of : ℕ → ℕ → StreamId
 stream_of plan stream = record { plan = plan; stream = stream }
@@ -82,4 +94,6 @@ change_alike go value (driver.Restore server nonce) (driver.Restore server2 nonc
     restore_alike go server.now server2.now nonce d e new next (one_value _ _ _ one.1.0 two.1.0) is x
     (subst (λ n. RestoresServerOf server2.now n e next) (one_value _ _ _ one.1.1 two.1.1) y)
 change_alike go value driver.NewEpoch driver.NewEpoch d e new next one two is x y = (go d e is).opened new next x.1 y.1
+change_alike go value (driver.Copied shard journal fence copies) (driver.Copied shard2 journal2 fence2 copies2) d e new next one two is x y =
+    copied_alike go shard.now shard2.now _ _ d e new next (one_value _ _ _ one.1.0 two.1.0) (one_value _ _ _ one.1.3 two.1.3) is x y
 change_alike go value _ _ d e new next one two is x y = apart _ _ (sym one.0 ∙ two.0) refl

@@ -48,6 +48,10 @@ none_carried servers = replicate servers false
 abbrev none_restored : ℕ → List (Option RestoreModel)
 none_restored servers = replicate servers None
 
+-- each shard has 1 copy
+abbrev single_copies : ℕ → List ℕ
+single_copies shards = replicate shards 1
+
 -- a document, a journal and an epoch determine the first driver
 first_alike : (v w : Data) (journal number epoch other : ℕ) (d e : DriverModel) → w ≡ v → number ≡ journal → other ≡ epoch → IsOpenedBy v journal epoch d →
     IsOpenedBy w number other e → AreAlike d e
@@ -66,6 +70,7 @@ first_alike v w journal number epoch other d e values journals epochs x y =
           ∙ sym x.6.permits;
       carried = y.6.carried ∙ ap (λ (m : DocumentModel). none_carried (length m.setup.servers)) same ∙ sym x.6.carried;
       restores = y.6.restores ∙ ap (λ (m : DocumentModel). none_restored (length m.setup.servers)) same ∙ sym x.6.restores;
+      copies = y.6.copies ∙ ap (λ (m : DocumentModel). single_copies (length m.setup.shards)) same ∙ sym x.6.copies;
     }
 
 opens_alike : (v w : Data) (journal number epoch other : ℕ) (o p new next : Option JournalState) → w ≡ v → number ≡ journal → other ≡ epoch → OpensOver v journal epoch o new →
@@ -97,6 +102,7 @@ is_no_opening value document journal epoch (driver.Answered plan stream number) 
 is_no_opening value document journal epoch (driver.Approve server by) one two = absurd (let z = sym one.0 ∙ two.0 in cc)
 is_no_opening value document journal epoch (driver.Restarted permit base) one two = absurd (let z = sym one.0 ∙ two.0 in cc)
 is_no_opening value document journal epoch (driver.Restore server nonce) one two = absurd (let z = sym one.0 ∙ two.0 in cc)
+is_no_opening value document journal epoch (driver.Copied shard told fence copies) one two = absurd (let z = sym one.0 ∙ two.0 in cc)
 is_no_opening value document journal epoch driver.NewEpoch one two = absurd (let z = sym one.0 ∙ two.0 in cc)
 
 -- a word is of a reopening
@@ -117,6 +123,7 @@ driver_word (driver.Approve server by) = refl
 driver_word (driver.Restarted permit base) = refl
 driver_word (driver.Restore server nonce) = refl
 driver_word driver.NewEpoch = refl
+driver_word (driver.Copied shard journal fence copies) = refl
 
 -- a line of a reopening says no other command
 of_one_kind : (value : Data) (c : ReopeningCommand) (k : LineCommand) → Says value (line.Reopening c) → Says value k → is_reopening_word (command_word k) ≡ false → ⊥
@@ -142,7 +149,7 @@ session_alike go value (line.Driver c) (line.Driver k) a b new next members othe
     journal_alike new next (takes_alike go value c k a.opened b.opened new.opened next.opened one two is.drivers x y)
     (ap reopening_under_way tells.1) (ap reopening_under_way told.1)
 session_alike go value (line.Reopening c) (line.Reopening k) a b new next members others more on also one two is si x y tells told =
-    reopening_alike value c k a b new next one two is si x y
+    reopening_alike go value c k a b new next one two is si x y
 session_alike go value (line.Open document journal epoch) (line.Driver k) a b new next members others more on also one two is si x y tells told =
     absurd (is_no_opening value document journal epoch k one two)
 session_alike go value (line.Driver c) (line.Open document journal epoch) a b new next members others more on also one two is si x y tells told =

@@ -10,7 +10,7 @@ use Rattle.laws_session.specs.Alike.{AreDriversAlike, AreOngoingAlike, AreReopen
 -- ---- drivers
 
 driver_itself : (d : DriverModel) → AreAlike d d
-driver_itself d = record { recorded = refl; setup = refl; journal = refl; epoch = refl; fence = refl; permits = refl; carried = refl; restores = refl }
+driver_itself d = record { recorded = refl; setup = refl; journal = refl; epoch = refl; fence = refl; permits = refl; carried = refl; restores = refl; copies = refl }
 
 driver_back : (d e : DriverModel) → AreAlike d e → AreAlike e d
 driver_back d e x = record {
@@ -22,6 +22,7 @@ driver_back d e x = record {
   permits = sym x.permits;
   carried = sym x.carried;
   restores = sym x.restores;
+  copies = sym x.copies;
 }
 
 driver_along : (d e f : DriverModel) → AreAlike d e → AreAlike e f → AreAlike d f
@@ -34,6 +35,7 @@ driver_along d e f x y = record {
   permits = y.permits ∙ x.permits;
   carried = y.carried ∙ x.carried;
   restores = y.restores ∙ x.restores;
+  copies = y.copies ∙ x.copies;
 }
 
 drivers_itself : (o : Option DriverModel) → AreDriversAlike o o
@@ -88,6 +90,7 @@ reopening_itself r = record {
   shards = refl;
   roles = refl;
   permits = refl;
+  kept = refl;
   next = refl;
 }
 
@@ -102,6 +105,7 @@ reopening_back r s x = record {
   shards = sym x.shards;
   roles = sym x.roles;
   permits = sym x.permits;
+  kept = sym x.kept;
   next = sym x.next;
 }
 
@@ -116,6 +120,7 @@ reopening_along r s t x y = record {
   shards = y.shards ∙ x.shards;
   roles = y.roles ∙ x.roles;
   permits = y.permits ∙ x.permits;
+  kept = y.kept ∙ x.kept;
   next = y.next ∙ x.next;
 }
 

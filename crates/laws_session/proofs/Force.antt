@@ -24,6 +24,10 @@ use Rattle.laws_session.proofs.Ongoing.{ap₃}
 abbrev none_restored : ℕ → List (Option RestoreModel)
 none_restored servers = replicate servers None
 
+-- each shard has 1 copy
+abbrev single_copies : ℕ → List ℕ
+single_copies shards = replicate shards 1
+
 -- A driver is determined by the reopening that it comes of.
 pub drivers_come_alike : (r s : ReopeningModel) (d e : DriverModel) → AreReopeningsAlike r s → IsOpenedFrom r d → IsOpenedFrom s e → AreAlike d e
 drivers_come_alike r s d e is x y = record {
@@ -39,6 +43,7 @@ drivers_come_alike r s d e is x y = record {
       ∙ sym a.given;
   carried = b.carried ∙ ap₃ (λ (ms : List Bool) (c : Setup) (w : Place). carried_down ms (length c.servers) w.down) silent setup place ∙ sym a.carried;
   restores = b.restored ∙ ap (λ (c : Setup). none_restored (length c.servers)) setup ∙ sym a.restored;
+  copies = b.copies ∙ ap (λ (c : Setup). single_copies (length c.shards)) setup ∙ sym a.copies;
 }
   where
     p : PlacementModel

@@ -1,6 +1,6 @@
 -- Lines of a reopening that two sessions take which are alike.
 use Rattle.std.proofs.Common.{◌≡◌, ◌∙◌, ◌⊎◌, ◌+◌, ℕ, List, [], ◌∷◌, Option, Some, None, Ok, ap, ap₂, inl, inr, length, option_map, refl, subst, subst₂, sym}
-use Rattle.std.specs.Prelude.{◌++◌, option_and_then}
+use Rattle.std.specs.Prelude.{◌++◌, if◌then◌else◌, is_some, option_and_then}
 use Rattle.std.specs.List.{flat_map}
 use Rattle.std.specs.Option.{option_map_or}
 use Rattle.std.specs.Borrow.{Bor}
@@ -15,8 +15,10 @@ use Rattle.sm_plan_text.specs.Reading.{read_data, rows_of}
 use Rattle.sm_protocol.specs.State.{State}
 use Rattle.laws_network.specs.Reopening.{Reopening}
 use Rattle.laws_network.specs.ReopeningLaws.{AllTook, no_reopening}
+use Rattle.sm_driver.specs.Alike.{EachAlike, GoAlike}
 use Rattle.sm_driver.specs.Driver.{DriverModel, record_of}
 use Rattle.sm_reopening.specs.Ongoing.{net_reopening, recorded_place, recorded_setup}
+use Rattle.smpland_reopening.specs.Kept.{kept_on}
 use Rattle.smpland_reopening.specs.Reopening.{ReopeningModel}
 use Rattle.smpland_lines.specs.Lines.{HasToldMembers, IsFrom, Says}
 use Rattle.smpland_lines.specs.Values.{bits_at, list_at, text_at, whole_at}
@@ -86,38 +88,42 @@ under_stays P Q go None p new next is x y = absurd x
 
 -- ---- reopenings that begin
 
-begins_alike : (lost gone : List (List ℕ)) (v w : Data) (journal number epoch other : Option ℕ) (o p : Option JournalState) (u t after later : Option UnderWay) →
+-- what one keeps that begins in place of another
+kept_alike : (r s : ReopeningModel) → AreReopeningsAlike r s → kept_on s ≡ kept_on r
+kept_alike r s is = ap₂ (λ (n : Reopening) (copies : List ℕ). if is_some n.settlement then [] else copies) is.ongoing.reopening is.kept
+
+begins_alike : EachAlike GoAlike → (lost gone : List (List ℕ)) (v w : Data) (journal number epoch other : Option ℕ) (o p : Option JournalState) (u t after later : Option UnderWay) →
     AreDriversAlike (driver_of o) (driver_of p) → AreUnderAlike (reopening_under_way u) (reopening_under_way t) → gone ≡ lost → w ≡ v → number ≡ journal → other ≡ epoch →
     ReopensWithout lost o u after → ReopensWithout gone p t later → IsUnderDocument v after → IsUnderDocument w later →
     OpensAsNamed journal epoch o u after → OpensAsNamed number other p t later → AreUnderAlike (reopening_under_way after) (reopening_under_way later)
-begins_alike lost gone v w journal number epoch other o p u t None later drivers under names values journals epochs x y document paper named called = absurd document
-begins_alike lost gone v w journal number epoch other o p u t (Some a) None drivers under names values journals epochs x y document paper named called = absurd paper
-begins_alike lost gone v w journal number epoch other o p (Some u) (Some t) (Some a) (Some b) drivers is names values journals epochs x y document paper named called =
+begins_alike go lost gone v w journal number epoch other o p u t None later drivers under names values journals epochs x y document paper named called = absurd document
+begins_alike go lost gone v w journal number epoch other o p u t (Some a) None drivers under names values journals epochs x y document paper named called = absurd paper
+begins_alike go lost gone v w journal number epoch other o p (Some u) (Some t) (Some a) (Some b) drivers is names values journals epochs x y document paper named called =
     let r = u.reopening in
     let s = t.reopening in
     fresh_alike r.numbering s.numbering (recorded_setup r.ongoing) (recorded_setup s.ongoing) (recorded_place r.ongoing) (recorded_place s.ongoing) (net_reopening r.ongoing)
     (net_reopening s.ongoing) lost gone a.reopening b.reopening is.numbering is.ongoing.rest.setup is.ongoing.rest.place is.ongoing.reopening names x.under y.under x.fresh y.fresh
     (y.record_is.same_journal ∙ is.journal ∙ sym x.record_is.same_journal) (y.record_is.next ∙ ap (λ n. n + 1) is.epoch ∙ sym x.record_is.next)
     (one_result (read_data (Some v)) _ _ document (subst (λ (d : Data). read_data (Some d) ≡ Ok (rows_of b.reopening.document)) values paper))
-    (y.record_is.same_permits ∙ is.permits ∙ sym x.record_is.same_permits)
-begins_alike lost gone v w journal number epoch other o p (Some u) None (Some a) (Some b) drivers is names values journals epochs x y document paper named called = absurd is
-begins_alike lost gone v w journal number epoch other o p None (Some t) (Some a) (Some b) drivers is names values journals epochs x y document paper named called = absurd is
-begins_alike lost gone v w journal number epoch other (Some o) (Some p) None None (Some a) (Some b) is under names values journals epochs x y document paper named called =
+    (y.record_is.same_permits ∙ is.permits ∙ sym x.record_is.same_permits) (y.kept ∙ kept_alike r s is ∙ sym x.kept)
+begins_alike go lost gone v w journal number epoch other o p (Some u) None (Some a) (Some b) drivers is names values journals epochs x y document paper named called = absurd is
+begins_alike go lost gone v w journal number epoch other o p None (Some t) (Some a) (Some b) drivers is names values journals epochs x y document paper named called = absurd is
+begins_alike go lost gone v w journal number epoch other (Some o) (Some p) None None (Some a) (Some b) is under names values journals epochs x y document paper named called =
     let c = o.driver.machine.placement.setup in
     let d = p.driver.machine.placement.setup in
     fresh_alike c d c d (record_of o.driver).place (record_of p.driver).place (no_reopening (length c.servers)) (no_reopening (length d.servers)) lost gone a.reopening b.reopening
     is.setup is.setup (ap (λ (z : State). z.place) is.recorded) (ap (λ (z : Setup). no_reopening (length z.servers)) is.setup) names x.under y.under x.fresh y.fresh
     (y.record_is.same_journal ∙ is.journal ∙ sym x.record_is.same_journal) (y.record_is.next ∙ ap (λ n. n + 1) is.epoch ∙ sym x.record_is.next)
     (one_result (read_data (Some v)) _ _ document (subst (λ (d : Data). read_data (Some d) ≡ Ok (rows_of b.reopening.document)) values paper))
-    (y.record_is.same_permits ∙ is.permits ∙ sym x.record_is.same_permits)
-begins_alike lost gone v w journal number epoch other None None None None (Some a) (Some b) is under names values journals epochs x y document paper named called =
+    (y.record_is.same_permits ∙ is.permits ∙ sym x.record_is.same_permits) (y.kept ∙ (go o.driver p.driver is).replies.kept ∙ sym x.kept)
+begins_alike go lost gone v w journal number epoch other None None None None (Some a) (Some b) is under names values journals epochs x y document paper named called =
     fresh_alike (setup_of [] []) (setup_of [] []) (setup_of [] []) (setup_of [] []) _ _ (no_reopening 0) (no_reopening 0) lost gone a.reopening b.reopening
     refl refl refl refl names x.under y.under x.fresh y.fresh
     (one_value journal a.reopening.journal b.reopening.journal named.0 (sym journals ∙ called.0)) (one_value epoch a.reopening.epoch b.reopening.epoch named.1 (sym epochs ∙ called.1))
     (one_result (read_data (Some v)) _ _ document (subst (λ (d : Data). read_data (Some d) ≡ Ok (rows_of b.reopening.document)) values paper))
-    (y.permits ∙ sym x.permits)
-begins_alike lost gone v w journal number epoch other (Some o) None None None (Some a) (Some b) is under names values journals epochs x y document paper named called = absurd is
-begins_alike lost gone v w journal number epoch other None (Some p) None None (Some a) (Some b) is under names values journals epochs x y document paper named called = absurd is
+    (y.permits ∙ sym x.permits) (y.kept ∙ sym x.kept)
+begins_alike go lost gone v w journal number epoch other (Some o) None None None (Some a) (Some b) is under names values journals epochs x y document paper named called = absurd is
+begins_alike go lost gone v w journal number epoch other None (Some p) None None (Some a) (Some b) is under names values journals epochs x y document paper named called = absurd is
 
 -- ---- answers to settles
 
@@ -165,30 +171,30 @@ module _ (P Q : ReopeningModel → ReopeningModel → Type 0) (go : (r s new nex
 -- ---- all of them
 
 -- Lines of a reopening that one value says make sessions that are alike of sessions that are alike.
-pub reopening_alike : (value : Data) (c k : ReopeningCommand) (a b new next : Session) → Says value (line.Reopening c) → Says value (line.Reopening k) → AreSessionsAlike a b →
+pub reopening_alike : EachAlike GoAlike → (value : Data) (c k : ReopeningCommand) (a b new next : Session) → Says value (line.Reopening c) → Says value (line.Reopening k) → AreSessionsAlike a b →
     AreUnderAlike (reopening_under_way b.under_way) (reopening_under_way a.under_way) → DoesToSession (line.Reopening c) a new → DoesToSession (line.Reopening k) b next →
     AreSessionsAlike new next
-reopening_alike value (reopening.Reopen document lost journal epoch) (reopening.Reopen paper gone number other) a b new next one two is si x y = record {
+reopening_alike go value (reopening.Reopen document lost journal epoch) (reopening.Reopen paper gone number other) a b new next one two is si x y = record {
   drivers = drivers_stay a.opened b.opened new.opened next.opened is.drivers x.3 y.3;
-  under = begins_alike (texts_among lost.now) (texts_among gone.now) (view document.now) (view paper.now) journal number epoch other a.opened b.opened a.under_way b.under_way
+  under = begins_alike go (texts_among lost.now) (texts_among gone.now) (view document.now) (view paper.now) journal number epoch other a.opened b.opened a.under_way b.under_way
       new.under_way next.under_way is.drivers is.under (same_texts lost.now gone.now (sym two.1.1 ∙ one.1.1)) (one_value _ _ _ one.1.0 two.1.0)
       (sym two.1.2 ∙ one.1.2) (sym two.1.3 ∙ one.1.3) x.0 y.0 x.1 y.1 x.2 y.2;
 }
-reopening_alike value (reopening.Fenced server base t) (reopening.Fenced other number u) a b new next one two is si x y = record {
+reopening_alike go value (reopening.Fenced server base t) (reopening.Fenced other number u) a b new next one two is si x y = record {
   drivers = drivers_stay a.opened b.opened new.opened next.opened is.drivers x.1 y.1;
   under = under_stays (TakesFenced server base t) (TakesFenced other number u)
       (λ r s m n alike p q. fenced_alike r s alike server other base t u m n (same_server value server other one.1.0 two.1.0) (same_told value t u one.1.2 two.1.2) p
       (subst (λ z. TakesFenced other z u s n) (one_value (whole_at at.Base value) base number one.1.1 two.1.1) q))
       a.under_way b.under_way new.under_way next.under_way is.under x.0 y.0;
 }
-reopening_alike value (reopening.Confirm base cells lost) (reopening.Confirm number others more) a b new next one two is si x y = record {
+reopening_alike go value (reopening.Confirm base cells lost) (reopening.Confirm number others more) a b new next one two is si x y = record {
   drivers = drivers_stay a.opened b.opened new.opened next.opened is.drivers x.1 y.1;
   under = under_stays (ConfirmsAt base cells.now lost.now) (ConfirmsAt number others.now more.now)
       (λ r s m n alike p q. confirmed_alike r s alike base cells.now lost.now others.now more.now m n (sym two.1.1 ∙ one.1.1) p
       (subst (λ z. ConfirmsAt z others.now more.now s n) (one_value (whole_at at.Base value) base number one.1.0 two.1.0) q))
       a.under_way b.under_way new.under_way next.under_way is.under x.0 y.0;
 }
-reopening_alike value (reopening.Settled server base) (reopening.Settled other number) a b new next one two is si x y =
+reopening_alike go value (reopening.Settled server base) (reopening.Settled other number) a b new next one two is si x y =
     let name = same_server value server other one.1.0 two.1.0 in
     let eman = same_server value other server two.1.0 one.1.0 in
     let bases : number ≡ base = one_value (whole_at at.Base value) base number one.1.1 two.1.1 in
@@ -196,4 +202,4 @@ reopening_alike value (reopening.Settled server base) (reopening.Settled other n
     (λ r s m n alike p q. settled_alike r s alike server other base m n name p (subst (λ z. TakesSettledBy other z s n) bases q))
     (λ r s m n alike p q. settled_alike r s alike other server base m n eman (subst (λ z. TakesSettledBy other z r m) bases p) q)
     a b new next is si x y
-reopening_alike value _ _ a b new next one two is si x y = apart _ _ (sym one.0 ∙ two.0) refl
+reopening_alike go value _ _ a b new next one two is si x y = apart _ _ (sym one.0 ∙ two.0) refl

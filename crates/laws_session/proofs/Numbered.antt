@@ -78,8 +78,8 @@ one_numbers names some a b apart x y = same_by_places a b (y.count ∙ sym x.cou
 -- Reopenings are alike that begin over the same, under the same document, without the same servers.
 pub fresh_alike : (m n a b : Setup) (p q : Place) (x y : Reopening) (lost gone : List (List ℕ)) (new next : ReopeningModel) → n ≡ m → b ≡ a → q ≡ p → y ≡ x → gone ≡ lost →
     IsBegunOver x m lost new → IsBegunOver y n gone next → BeginsFresh m a p new → BeginsFresh n b q next →
-    next.journal ≡ new.journal → next.epoch ≡ new.epoch → rows_of next.document ≡ rows_of new.document → next.permits ≡ new.permits → AreReopeningsAlike new next
-fresh_alike m n a b p q x y lost gone new next numbered setup place before names one two fresh also journal epoch document permits = record {
+    next.journal ≡ new.journal → next.epoch ≡ new.epoch → rows_of next.document ≡ rows_of new.document → next.permits ≡ new.permits → next.kept ≡ new.kept → AreReopeningsAlike new next
+fresh_alike m n a b p q x y lost gone new next numbered setup place before names one two fresh also journal epoch document permits kept = record {
   ongoing = record {
     reopening =
         two.reopening
@@ -106,6 +106,7 @@ fresh_alike m n a b p q x y lost gone new next numbered setup place before names
       ∙ ap (λ (d : DocumentModel). roles_by new.numbering new.shards new.servers d.cells) document
       ∙ sym fresh.numbers.roles;
   permits = permits;
+  kept = kept;
   next = ap (option_map settled_of) (also.unconfirmed ∙ sym fresh.unconfirmed);
 }
   where

@@ -253,6 +253,7 @@ stay_alike r s new next is x y same copies one two kept = record {
   shards = y.shards ∙ is.shards ∙ sym x.shards;
   roles = roles_stay s next y.documented two ∙ is.roles ∙ sym (roles_stay r new x.documented one);
   permits = y.permits ∙ is.permits ∙ sym x.permits;
+  kept = y.kept ∙ is.kept ∙ sym x.kept;
   next = kept;
 }
 

@@ -3,10 +3,10 @@ use Rattle.std.proofs.Common.{◌≡◌, refl, sym, ap, ◌∙◌, subst, List, 
 use Rattle.laws_network.specs.Words.{Begin}
 use Rattle.laws_network.specs.Controller.{Approve, Ended, Made, Opened, Restored}
 use Rattle.sm_driver.specs.Driver.{record_of}
-use Rattle.laws_driver.specs.Control.{ApproveRestart, BeginPlan, EndRestart, OpenEpoch, RestoreServer, TakeAnswer, free_steps}
+use Rattle.laws_driver.specs.Control.{ApproveRestart, BeginPlan, EndRestart, NoteCopies, OpenEpoch, RestoreServer, TakeAnswer, free_steps}
 use Rattle.laws_driver.specs.ControlLaws.{AnswersHaveEntries}
 use Rattle.laws_driver.specs.Driven.{AllTurnsFit, Driven, EachDriven, IsDrivenReached, Takes, Turn, TurnFits, after_turn, after_turns}
-use Rattle.smpland_session.specs.Changes.{Approves, Begins, Ends, OpensEpoch, Restores, Takes as Answers}
+use Rattle.smpland_session.specs.Changes.{Approves, Begins, Ends, Notes, OpensEpoch, Restores, Takes as Answers}
 use Rattle.laws_session.specs.Turns.{ChangesAreCommands, ChangesAreTurns}
 
 -- each change is one of a command of the driver
@@ -16,6 +16,7 @@ changes_are_commands answers old new (Answers a) = let es = answers a.0 a.1 old 
 changes_are_commands answers old new (Approves a) = (ApproveRestart a.0, Made (Approve a.0) ∷ [], a.2, (a.1, a.3, refl))
 changes_are_commands answers old new (Ends permit base e) = (EndRestart permit base, Ended e.0 permit ∷ [], tt, (e.0, e.1, refl))
 changes_are_commands answers old new (Restores r) = (RestoreServer r.0 r.1, Restored r.0 r.1 ∷ [], tt, (r.2, refl))
+changes_are_commands answers old new (Notes n) = (NoteCopies n.0 n.1.copies, [], n.2.0, (n.2.2, refl))
 changes_are_commands answers old new (OpensEpoch o) = (OpenEpoch, Opened (record_of old).room ∷ [], tt, (o.1, o.0, refl))
 
 -- ---- turns

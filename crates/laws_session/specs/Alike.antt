@@ -24,7 +24,7 @@ pub record AreOngoingAlike (x y : OngoingReopening) : Type 0 where
   pub copies : told_copies y ≡ told_copies x
   pub rest : IsSameButTold x y
 
--- So they are with what they are under: journal, epoch, rows of the document, numbers, roles and permits. Once a settlement is confirmed, the next
+-- So they are with what they are under: journal, epoch, rows of the document, numbers, roles, permits and kept copies. Once a settlement is confirmed, the next
 -- driver opens with the same setup and the same place.
 pub record AreReopeningsAlike (r s : ReopeningModel) : Type 0 where
   pub ongoing : AreOngoingAlike r.ongoing s.ongoing
@@ -36,6 +36,7 @@ pub record AreReopeningsAlike (r s : ReopeningModel) : Type 0 where
   pub shards : s.shards ≡ r.shards
   pub roles : documented_roles s ≡ documented_roles r
   pub permits : s.permits ≡ r.permits
+  pub kept : s.kept ≡ r.kept
   pub next : option_map settled_of s.next ≡ option_map settled_of r.next
 
 -- Either no reopening is under way in both, or they are alike.
