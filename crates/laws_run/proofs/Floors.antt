@@ -1,5 +1,5 @@
 -- If servers lose their slots only while they are down, and lines are true, only servers that are down have lost theirs.
-use Rattle.std.proofs.Common.{◌≡◌, ◌∙◌, ◌∷◌, ◌++◌, [], ℕ, true, false, Some, None, List, map, sym, ap, subst}
+use Rattle.std.proofs.Common.{◌≡◌, ◌⊎◌, ◌∙◌, ◌∷◌, ◌++◌, [], ℕ, true, false, Some, None, List, inl, inr, map, sym, ap, subst}
 use Rattle.std.specs.Prelude.{reverse}
 use Rattle.std.specs.List.{AllByRecursion}
 use Rattle.sm_reservation.specs.declared.stream_id.StreamId.{StreamId}
@@ -10,10 +10,10 @@ use Rattle.laws_network.specs.Fleet.{End, Fleet, FleetEvent, Forget, controller,
 use Rattle.laws_network.specs.FleetLaws.{EachFleet, FleetIsReached}
 use Rattle.laws_reopening.specs.FloorRules.{AllFollowRules, AreLostDown, FollowsRules, HasFloors, RulesKeepFloors}
 use Rattle.sm_driver.specs.Driver.{DriverModel}
-use Rattle.laws_driver.specs.Control.{ApproveRestart, BeginPlan, Command, EndRestart, IsAnswerEntry, OpenEpoch, RestoreServer, TakeAnswer, Writes, free_steps}
+use Rattle.laws_driver.specs.Control.{ApproveRestart, BeginPlan, Command, EndRestart, IsAnswerEntry, NoteCopies, OpenEpoch, RestoreServer, TakeAnswer, Writes, free_steps}
 use Rattle.laws_driver.specs.Driven.{Driven, Takes, TellsTruth, TurnFits, WritesNothing, driver_setup, with_entries}
 use Rattle.laws_driver.specs.DrivenLaws.{IsFleetDriven}
-use Rattle.laws_driver.proofs.Events.{EntryFits, event_of, last_true, steps, steps_fit}
+use Rattle.laws_driver.proofs.Events.{AreEvents, EntryFits, event_of, last_true, steps, steps_fit}
 use Rattle.laws_driver.proofs.Turns.{goes_fit, written_is}
 use Rattle.laws_session.specs.Replays.{ReplaysAgree}
 use Rattle.laws_run.specs.RunLaws.{AllLoseDown, FloorsHold, LosesDown}
@@ -66,6 +66,7 @@ entries_rule x (ApproveRestart v) new es w so = subst (AllByRecursion (EntryFoll
 entries_rule x (EndRestart permit (Some base)) new es w so = subst (AllByRecursion (EntryFollows x.fleet)) (sym w.2) ((λ given. (so w.0 w.1.permitted).0), tt)
 entries_rule x (EndRestart permit None) new es w so = absurd (let s = w.1.settled in cc)
 entries_rule x (RestoreServer v nonce) new es w so = subst (AllByRecursion (EntryFollows x.fleet)) (sym w.1) (tt, tt)
+entries_rule x (NoteCopies s copies) new es w so = subst (AllByRecursion (EntryFollows x.fleet)) (sym w.1) tt
 entries_rule x OpenEpoch new es w so = subst (AllByRecursion (EntryFollows x.fleet)) (sym w.2) (tt, tt)
 
 -- ---- moments
@@ -79,15 +80,20 @@ module _ (laws : EachFleet FleetIsReached) (agree : ReplaysAgree) (rules : EachF
       (rules (driver_setup x) x.fleet r.0 down (event.0 ∷ steps ids) (event.1, steps_fit (driver_setup x) ids (fleet_comes x.fleet event.0).1)
       (event_follows x e so fits follows, steps_follow ids (fleet_comes x.fleet event.0).1)).0
 
+  -- what is written: nothing, or entries each of which follows the rules
+  by_entries : (x : Driven) → IsFleetDriven x → AreLostDown x.fleet → (es : List JournalEntry) → (es ≡ []) ⊎ AreEvents (driver_setup x) x.fleet es → AllByRecursion (EntryFollows x.fleet) es →
+      AreLostDown (with_entries x.fleet es)
+  by_entries x r down es (inl none) rule = subst (λ (entries : List JournalEntry). AreLostDown (with_entries x.fleet entries)) (sym none) down
+  by_entries x r down es (inr events) rule =
+      let follows = last_true (EntryFollows x.fleet) (free_steps events.streams) events.entry (subst (AllByRecursion (EntryFollows x.fleet)) events.are rule) in
+      subst AreLostDown (ap (λ evs. fleet_run evs x.fleet) (sym events.events_are) ∙ events.run)
+      (by_events x r down events.entry events.streams events.truth events.fits follows)
+
   -- a true command
   by_command : (x : Driven) → IsFleetDriven x → AreLostDown x.fleet → (command : Command) (new : DriverModel) (es : List JournalEntry) → TurnFits x (Takes command new es) → CommandIsTrue x command →
       AreLostDown (with_entries x.fleet es)
   by_command x r down command new es fits so =
-      let events = written_is laws x command new es r fits in
-      let follows = last_true (EntryFollows x.fleet) (free_steps events.streams) events.entry
-      (subst (AllByRecursion (EntryFollows x.fleet)) events.are (entries_rule x command new es fits.1 so)) in
-      subst AreLostDown (ap (λ evs. fleet_run evs x.fleet) (sym events.events_are) ∙ events.run)
-      (by_events x r down events.entry events.streams events.truth events.fits follows)
+      by_entries x r down es (written_is laws x command new es r fits) (entries_rule x command new es fits.1 so)
 
   -- an event of the fleet
   by_event : (x : Driven) → IsFleetDriven x → AreLostDown x.fleet → (e : FleetEvent) → WritesNothing e → FollowsRules x.fleet e → AreLostDown (fleet_comes x.fleet e).1

@@ -103,7 +103,7 @@ by_document opens value journal epoch s o is after has by =
     let setup = by.0.setup in
     let p = opened_place (opening_of by.0) in
     let opening = opens_there o.driver.machine.placement.setup setup p by.0.log (record_of o.driver) by.2 has.5 by.3 in
-    begun opens setup p by.0.log o.driver s opening (record { state = by.3; setup = by.2; permits = by.6.permits; restores = by.6.restores }) by.6.fence
+    begun opens setup p by.0.log o.driver s opening (record { state = by.3; setup = by.2; permits = by.6.permits; restores = by.6.restores; copies = by.6.copies }) by.6.fence
     (ap driver_of is, after)
 
 -- what was opened, and no reopening

@@ -12,7 +12,7 @@ use Rattle.laws_network.specs.Words.{Begin}
 use Rattle.laws_network.specs.Controller.{Answered, Approve, Ended, JournalEntry, Made, Opened as EpochOpened, Restored, Stored}
 use Rattle.laws_network.specs.Fleet.{Fleet}
 use Rattle.sm_driver.specs.Driver.{DriverModel, record_of}
-use Rattle.laws_driver.specs.Control.{ApproveRestart, BeginPlan, Command, EndRestart, IsCallable, IsWritten, OpenEpoch, RestoreServer, TakeAnswer, free_steps}
+use Rattle.laws_driver.specs.Control.{ApproveRestart, BeginPlan, Command, EndRestart, IsCallable, IsWritten, NoteCopies, OpenEpoch, RestoreServer, TakeAnswer, free_steps}
 use Rattle.laws_driver.specs.ControlLaws.{AnswersHaveEntries}
 use Rattle.laws_driver.specs.Driven.{Driven, Takes, TellsTruth, TurnFits}
 use Rattle.smpland_lines.specs.Lines.{Says}
@@ -90,6 +90,14 @@ module _ (answers : AnswersHaveEntries) (text : List ℕ) (value : Data) (is : d
     callable = tt;
     written = (EpochOpened (record_of old.driver).room ∷ [], (h.1, h.0, refl));
   }
+  of_driver (driver.Copied name journal fence copies) says old new h = record {
+    command = NoteCopies h.0 copies;
+    driver = new.driver;
+    after = refl;
+    says = (value, driver.Copied name journal fence copies, is, says, (h.1, refl));
+    callable = h.2.0;
+    written = ([], (h.2.2, refl));
+  }
 
   of_open : (said : DriverCommand) → Says value (line.Driver said) → (old new : Option JournalState) (d : DriverModel) → driver_of old ≡ Some d →
       StaysOpen (DoesToDriver said) old new → IsCommandLine text d new
@@ -150,6 +158,7 @@ true_entries x (TakeAnswer id number) new callable w so = go (next_call_of (reco
 true_entries x (ApproveRestart v) new callable w so = (w.0, (callable, w.1, subst (AllByRecursion (TellsTruth x.fleet)) (sym w.1.2) (tt, tt)))
 true_entries x (EndRestart permit base) new callable w so = (w.0, (tt, w.1, subst (AllByRecursion (TellsTruth x.fleet)) (sym w.1.2) (tt, tt)))
 true_entries x (RestoreServer v nonce) new callable w so = (w.0, (tt, w.1, subst (AllByRecursion (TellsTruth x.fleet)) (sym w.1.1) (so, tt)))
+true_entries x (NoteCopies s copies) new callable w so = (w.0, (callable, w.1, subst (AllByRecursion (TellsTruth x.fleet)) (sym w.1.1) tt))
 true_entries x OpenEpoch new callable w so = (w.0, (tt, w.1, subst (AllByRecursion (TellsTruth x.fleet)) (sym w.1.2) (tt, tt)))
 
 -- ---- lines

@@ -423,4 +423,5 @@ opens_on_kept r d o = record {
   setup = o.opened_over.setup;
   permits = o.opened_over.given;
   restores = o.opened_over.restored;
+  copies = o.opened_over.copies;
 }

@@ -2,7 +2,7 @@
 use Rattle.std.specs.Prelude.{◌≡◌, ℕ, false, List, Option, Some, None}
 use Rattle.serde_json.specs.Data.{Data}
 use Rattle.json_tree.specs.View.{view}
-use Rattle.sm_placement.specs.Setup.{Setup, server_named}
+use Rattle.sm_placement.specs.Setup.{Setup, server_named, shard_named}
 use Rattle.sm_plan_text.specs.Reading.{data_of}
 use Rattle.sm_protocol.specs.Laws.{ServerCall}
 use Rattle.sm_protocol.specs.Next.{next_call_of}
@@ -12,7 +12,7 @@ use Rattle.laws_network.specs.FleetLaws.{HasAskedUnder}
 use Rattle.laws_network.specs.FleetReopening.{IsOneOf}
 use Rattle.sm_driver.specs.Driver.{base, record_of}
 use Rattle.sm_driver.specs.Permits.{server_permitted}
-use Rattle.laws_driver.specs.Control.{ApproveRestart, BeginPlan, Command, EndRestart, OpenEpoch, RestoreServer, TakeAnswer}
+use Rattle.laws_driver.specs.Control.{ApproveRestart, BeginPlan, Command, EndRestart, NoteCopies, OpenEpoch, RestoreServer, TakeAnswer}
 use Rattle.laws_driver.specs.Driven.{Driven, driver_setup}
 use Rattle.smpland_lines.specs.Lines.{Says}
 use Rattle.smpland_lines.specs.declared.command.DriverCommand.{DriverCommand}
@@ -30,6 +30,7 @@ IsCommand setup (driver.Approve name by) (ApproveRestart v) = server_named setup
 IsCommand setup (driver.Restarted told told_base) (EndRestart permit server_base) = (permit ≡ told) × (server_base ≡ told_base)
 IsCommand setup (driver.Restore name told) (RestoreServer v nonce) = (server_named setup name.now ≡ Some v) × (nonce ≡ told)
 IsCommand setup driver.NewEpoch OpenEpoch = Unit {0}
+IsCommand setup (driver.Copied name journal fence told) (NoteCopies s copies) = (shard_named setup name.now ≡ Some s) × (copies ≡ told)
 IsCommand setup _ _ = ⊥
 
 -- the JSON value of a line says this command
@@ -57,7 +58,8 @@ abbrev pub HasBase : Fleet → ℕ → ℕ → Type 0
 HasBase f v number = (has_lost f v ≡ false) × ((f.servers v).base.number ≡ number)
 
 -- What a command tells is so: the answer was given; the server with the permit has its slots and the base; the server has asked under the nonce. A plan
--- that begins, an approval and an epoch tell nothing of servers: of these smpland itself decides.
+-- that begins, an approval and an epoch tell nothing of servers: of these smpland itself decides. Of copies nothing is asked here: whether writes are on
+-- them the servers know, and no law of cells rests on it.
 abbrev pub CommandIsTrue : Driven → Command → Type 0
 CommandIsTrue x (TakeAnswer id number) = AnswerIsGiven x id number (next_call_of (record_of x.driver) id)
 CommandIsTrue x (EndRestart permit (Some number)) = (v : ℕ) → server_permitted x.driver.permits permit ≡ Some v → HasBase x.fleet v number
