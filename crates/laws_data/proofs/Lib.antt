@@ -6,3 +6,4 @@ mod Told
 mod Events
 mod Laws
 mod Plays
+mod Naming

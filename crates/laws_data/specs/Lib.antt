@@ -1,3 +1,4 @@
 pub mod Shard
 pub mod Laws
 pub mod Plays
+pub mod Naming

@@ -1,5 +1,6 @@
 //! The laws.
 ghost use Rattle.laws_data.specs.Laws.{AcknowledgedWritesStay, EnoughHaveThem, GreatestHasAll};
+ghost use Rattle.laws_data.specs.Naming.{UnnamedIsWhole};
 ghost use Rattle.laws_data.specs.Plays.{ComesWithoutPrimary, LeavesWithoutPrimary, OutlivesItsPrimary, SucceedsItsPrimary};
 
 /// States that the primary, if there is one and it has a whole copy, has every write that was ever acknowledged, whatever
@@ -40,4 +41,10 @@ pub fn a_replica_leaves_without_a_primary()
 /// the write.
 pub fn a_replica_comes_without_a_primary()
     ensures { ComesWithoutPrimary }
+{}
+
+/// States that if a reopening does not name a shard whose primary is gone, who inherits it has all acknowledged writes, as
+/// long as no more copies are kept of it than each of them had.
+pub fn unnamed_shards_are_whole()
+    ensures { UnnamedIsWhole }
 {}
