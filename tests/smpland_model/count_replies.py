@@ -32,7 +32,7 @@ ELSEWHERE = {
     ("NotThere", "drain"), ("NoRoom", "drain"), ("Spread", "drain"), ("NoPlace", "moves"),
 }
 REPLIES = {
-    "opened", "begun", "moved", "approved", "ended", "up", "restore", "fence", "waiting", "proposal", "settle", "ignored old",
+    "opened", "begun", "moved", "approved", "ended", "up", "restore", "copied", "fence", "waiting", "proposal", "settle", "ignored old",
     "ignored unknown", "bad", "hello", "orders", "map", "document", "state", "since", "accepted", "plan", "audit agrees", "audit differs",
     "audit ahead", "audit later", "failed audit", "failed restore", "failed reopen", "begun again",
 }

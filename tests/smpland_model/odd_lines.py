@@ -20,7 +20,7 @@ BASE = 2_097_152
 MEMBERS = {
     "open": "document journal epoch", "begin": "plan name", "answered": "plan_number stream number",
     "approve": "server by", "restarted": "permit base", "restore": "server nonce",
-    "reopen": "document lost? why? journal? fence?",
+    "copied": "own_journal heard shard copies", "reopen": "document lost? why? journal? fence?",
     "fenced": "party base slots | party base unknown | party base slots? unknown?",
     "confirm": "base choices lost?", "settled": "party base", "hello": "", "orders": "", "map": "", "document": "",
     "state": "shard? plan_number?", "moves": "moves", "drain": "server", "check": "plan", "since": "place",
@@ -33,7 +33,7 @@ MOVE = "shard from to"
 # How members are written that stand here under names of their own, since they are something else elsewhere.
 WRITTEN = {
     "plan_number": "plan", "party": "server", "choices": "cells", "fence": "epoch", "entry_shard": "shard",
-    "entry_party": "party", "chosen": "cells", "role": "state",
+    "entry_party": "party", "chosen": "cells", "role": "state", "own_journal": "journal", "heard": "fence",
 }
 EXACT = [7, 0, 2**53 - 1, 2**53, -1, 2**64, 1.0, True, "7", None]
 SMALL = [0, 1, 2**32 - 1, 2**32, -1, 0.0, False, [], None]
@@ -51,7 +51,7 @@ VALUES: dict[str, list[Any]] = {
     "why": ["disk", "é" * 2_048, "é" * 2_049, 7, None], "answer": ["old", "not_ready", "Old", "", 7, None],
     "entry_shard": SHARDS, "cell": CELLS, "entry_party": SERVERS, "handover": EXACT, "last": EXACT, "load": SMALL,
     "cut": EXACT, "position": EXACT, "view": EXACT, "reached": [True, False, 0, None],
-    "role": ["primary", "secondary", "absent", 7],
+    "role": ["primary", "secondary", "absent", 7], "own_journal": ["1", *BITS], "heard": [0, *EXACT], "copies": [2, *SMALL],
 }
 
 

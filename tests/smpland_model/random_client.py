@@ -32,6 +32,7 @@ class Profile:
     restarted: float = 0.08
     restore: float = 0.06
     new_epoch: float = 0.04
+    copied: float = 0.05
     reopen: float = 0.05
     ask: float = 0.19
     is_wide: bool = False
@@ -40,6 +41,7 @@ class Profile:
 PROFILES = [
     Profile(), Profile(), Profile(reopen=0.15, begin=0.2), Profile(approve=0.3, restarted=0.2, reopen=0.06),
     Profile(new_epoch=0.2), Profile(is_wide=True, begin=0.8, answered=0.02, approve=0.05, reopen=0.01, ask=0.3),
+    Profile(copied=0.4, reopen=0.15, begin=0.1),
 ]
 
 
@@ -107,7 +109,7 @@ class Client:
             return self.opening()
         if controller.reopening and self.chance(0.8):
             return self.reopenings.line()
-        kinds = ("begin", "answered", "approve", "restarted", "restore", "new_epoch", "reopen", "ask")
+        kinds = ("begin", "answered", "approve", "restarted", "restore", "new_epoch", "copied", "reopen", "ask")
         kind = self.dice.choices(kinds, [getattr(self.profile, it) for it in kinds])[0]
         return getattr(self, kind)()
 
@@ -125,6 +127,19 @@ class Client:
     def new_epoch(self) -> Json:
         """Opens the next epoch; now and then another journal is to be opened."""
         return self.opening() if self.chance(0.1) else {"do": "new_epoch"}
+
+    def copied(self) -> Json:
+        """Says how many copies each write of a shard has: as many as are wanted mostly, or more, or of before."""
+        controller = self.session.controller
+        wants = {it.name: it.want for it in controller.document.shards.values()} if controller.document else {}
+        several = [it for it, want in wants.items() if want > 1]
+        others = list(wants) if wants and self.chance(0.9) else ["s9"]
+        shard = self.dice.choice(several if several and self.chance(0.7) else others)
+        want = wants.get(shard, 2)
+        fence = controller.fence if self.chance(0.9) else self.dice.choice([0, controller.base, controller.fence + 1])
+        journal = controller.journal if controller.journal and self.chance(0.95) else 1
+        copies = self.dice.choice([want, want, want, 2, 2, 3, max(0, want - 1), want + 1])
+        return {"do": "copied", "journal": f"{journal:x}", "fence": fence, "shard": shard, "copies": copies}
 
     def reopen(self) -> Json:
         """Begins a reopening."""

@@ -33,23 +33,34 @@ def with_views(line: Json, dice: random.Random) -> Json:
     return line | {"slots": [it | {"view": dice.choice([7, 7, 7, 8])} for it in line["slots"]]}
 
 
+def copied(journal: int, fence: int, dice: random.Random) -> Json:
+    """Returns that the writes of a shard have copies, which the model does not know."""
+    return {"do": "copied", "journal": f"{journal:x}", "fence": fence, "shard": dice.choice(["s0", "s1"]), "copies": dice.choice([1, 2, 2, 3])}
+
+
 def sessions(seed: int, steps: int) -> Iterator[list[Json]]:
-    """Yields the sessions of a schedule, one for each journal, in which each fifth line is a question."""
+    """Yields the sessions of a schedule, one for each journal, in which each fifth line is a question, and some say how many copies there are."""
     schedule = Schedule(seed, SOUND, steps, ["", *PROFILES][seed % (len(PROFILES) + 1)])
     schedule.run()
     dice = random.Random(seed)
     lines: list[Json] = []
+    journal, fence = 1, 0
     for command, _ in schedule.world.session:
         is_opening = isinstance(command, (commands.Open, commands.Reopen))
         if is_opening and command.journal is not None and lines:
             yield lines
             lines = []
+        if is_opening and command.journal is not None:
+            journal, fence = command.journal, 0
+        fence = command.base if isinstance(command, commands.Settled) else fence
         if is_opening:
             command = replace(command, document=with_own_cells(command.document))
         line = command_json(command)
         lines.append(with_views(line, dice) if "slots" in line else line)
         if dice.random() < 0.2:
             lines.append(dice.choice(QUESTIONS))
+        if dice.random() < 0.05:
+            lines.append(copied(journal, fence, dice))
     yield lines
 
 

@@ -4,6 +4,7 @@ from __future__ import annotations
 import random
 from typing import Any
 
+from driving_model.cells import PRIMARY
 from smpland_model.session import Session
 
 from random_documents import Documents
@@ -47,6 +48,8 @@ class Reopenings:
         self.slots.note_effects()
         names = list(controller.numbering.servers)
         lost = self.dice.sample(names, 1) if len(names) > 1 and self.chance(0.25) else []
+        spared = self.copied_primaries()
+        lost = [self.dice.choice(spared)] if spared and self.chance(0.5) else lost
         lost += ["v8"] if self.chance(0.03) else []
         kept = [] if self.chance(0.1) and not self.is_careful else lost
         told = self.documents.next(document_json(document), self.recorded(), kept, self.is_careful)
@@ -55,6 +58,14 @@ class Reopenings:
         line |= {"why": "a disk is gone"} if self.chance(0.2) else {}
         line |= {"journal": self.dice.choice([f"{controller.journal:x}", "77"])} if self.chance(0.06) else {}
         return line | ({"epoch": self.dice.choice([1, 9])} if self.chance(0.05) else {})
+
+    def copied_primaries(self) -> list[str]:
+        """Returns the primaries of shards each of whose writes has several copies."""
+        controller = self.session.controller
+        if controller.record is None:
+            return []
+        rows = [row for row, copies in zip(controller.record.cells, controller.copies) if copies > 1]
+        return [controller.server_name(it) for row in rows for it, cell in enumerate(row) if cell == PRIMARY]
 
     def recorded(self) -> dict[str, list[Json]]:
         """Returns the cells that are recorded, by shard."""

@@ -11,7 +11,7 @@ import sys
 import unittest
 from collections import Counter
 from collections.abc import Callable
-from dataclasses import dataclass, field
+from dataclasses import dataclass, field, replace
 from typing import Any
 
 from driving_model import commands
@@ -53,6 +53,12 @@ def lowest_number(controller: NamedController) -> int:
     return min((it.number for it in controller.orders()), default=0) if controller.is_open else 0
 
 
+def is_spared(controller: NamedController) -> bool:
+    """Returns whether a reopening names fewer shards as lost than it would if each write had one copy."""
+    reopening = controller.reopening
+    return len(reopening.propose().lost) < len(replace(reopening, kept=()).propose().lost)
+
+
 # What may come of a command that changes something: with the command, and how the line and the controller after it show that.
 SITUATIONS: dict[str, tuple[str, Callable[[Json, Json, NamedController], bool]]] = {
     "plans beside each other": ("begin", lambda line, told, it: unfinished(it) > 1),
@@ -60,6 +66,7 @@ SITUATIONS: dict[str, tuple[str, Callable[[Json, Json, NamedController], bool]]]
     "a plan with a signal": ("begin", lambda line, told, it: bool(line["plan"].get("signals"))),
     "a plan that ends": ("answered", lambda line, told, it: bool(told.get("ended"))),
     "an epoch at rest": ("new_epoch", lambda line, told, it: True),
+    "a shard that is spared its name": ("fenced", lambda line, told, it: "proposal" in told and is_spared(it)),
     "a reopening in force": ("settled", lambda line, told, it: "opened" in told),
     "a server carried over": ("confirm", lambda line, told, it: bool(it.reopening.carried)),
     "a service adopted": ("reopen", lambda line, told, it: it.record is None),

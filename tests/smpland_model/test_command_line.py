@@ -14,7 +14,7 @@ from smplan.control import ASKING
 TOOL = Path(__file__).resolve().parents[2] / "tools" / "smpland_model.py"
 
 # The words of the lines that change something.
-CHANGING = {"open", "begin", "answered", "approve", "restarted", "restore", "new_epoch", "reopen", "fenced", "confirm", "settled"}
+CHANGING = {"open", "begin", "answered", "approve", "restarted", "restore", "new_epoch", "copied", "reopen", "fenced", "confirm", "settled"}
 
 
 class CommandLine(unittest.TestCase):

@@ -12,7 +12,7 @@ from test_planning import service
 # Where faults lie, without the numbers of entries.
 PLACES = {
     "Shape": """
-        $ $.do $.id $.journal $.epoch $.by $.nonce $.server $.shard $.answer $.why $.lost $.lost[] $.unknown
+        $ $.do $.id $.journal $.epoch $.by $.nonce $.server $.shard $.answer $.why $.lost $.lost[] $.unknown $.fence $.copies
         $.moves $.moves[] $.slots $.slots[] $.slots[].shard $.slots[].cell $.slots[].party $.slots[].handover
         $.slots[].reached $.cells $.cells[] $.cells[].shard $.cells[].cells $.cells[].cells[]
         $.cells[].cells[].server $.cells[].cells[].state
@@ -21,7 +21,7 @@ PLACES = {
     "UnknownName": "$.server $.shard $.moves[].from $.cells[].shard $.cells[].cells[].server",
     "TooMany": "$.slots $.lost $.why $.moves",
     "Number": """
-        $.id $.base $.place $.permit $.number $.plan $.epoch
+        $.id $.base $.place $.permit $.number $.plan $.epoch $.fence $.copies
         $.slots[].handover $.slots[].last $.slots[].load $.slots[].cut $.slots[].position $.slots[].view
     """,
 }

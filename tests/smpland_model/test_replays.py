@@ -15,7 +15,7 @@ SEEDS = range(500, 512)
 SPOILT = 10_000
 QUESTIONS = [b'{"do":"state"}', b'{"do":"orders"}', b'{"do":"hello"}', b'{"do":"since","place":0}']
 WORDS = {
-    "opened", "begun", "moved", "approved", "ended", "up", "restore", "fence", "waiting", "proposal", "settle",
+    "opened", "begun", "moved", "approved", "ended", "up", "restore", "copied", "fence", "waiting", "proposal", "settle",
     "ignored", "refused", "bad", "hello", "orders", "map", "document", "state", "since", "audit", "failed", "plan", "accepted",
 }
 
@@ -75,7 +75,7 @@ class Replays(unittest.TestCase):
                     session.reply(as_bytes(line))
             if count >= SPOILT:
                 break
-        for word in ("bad", "refused", "ignored", "begun", "opened"):
+        for word in ("bad", "refused", "ignored", "begun", "opened", "copied"):
             self.assertGreater(coverage[word], 3, coverage)
 
     def spoil(self, session: Session, line: bytes, coverage: Counter[str]) -> int:

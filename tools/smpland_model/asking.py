@@ -178,8 +178,8 @@ class Asking:
         record = self.record
         return {
             "shard": self.writer.shard(number), "load": record.document.loads[number], "live": record.live(number),
-            "floor": record.floors[number], "listed": self.writer.server(record.listed[number]),
-            "version": self.controller.base + record.versions[number],
+            "floor": record.floors[number], "copies": self.controller.copies[number],
+            "listed": self.writer.server(record.listed[number]), "version": self.controller.base + record.versions[number],
             "cells": self.writer.row({it: self.controller.cell(number, it) for it in self.servers()}),
         }
 

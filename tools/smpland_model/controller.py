@@ -11,7 +11,7 @@ from driving_model import commands, replies
 from driving_model.cells import Cell
 from driving_model.controller import Answer, Controller, Named
 from driving_model.decisions import MOST_PLANS
-from driving_model.messages import Inventory, LAST_EPOCH, LONGEST_LOG, MAP, Unknown
+from driving_model.messages import Inventory, LAST_EPOCH, LONGEST_LOG, MAP, Order, Unknown
 from driving_model.plans import CellRight, Hold, Key, Plan, RoomRight, SpareRight, is_amount
 from driving_model.record import Record
 from driving_model.replies import Ignored, Outcome
@@ -69,6 +69,24 @@ class Reopened:
 
 
 @dataclass
+class Copied:
+    """A shard each of whose acknowledged writes is on so many of its replicas, of a journal and since a reopening."""
+
+    shard: str
+    journal: int
+    fence: int
+    copies: int
+
+
+@dataclass
+class Noted:
+    """What is replied once that is noted."""
+
+    shard: str
+    copies: int
+
+
+@dataclass
 class Told:
     """What a server tells of its slots: those of shards of the document, and the others that it has."""
 
@@ -89,6 +107,8 @@ class NamedController(Controller):
         self.names_under_way: frozenset[str] = frozenset()
         # The plans of this epoch that have begun, as they were begun, by their names.
         self.plans_begun: dict[str, documents.Plan] = {}
+        # By shard, on how many of its replicas each acknowledged write surely is.
+        self.copies: list[int] = []
 
     # Names.
 
@@ -110,6 +130,7 @@ class NamedController(Controller):
         self.numbering = Numbering().opened(document)
         outcome = self.open(commands.Open(self.numbering.document(document), journal, epoch))
         self.document, self.start = document, start
+        self.copies = [1] * len(document.shards)
         self.record.listed = self.numbering.listed(document)
         return outcome
 
@@ -273,6 +294,35 @@ class NamedController(Controller):
         self.record.versions = versions
         return outcome
 
+    # Copies.
+
+    def copied(self, command: Copied) -> Outcome:
+        """Notes on how many replicas of a shard each acknowledged write is. The number only rises until a reopening."""
+        if self.reopening:
+            return Outcome(Ignored("old"), has_changed=False)
+        record = self.need_open()
+        shard = self.numbering.shard_numbers[command.shard]
+        is_of_another = (command.journal, command.fence) != (self.journal, self.fence)
+        if is_of_another or command.copies <= self.copies[shard]:
+            return Outcome(Ignored("old"), has_changed=False)
+        want = record.document.wants[shard]
+        if command.copies > want:
+            raise refuse("AboveWant", shard=command.shard, want=want)
+        self.copies[shard] = command.copies
+        return Outcome(Noted(command.shard, command.copies), has_changed=True)
+
+    def is_moving(self, shard: int) -> bool:
+        """Returns whether an order of a shard is present, or a handover of it is recorded: then who has its writes may
+        be other servers than are recorded."""
+        is_ordered = any(isinstance(it, Order) and it.shard == shard for it in self.orders())
+        return is_ordered or any(it.is_in_handover for it in self.record.cells[shard])
+
+    def kept_copies(self) -> tuple[int, ...]:
+        """Returns by shard the copies by which a reopening counts that begins now. Beyond these there is one."""
+        if self.reopening:
+            return () if self.reopening.settles else self.reopening.kept
+        return tuple(1 if self.is_moving(it) else copies for it, copies in enumerate(self.copies))
+
     # Reopening.
 
     def begin_reopening(self, command: Reopened) -> Outcome:
@@ -287,12 +337,13 @@ class NamedController(Controller):
             raise refuse("LostServer", server=kept[0])
         numbering = self.numbering.reopened(command.document)
         lost = frozenset(numbering.server_numbers[it] for it in command.lost if it in numbering.server_numbers)
-        document = numbering.document(command.document)
+        document, kept_copies = numbering.document(command.document), self.kept_copies()
         outcome = self.reopen(commands.Reopen(document, lost, command.journal, command.epoch))
         self.renumber(numbering)
         self.next_document = command.document
         self.names_under_way = known | frozenset(command.document.servers)
-        self.reopening = NamedReopening.of(self.reopening, numbering, numbering.shards_of(command.document))
+        shards = numbering.shards_of(command.document)
+        self.reopening = NamedReopening.of(self.reopening, numbering, shards, kept_copies)
         return outcome
 
     def renumber(self, numbering: Numbering) -> dict[int, int]:
@@ -356,4 +407,4 @@ class NamedController(Controller):
             self.record.permits = {numbers[it]: permit for it, permit in self.record.permits.items()}
         super().put_in_force(reopening)
         self.document, self.next_document = self.next_document, None
-        self.start = Placement(self.document)
+        self.start, self.copies = Placement(self.document), [1] * len(self.document.shards)

@@ -201,6 +201,7 @@ def tables(names: Names) -> dict[str, list[Row]]:
         "restarted": [one("permit", EXACT), one("base", or_null(EXACT))],
         "restore": [server, one("nonce", random_bits)],
         "new_epoch": [],
+        "copied": [one("journal", random_bits), one("fence", EXACT), one("shard", names.shard), one("copies", SMALL)],
         "reopen": [
             one("document", object_here), maybe("lost", names_of(MOST_SERVERS)), maybe("why", reason),
             maybe("journal", random_bits), maybe("epoch", epoch_of_fences),

@@ -57,16 +57,20 @@ def keeps(told: Cell, settled: Cell) -> bool:
 @dataclass(slots=True)
 class NamedReopening(Reopening):
     """A reopening whose servers and shards have names. `shards` are those of the document, and `strays` those that a
-    server told of and nobody knows."""
+    server told of and nobody knows. `kept` has by shard on how many replicas each acknowledged write surely is."""
 
     numbering: Numbering = field(default_factory=Numbering)
     shards: tuple[int, ...] = ()
+    kept: tuple[int, ...] = ()
     strays: dict[int, list[str]] = field(default_factory=dict)
 
     @classmethod
-    def of(cls, reopening: Reopening, numbering: Numbering, shards: tuple[int, ...]) -> NamedReopening:
+    def of(
+        cls, reopening: Reopening, numbering: Numbering, shards: tuple[int, ...], kept: tuple[int, ...],
+    ) -> NamedReopening:
         """Returns a reopening of the model with names."""
-        return cls(*(getattr(reopening, it.name) for it in fields(Reopening)), numbering=numbering, shards=shards)
+        members = (getattr(reopening, it.name) for it in fields(Reopening))
+        return cls(*members, numbering=numbering, shards=shards, kept=kept)
 
     # Who inherits a shard.
 
@@ -176,7 +180,7 @@ class NamedReopening(Reopening):
         has_been = has_been or any(self.may_be_first(shard, it) for it in self.servers)
         return max(standings, default=0) < 2 and (has_been or max(standings, default=0) > 0)
 
-    # What may be lost: a primary may have acknowledged writes alone.
+    # What may be lost: a primary may have acknowledged writes alone, or with others that are gone, too.
 
     def has_no_slots(self, server: int) -> bool:
         """Returns whether a server has its slots no more: it is lost, or Unknown."""
@@ -223,14 +227,32 @@ class NamedReopening(Reopening):
         is_alone = server in self.already_settled or not self.has_lost_settled()
         return self.claim_of(shard, server) > 3 and is_alone
 
+    def tells_whole(self, shard: int, server: int) -> bool:
+        """Returns whether a server has told a whole copy of a shard: of another one it tells view 0 and position 0."""
+        slot = self.told(shard, server)
+        return slot is not None and claim(slot.cell, slot.has_reached_cut) >= 2 and (slot.view, slot.position) > (0, 0)
+
+    def gone_members(self, shard: int) -> int:
+        """Returns how many servers are recorded with something of a shard, and have told no whole copy of it."""
+        members = (it for it in self.servers if self.recorded(shard, it) != ABSENT)
+        return sum(not self.tells_whole(shard, it) for it in members)
+
+    def may_lack_copies(self, shard: int) -> bool:
+        """Returns whether an acknowledged write of a shard may be at none of those that are left: as many as surely had
+        it are gone, or one that may have served is, and has answered, since others may have got writes after they told."""
+        kept = self.kept[shard] if shard < len(self.kept) else 1
+        has_answered = any(self.has_gone(shard, it) and it in self.inventories for it in self.servers)
+        return kept < 2 or kept <= self.gone_members(shard) or has_answered
+
     def is_named_lost(self, shard: int) -> bool:
         """Returns whether the proposal names a shard as lost: no server is left that has all of it; or it has no
-        primary that surely is still one, and one that may have served it is gone."""
+        primary that surely is still one, one that may have served it is gone, and with it may be all copies of a write."""
         if self.is_bare(None, shard, None):
             return True
         best = max((self.claim_of(shard, it) for it in self.servers), default=0)
         is_served = any(self.is_primary_still(shard, it) for it in self.servers)
-        return best >= 2 and not is_served and any(self.has_gone(shard, it) for it in self.servers)
+        has_gone = any(self.has_gone(shard, it) for it in self.servers)
+        return best >= 2 and not is_served and has_gone and self.may_lack_copies(shard)
 
     # What may be settled.
 

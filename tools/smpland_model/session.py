@@ -11,7 +11,7 @@ from driving_model.messages import Inventory, Unknown
 from driving_model.replies import Outcome
 from smpland_model import lines, words
 from smpland_model.asking import Asking
-from smpland_model.controller import Beginning, NamedController, Refusal, Reopened, Told
+from smpland_model.controller import Beginning, Copied, NamedController, Noted, Refusal, Reopened, Told
 from smpland_model.history import History
 from smpland_model.lines import BadLine, Known
 from smpland_model.messages import Writer, hexadecimal
@@ -61,7 +61,8 @@ class Session:
             doers: dict[str, Callable[[Json], Outcome]] = {
                 "open": self.open, "begin": self.begin, "answered": self.answered, "approve": self.approve,
                 "restarted": self.restarted, "restore": self.restore, "new_epoch": self.new_epoch,
-                "reopen": self.reopen, "fenced": self.fenced, "confirm": self.confirm, "settled": self.settled,
+                "copied": self.copied, "reopen": self.reopen, "fenced": self.fenced, "confirm": self.confirm,
+                "settled": self.settled,
             }
             outcome = doers[do](command)
         except Refusal as refusal:
@@ -89,6 +90,7 @@ class Session:
             replies.PermitEnded: lambda it: {"ended": {"server": self.writer.server(it.server), "permit": it.permit}},
             replies.Up: lambda it: {"up": self.writer.server(it.server)},
             replies.Restoring: lambda it: {"restore": self.restored(it, outcome.has_changed)},
+            Noted: lambda it: {"copied": {"shard": it.shard, "copies": it.copies}},
             replies.Fencing: lambda it: {"fence": [self.writer.fence(fence) for fence in it.fences]},
             replies.Waiting: lambda it: {"waiting": self.writer.waiting(it.servers)},
             replies.Proposal: lambda it: {"proposal": self.writer.proposal(it)},
@@ -185,6 +187,11 @@ class Session:
     def new_epoch(self, _command: Json) -> Outcome:
         """Opens the next epoch."""
         return self.controller.new_epoch(commands.NewEpoch())
+
+    def copied(self, command: Json) -> Outcome:
+        """Notes how many replicas surely have each acknowledged write."""
+        journal = int(command["journal"], 16)
+        return self.controller.copied(Copied(command["shard"], journal, command["fence"], command["copies"]))
 
     def reopen(self, command: Json) -> Outcome:
         """Begins a reopening."""
