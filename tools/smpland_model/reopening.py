@@ -239,10 +239,12 @@ class NamedReopening(Reopening):
 
     def may_lack_copies(self, shard: int) -> bool:
         """Returns whether an acknowledged write of a shard may be at none of those that are left: as many as surely had
-        it are gone, or one that may have served is, and has answered, since others may have got writes after they told."""
+        it are gone, or nobody has told a whole copy; or one that may have served is gone, and has answered, since others
+        may have got writes after they told."""
         kept = self.kept[shard] if shard < len(self.kept) else 1
+        is_untold = not any(self.tells_whole(shard, it) for it in self.servers)
         has_answered = any(self.has_gone(shard, it) and it in self.inventories for it in self.servers)
-        return kept < 2 or kept <= self.gone_members(shard) or has_answered
+        return kept < 2 or kept <= self.gone_members(shard) or is_untold or has_answered
 
     def is_named_lost(self, shard: int) -> bool:
         """Returns whether the proposal names a shard as lost: no server is left that has all of it; or it has no
