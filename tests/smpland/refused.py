@@ -19,9 +19,9 @@ Json = dict[str, Any]
 HEAD = b'{"journal":"smpland","format":1}\n'
 QUESTIONS = [b'{"do":"%s"}' % it for it in (b"hello", b"orders", b"map", b"state")]
 # A random client's session that has all kinds of lines that change something within its first lines.
-SEED, LINES = 64, 44
+SEED, LINES = 1334, 40
 # Lines that the client does not write: plans are asked of the program alone, which the reference would ask of smplan.
-PLANNED = [b'{"do":"drain","server":"v6"}', b'{"do":"moves","moves":[{"shard":"s1","from":"v6","to":"v3"}]}']
+PLANNED = [b'{"do":"drain","server":"v1"}', b'{"do":"moves","moves":[{"shard":"s7","from":"v1","to":"v4"}]}']
 ASKED = [
     *QUESTIONS, b'{"do":"since","place":3}', b'{"do":"state","shard":"s1"}', b'{"do":"state","plan":0}',
     b'{"do":"failed","plan":0,"stream":0,"number":1,"answer":"old"}',

@@ -16,6 +16,8 @@ SERVERS = [f"v{it}" for it in range(8)]
 # Servers that have nothing, to be restarted and restored meanwhile.
 IDLE = [f"x{it}" for it in range(3)]
 MOST_UNDER_WAY = 64
+# How many copies there may be of each write of the shard that nobody has.
+MOST_COPIES = 1_000
 
 
 def owner(shard: int, plan: int) -> str:
@@ -33,6 +35,7 @@ def document() -> Json:
         }
         for it in range(STREAMS)
     ]
+    shards.append({"name": "unserved", "load": 1, "want": MOST_COPIES, "cap": MOST_COPIES, "spread": 0, "cells": []})
     return {"limit": 3, "log": 4_096, "servers": servers, "shards": shards}
 
 
@@ -175,8 +178,8 @@ class Run:
         return [self.line("answered", **{it: order[it] for it in ("plan", "stream", "number")})]
 
     def beside(self) -> list[bytes]:
-        """Returns a line about a server that no plan names, or a question."""
-        can = [it for it in ("approve", "restarted", "restore", "hello", "orders", "map") if it in self.does]
+        """Returns a line about a server or a shard that no plan names, or a question."""
+        can = [it for it in ("approve", "restarted", "restore", "copied", "hello", "orders", "map") if it in self.does]
         match self.dice.choice(can):
             case "approve":
                 return [self.line("approve", server=self.dice.choice(IDLE), by=f"by-{len(self.sent)}")]
@@ -185,6 +188,9 @@ class Run:
                 return [self.line("restarted", permit=self.dice.choice(self.permits), base=base)] if self.permits else []
             case "restore":
                 return [self.line("restore", server=self.dice.choice(IDLE), nonce=f"{len(self.sent) + 1:x}")]
+            case "copied":
+                copies = self.dice.randint(1, MOST_COPIES + 10)
+                return [self.line("copied", journal="9f2c", fence=0, shard="unserved", copies=copies)]
             case do:
                 return [self.line(do)]
 
@@ -198,7 +204,7 @@ class Run:
         word = next(iter(reply))
         if word == "bad":
             raise AssertionError(f"{command} is bad: {reply}")
-        if word in ("opened", "begun", "moved", "approved", "up", "restore") and "again" not in reply:
+        if word in ("opened", "begun", "moved", "approved", "up", "restore", "copied") and "again" not in reply:
             self.told.append(command["id"])
         self.is_open = self.is_open or word == "opened" or reply.get("refused", {}).get("kind") == "AlreadyOpened"
         if word == "approved":

@@ -39,9 +39,8 @@ class Profile:
 
 
 PROFILES = [
-    Profile(), Profile(), Profile(reopen=0.15, begin=0.2), Profile(approve=0.3, restarted=0.2, reopen=0.06),
-    Profile(new_epoch=0.2), Profile(is_wide=True, begin=0.8, answered=0.02, approve=0.05, reopen=0.01, ask=0.3),
-    Profile(copied=0.4, reopen=0.15, begin=0.1),
+    Profile(), Profile(copied=0.4, reopen=0.15, begin=0.1), Profile(reopen=0.15, begin=0.2), Profile(approve=0.3, restarted=0.2, reopen=0.06),
+    Profile(new_epoch=0.2), Profile(is_wide=True, begin=0.8, answered=0.02, approve=0.05, copied=0.01, reopen=0.01, ask=0.4),
 ]
 
 
