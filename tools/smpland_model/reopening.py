@@ -79,6 +79,11 @@ class NamedReopening(Reopening):
         """All servers, those that the document leaves out too."""
         return range(len(self.document.rooms))
 
+    @property
+    def recorded_servers(self) -> int:
+        """How many servers are recorded: none without a record, or if it is of a service that has lost all."""
+        return len(self.record.document.rooms) if self.record else 0
+
     def recorded(self, shard: int, server: int) -> Cell:
         """Returns what is recorded of a shard and a server."""
         cells = self.record.cells if self.record else []
@@ -195,9 +200,9 @@ class NamedReopening(Reopening):
         return cell != ABSENT
 
     def may_have_served_any(self, server: int) -> bool:
-        """Returns whether a server may have served any shard: a replaced reopening sent it a settle, or nothing is
+        """Returns whether a server may have served any shard: a replaced reopening sent it a settle, or no server is
         recorded."""
-        return server in self.already_settled or self.record is None
+        return server in self.already_settled or self.recorded_servers == 0
 
     def may_have_order(self, shard: int, server: int) -> bool:
         """Returns whether a server may have had an order for a shard: both are recorded."""
@@ -261,8 +266,7 @@ class NamedReopening(Reopening):
     def is_stranger(self, server: int) -> bool:
         """Returns whether a server is not recorded, and was sent no settle by a replaced reopening: what it has is from
         before it was given up, or of another service."""
-        count = len(self.record.document.rooms) if self.record else 0
-        return 0 < count <= server and server not in self.already_settled
+        return 0 < self.recorded_servers <= server and server not in self.already_settled
 
     def has_to_be_empty(self, server: int) -> bool:
         """Returns whether a server may have nothing: the document leaves it out, or it is a stranger."""
