@@ -17,6 +17,7 @@ from typing import Any, Callable, Dict, List, Optional, Sequence
 from .access import read_certificate, read_token
 from .failure import Failure
 from .server_aside import Aside
+from .server_copied import Copied
 from .server_http import Caller, listen
 from .server_leave import Leaves
 from .server_offers import Offers
@@ -48,17 +49,17 @@ class Limits:
 
 
 class Server:
-    """A server, which takes messages by `answer`, and sends them by `call`."""
+    """A server, which takes messages by `answer`, and sends them by `call`. It acknowledges only what `copies` servers have, itself among them."""
 
     def __init__(self, name: str, service: Service, storage: Storage, controllers: Sequence[str], is_new: bool = False, token: Optional[str] = None,
-                 limits: Limits = Limits(), tls: Optional[ssl.SSLContext] = None, forgets: bool = False) -> None:
+                 limits: Limits = Limits(), tls: Optional[ssl.SSLContext] = None, forgets: bool = False, copies: int = 1) -> None:
         self.name, self.service, self.storage, self.controllers, self.limits = name, service, storage, list(controllers), limits
-        self.token, self.tls = token, tls
+        self.token, self.tls, self.copies = token, tls, copies
         self.changed, self.pool, self.beside = threading.Condition(), ThreadPoolExecutor(64), ThreadPoolExecutor(16)
         self.shards: Dict[str, Live] = {}
         self.call: Callable[[str, Optional[Line], float], Any] = Caller(token).call
         self.offers, self.streams, self.leaves, self.orders = Offers(self), Streams(self), Leaves(self), Orders(self)
-        self.requests, self.whole, self.aside = Requests(self), Whole(self), Aside(self)
+        self.requests, self.whole, self.aside, self.copied = Requests(self), Whole(self), Aside(self), Copied(self)
         with storage.transaction() as tx:
             if is_new and tx.get("frame/base") is None:
                 tx.put("frame/new", "1")
@@ -203,7 +204,7 @@ class Server:
             elif self.name not in self.fleet:
                 raise Failure(f"the fleet's file names no {self.name}")
         rest = self.limits.resting
-        for work, seconds in ((self.streams.keep_up, rest), (self.ask_for_slots, rest), (self.look, 4 * rest)):
+        for work, seconds in ((self.streams.keep_up, rest), (self.ask_for_slots, rest), (self.copied.tell, rest), (self.look, 4 * rest)):
             threading.Thread(target=self.repeat, args=(work, seconds), daemon=True).start()
         listen(self.fleet[self.name]["url"], self.routes, self.token, self.tls)
 
@@ -222,11 +223,13 @@ def main(service: Service, text: str) -> None:
     once = parser.add_mutually_exclusive_group()
     once.add_argument("--new", action="store_true", help="the service is new, and no shard has data yet")
     once.add_argument("--forget", action="store_true", help="the server was given up: it is to be added again, and asks for its slots anew")
+    parser.add_argument("--copies", type=int, default=1, metavar="N", help="acknowledge only what N servers have, the same at all servers of the service (1)")
     parser.add_argument("--token", metavar="FILE", help="the controller's token: all but clients have to show it")
     parser.add_argument("--tls", nargs=2, metavar=("CERT", "KEY"), help="serve by TLS, at an address with https")
     told = parser.parse_args()
     try:
         token, tls = read_token(told.token), read_certificate(told.tls)
-        run(told.name, service, Sqlite(told.store), told.controllers.split(","), is_new=told.new, forgets=told.forget, token=token, tls=tls)
+        run(told.name, service, Sqlite(told.store), told.controllers.split(","), is_new=told.new, forgets=told.forget, token=token, tls=tls,
+            copies=told.copies)
     except Failure as why:
         sys.exit(f"{told.name}: {why}")

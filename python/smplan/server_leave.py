@@ -46,6 +46,8 @@ class Leaves:
             with self.server.changed:
                 link = self.server.streams.link(self.server.live(shard), number)
                 link.left, link.joined = line["question"], link.joined + 1
+        if slot.cell != Cell.SECONDARY and not self.server.streams.has_enough(shard):
+            return {"later": f"fewer than {self.server.copies} others have all"}
         return {"leave": True}
 
     def may_answer(self, shard: str, number: int) -> bool:
@@ -57,8 +59,8 @@ class Leaves:
             return not live.leaving
 
     def take(self, shard: str, line: Line, others: List[int]) -> None:
-        """Gets leave to drop a shard: from its primary, or, if that is this server or nobody, from another one that has all that is here. Who is
-        alone needs none. OSError if nobody gives it."""
+        """Gets leave to drop a shard: from its primary, or, if that is this server or nobody, from as many others that have all that is here as
+        each write has to be at. Who is alone needs none. OSError if nobody gives it."""
         live, question, named = self.server.live(shard), secrets.token_hex(8), line.get("primary")
         if others and named and named not in self.server.numbers:
             raise OSError(f"the primary {named} is not known here")
@@ -81,15 +83,20 @@ class Leaves:
             it = Records(tx)
             if is_beside and not it.has_copy(shard):
                 return LOST.format(shard)
+            if is_beside and self.server.copies > 1 and it.slot(shard).cell != Cell.PRIMARY and it.mark(shard).view > it.heard():
+                return "nobody leads it, and this copy may have writes of a primary since the last reopening"
             line = {"shard": shard, "from": self.server.number, "journal": f"{it.base().journal:x}", "heard": it.heard(),
                     "mark": astuple(it.mark(shard)), "question": question, "beside": is_beside}
-        said = []
+        said, needed = [], self.server.copies if is_beside else 1
         for number in givers:
             try:
                 told = self.server.ask(number, "leave", line, self.server.limits.peer)
             except (OSError, ValueError) as why:
                 told = {"later": str(why)}
             if told.get("leave") is True:
+                needed -= 1
+            else:
+                said.append(f"no leave from {self.server.name_of(number)}: {told.get('later')}")
+            if needed == 0:
                 return ""
-            said.append(f"no leave from {self.server.name_of(number)}: {told.get('later')}")
-        return "; ".join(said)
+        return "; ".join(said) or f"fewer than {self.server.copies} others are named"

@@ -58,7 +58,8 @@ class Link:
 @dataclass
 class Live:
     """A shard in memory. Requests that run belong to a term; if it ends, they are not acknowledged. Writes up to `acknowledged` are at all who are
-    alive. No order that holds requests back begins before `rest_until`. Who is `leaving` asks for leave under this number; `leave` is that of the
+    alive. Once it `is_copied`, enough servers have all that was here when it began to lead; `told` is the last reopening since which a controller
+    knows. No order that holds requests back begins before `rest_until`. Who is `leaving` asks for leave under this number; `leave` is that of the
     question that was answered."""
 
     running: int = 0
@@ -71,11 +72,13 @@ class Live:
     said: str = ""
     rest_until: float = 0.0
     acknowledged: int = 0
+    is_copied: bool = False
+    told: Optional[int] = None
     links: Dict[int, Link] = field(default_factory=dict)
 
     def begin_anew(self) -> None:
         """Forgets what other servers have, since who executes is another one, or may be."""
-        self.acknowledged, self.links = 0, {}
+        self.acknowledged, self.is_copied, self.told, self.links = 0, False, None, {}
         self.stay()
 
     def stay(self) -> None:

@@ -1,4 +1,4 @@
-"""Writes on their way to who follows a shard: a request is acknowledged when all who have to have what it saw have it."""
+"""Writes on their way to who follows a shard: a request is acknowledged when all who have to have what it saw have it, and enough do."""
 from __future__ import annotations
 
 import time
@@ -99,8 +99,13 @@ class Streams:
             it = Records(tx)
             return it.old_owner(shard, it.slot(shard))
 
+    def are_enough(self, told: Dict[int, Told]) -> bool:
+        """Whether as many servers have the writes as each has to be at, this one among them."""
+        return 1 + sum(it == Told.HAS for it in told.values()) >= self.server.copies
+
     def replicate(self, shard: str, place: int, term: int, must: Iterable[int] = ()) -> bool:
-        """Waits until each live server that follows has the writes up to a place, and those that must have them, live or not. Whether they have."""
+        """Waits until each live server that follows has the writes up to a place, enough servers do, and those that must have them, live or not.
+        Whether they have."""
         live, until = self.server.live(shard), time.monotonic() + self.limits.waiting
         while time.monotonic() < until:
             with self.server.changed:
@@ -114,13 +119,21 @@ class Streams:
                 self.release(shard, old)
             if Told.OVERTAKEN in told.values():
                 return False
-            if Told.LACKS not in told.values() and all(told.get(it) == Told.HAS for it in must) and (not old or told.get(old) in RELEASED):
+            has_old = not old or told.get(old) in RELEASED
+            if Told.LACKS not in told.values() and all(told.get(it) == Told.HAS for it in must) and has_old and self.are_enough(told):
                 with self.server.changed:
                     if live.term == term:
                         live.acknowledged = max(live.acknowledged, place)
                     return live.term == term
             time.sleep(0.05)
         return False
+
+    def has_enough(self, shard: str) -> bool:
+        """Whether enough servers that follow, and do not leave, have all that is acknowledged, and that was here when this one began to lead."""
+        with self.server.changed:
+            live = self.server.live(shard)
+            having = 1 + sum(link.counts and link.has >= live.acknowledged for link in live.links.values())
+            return self.server.copies < 2 or (live.is_copied and having >= self.server.copies)
 
     def release(self, shard: str, old: int) -> None:
         """The old owner has dropped the shard."""

@@ -418,6 +418,22 @@ class Frame(Server):
         return {"journal": f"{journal:x}", "base": number, "nonce": None if nonce is None else f"{nonce:x}", "slots": told}
 
 
+class Twice(Frame):
+    """Acknowledges only what two servers have, and keeps what it tells the controllers."""
+
+    def __init__(self, number, peers):
+        super().__init__(number, peers)
+        self.copies, self.controllers, self.lines, self.said = 2, ["http://controller", "http://leader"], [], {"copied": {}}
+
+    def call_peer(self, url, line, seconds):
+        if url == "http://leader/do":
+            self.lines.append(line)
+            return self.said
+        if url.startswith("http://controller"):
+            raise OSError("it does not lead")
+        return super().call_peer(url, line, seconds)
+
+
 class CommitsFirst(Frame):
     """Stores the slot of a new owner first, and copies the data afterwards."""
     def order(self, shard, it):
@@ -988,6 +1004,66 @@ class RulesTest(unittest.TestCase):
         for _, schedule in SCHEDULES:
             with self.subTest(schedule.__name__):
                 schedule(Frame)
+
+    def test_a_write_waits_for_a_second_copy(self):
+        a, b = kv_rules.pair(Twice, Cell.SECONDARY)
+        with kv_rules.lost(b, "follow"):
+            self.assertEqual(kv_rules.push(a, "r1", "x"), Answer.NOT_YET)
+        self.assertEqual((kv_rules.push(a, "r1", "x"), b.value("s", "k")), ("x", "x"))
+
+    def test_copies_are_told_once_they_are_there_and_again_behind_a_reopening(self):
+        a, b = kv_rules.pair(Twice, Cell.SECONDARY)
+        with kv_rules.lost(b, "follow"):
+            kv_rules.push(a, "r1", "x")
+            a.copied.tell()
+        self.assertEqual((a.lines, b.value("s", "k")), ([], ""))
+        for _ in range(2):
+            a.copied.tell()
+            b.copied.tell()
+        line = {"do": "copied", "journal": f"{kv_rules.JOURNAL:x}", "fence": 0, "shard": "s", "copies": 2}
+        self.assertEqual((a.lines, b.lines, b.value("s", "k")), ([line], [], "x"))
+        for server, cell in ((a, Cell.SECONDARY), (b, Cell.PRIMARY)):
+            server.fence(kv_rules.JOURNAL, 100)
+            server.copied.tell()
+            server.settle(kv_rules.JOURNAL, 100, None, {"s": Slot(cell=cell, load=1)})
+        b.said = {"ignored": "old"}
+        for _ in range(2):
+            b.copied.tell()
+        self.assertEqual((a.lines, b.lines), ([line], [{**line, "fence": 100}]))
+
+    def test_copies_that_are_refused_are_told_once(self):
+        a, _ = kv_rules.pair(Twice, Cell.SECONDARY)
+        a.said = {"refused": {"kind": "AboveWant", "shard": "s", "want": 1}}
+        with mock.patch("builtins.print") as told:
+            for _ in range(2):
+                a.copied.tell()
+        self.assertEqual((len(a.lines), "AboveWant" in told.call_args.args[0]), (1, True))
+
+    def test_leave_is_given_once_two_others_have_all(self):
+        a, b = kv_rules.pair(Twice, Cell.SECONDARY)
+        c = Twice(3, a.peers)
+        kv_rules.restore(c, Cell.SECONDARY)
+        drop = kv_rules.order(1, Call.DROP)
+        with kv_rules.lost(c, "follow"):
+            self.assertEqual((kv_rules.push(a, "r1", "x"), kv_rules.answered(b, drop)), ("x", False))
+        for _ in range(2):
+            a.streams.keep_up()
+        self.assertFalse(b.work("s", drop))
+        a.copied.tell()
+        self.assertEqual((b.work("s", drop), b.slot("s").cell, c.value("s", "k")), (True, Cell.ABSENT, "x"))
+
+    def test_without_a_primary_two_others_give_leave(self):
+        a, b = kv_rules.pair(Twice, Cell.SECONDARY)
+        c = Twice(3, a.peers)
+        kv_rules.restore(c, Cell.SECONDARY)
+        a.streams.keep_up()
+        self.assertEqual(kv_rules.push(a, "r1", "x"), "x")
+        self.assertTrue(kv_rules.answered(a, kv_rules.order(1, Call.CHANGE, role=Role.PRIMARY, new_role=Role.SECONDARY)))
+        drop = kv_rules.order(2, Call.DROP)
+        with kv_rules.lost(c, "answer"):
+            self.assertFalse(kv_rules.answered(b, drop))
+        self.assertTrue(b.work("s", drop))
+        self.assertFalse(kv_rules.answered(c, kv_rules.order(3, Call.DROP)))
 
     def test_identities_go_when_they_are_old(self):
         class Soon(Frame):
