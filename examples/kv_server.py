@@ -89,6 +89,13 @@ class Server(Store):
             old = 0
         return is_copied and all(told.get(it) == mine for it in {*named, old} - {0, but})
 
+    def tell_copies(self, shard):
+        """The line for a controller by which a reopening counts: once `copies` replicas have all that is here. None before, or if it does not serve."""
+        base = self.base()
+        if self.copies < 2 or base.fenced or self.slot(shard).cell != Cell.PRIMARY or not self.replicate(shard):
+            return None
+        return {"do": "copied", "journal": f"{base.journal:x}", "fence": self.reopened(), "shard": shard, "copies": self.copies}
+
     # -- orders
 
     def order(self, shard, order, primary=0, replicas=None):

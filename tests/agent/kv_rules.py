@@ -655,6 +655,22 @@ def acknowledged_at_one(kind):
     want_kept(answer, b, c)
 
 
+class TellsAtOnce(Server):
+    """Tells how many copies are asked for before they are there."""
+    def replicate(self, shard, but=0, named=()):
+        return self.copies > 1 or super().replicate(shard, but, named)
+
+
+def copies_told_at_one(kind):
+    """What was there when one copy was asked for is at the primary alone, and two copies are told: a reopening would name nothing."""
+    a, b, c = three(kind)
+    with lost(b, "pull"), lost(c, "pull"):
+        push(a, "r1", "x")
+        a.copies = 2
+        want(a.tell_copies(SHARD), None)
+    want((a.tell_copies(SHARD)["copies"], b.tell_copies(SHARD), b.value(SHARD, "k")), (2, None, "x"))
+
+
 class CountsTheGivenUp(Server):
     """Counts a server that was given up, and goes on to follow."""
     def reopened(self):
@@ -765,7 +781,7 @@ RULES = ((CommitsFirst, crash_amid_copy), (KeepsTheRest, late_after_settle), (Fo
          (BeginsBeside, first_primary_beside_a_secondary), (BeginsLater, first_primary_and_an_empty_secondary),
          (KeepsWork, crash_and_repeat), (DeletesAtDrop, late_order), (ComesBackEmpty, lost_state),
          (KeepsItsNonce, given_up), (TakesWhatItLost, lost_disk), (AcknowledgesAlone, lost_for_good), (AsksForOne, acknowledged_at_one),
-         (CountsTheGivenUp, given_up_and_counted), (SendsFirst, crash_with_a_write_sent), (ShowsAtOnce, read_of_what_is_lost),
+         (TellsAtOnce, copies_told_at_one), (CountsTheGivenUp, given_up_and_counted), (SendsFirst, crash_with_a_write_sent), (ShowsAtOnce, read_of_what_is_lost),
          (ForgetsTheOldOwner, old_owner_is_down), (ForgetsAtLeave, killed_behind_leave))
 
 
