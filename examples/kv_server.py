@@ -185,6 +185,8 @@ class Server(Store):
         primary, others = self.replicas(shard)
         if not others:
             return True
+        if self.copies > 1 and not primary and (self.mark(shard) or ToldCopy(0, 0)).view > self.reopened():
+            return False  # (an old message names no primary: there may be one since, with writes that are here)
         number, mark, given = self.questions.setdefault(shard, (secrets.randbits(63), self.mark(shard), {}))
         for it in [primary] if primary in others else others:
             self.ask(it, "give_leave", shard, self.number, number, mark)
