@@ -15,8 +15,9 @@ func Main(service Service) {
 	token := flag.String("token", "", "the file of the controller's token: all but clients have to show it")
 	cert := flag.String("cert", "", "the file of a certificate: serve by TLS, at an address with https")
 	key := flag.String("key", "", "the file of its key")
+	copies := flag.Int("copies", 1, "acknowledge only what so many servers have, the same at all servers of the service")
 	flag.Usage = func() {
-		fmt.Fprintf(flag.CommandLine.Output(), "%s [-new | -forget] [-token FILE] [-cert FILE -key FILE] NAME CONTROLLERS STORE\n", os.Args[0])
+		fmt.Fprintf(flag.CommandLine.Output(), "%s [-new | -forget] [-copies N] [-token FILE] [-cert FILE -key FILE] NAME CONTROLLERS STORE\n", os.Args[0])
 		flag.PrintDefaults()
 	}
 	if flag.Parse(); flag.NArg() != 3 || *isNew && *forgets {
@@ -24,7 +25,7 @@ func Main(service Service) {
 		os.Exit(2)
 	}
 	settings := Settings{Name: flag.Arg(0), Controllers: strings.Split(flag.Arg(1), ","), IsNew: *isNew, Forgets: *forgets, Token: tokenIn(*token),
-		Cert: *cert, Key: *key}
+		Cert: *cert, Key: *key, Copies: *copies}
 	store, err := OpenFile(flag.Arg(2))
 	if err != nil {
 		log.Fatal(err)

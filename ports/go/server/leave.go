@@ -56,6 +56,9 @@ func (it *Server) leaveGiven(line leaveLine) (any, error) {
 				link := live.link(line.From)
 				link.left, link.joined = line.Question, link.joined+1
 			})
+			if slot.Cell.Kind != smplan.Secondary && !it.hasEnough(line.Shard) {
+				answer = leftLine{Later: fmt.Sprintf("fewer than %d others have all", it.Copies)}
+			}
 		}
 		return nil
 	})
@@ -74,8 +77,8 @@ func (it *Server) mayAnswer(line leaveLine) (stays bool) {
 	return stays
 }
 
-// takeLeave gets leave to drop a shard: from its primary, or, if that is this server or nobody, from another one that has all that is here. Who is
-// alone needs none.
+// takeLeave gets leave to drop a shard: from its primary, or, if that is this server or nobody, from as many others that have all that is here as
+// each write has to be at. Who is alone needs none.
 func (it *Server) takeLeave(line orderLine, others []uint32) error {
 	question, givers, isBeside := fmt.Sprintf("%x", nonce()), others, true
 	if line.Primary != nil && *line.Primary != it.Name {
@@ -103,22 +106,32 @@ func (it *Server) askLeave(shard, question string, isBeside bool, givers []uint3
 		if isBeside && !kept.hasCopy(shard) {
 			return errors.New(lostCopy(shard))
 		}
+		if isBeside && it.Copies > 1 && kept.slot(shard).Cell.Kind != smplan.Primary && kept.mark(shard).View > kept.heard() {
+			return errors.New("nobody leads it, and this copy may have writes of a primary since the last reopening")
+		}
 		line = leaveLine{shard, it.number(), fmt.Sprintf("%x", kept.base().Journal), kept.heard(), kept.mark(shard), question, isBeside}
 		return nil
 	})
 	if err != nil {
 		return err
 	}
-	said := []string{}
+	said, needed := []string{}, 1
+	if isBeside && it.Copies > 1 {
+		needed = it.Copies
+	}
 	for _, number := range givers {
 		var told leftLine
 		if err := it.ask(number, "leave", line, &told, it.Limits.Peer); err != nil {
 			told.Later = err.Error()
 		}
 		if told.Leave {
+			needed--
+		} else {
+			said = append(said, fmt.Sprintf("no leave from %s: %s", it.nameOf(number), told.Later))
+		}
+		if needed == 0 {
 			return nil
 		}
-		said = append(said, fmt.Sprintf("no leave from %s: %s", it.nameOf(number), told.Later))
 	}
-	return fmt.Errorf("%s", strings.Join(said, "; "))
+	return fmt.Errorf("fewer than %d others give leave; %s", it.Copies, strings.Join(said, "; "))
 }

@@ -38,7 +38,8 @@ type Limits struct{ Answering, Working, Waiting, Peer, Fencing, Resting, Keeping
 var DefaultLimits = Limits{time.Second, 30 * time.Second, 3 * time.Second, 3 * time.Second, 2 * time.Second, time.Second / 2, time.Hour}
 
 // Settings are what a server is begun with. IsNew: the service is new, so that no shard has data yet. Forgets: it was given up, and turns Unknown.
-// Token is the controller's, which all but clients have to show. Cert and Key are files: with them it serves by TLS.
+// Token is the controller's, which all but clients have to show. Cert and Key are files: with them it serves by TLS. It acknowledges only what Copies
+// servers have, itself among them.
 type Settings struct {
 	Name        string
 	Controllers []string
@@ -46,6 +47,7 @@ type Settings struct {
 	Forgets     bool
 	Token       string
 	Cert, Key   string
+	Copies      int
 	Limits      Limits
 }
 
@@ -63,7 +65,8 @@ type link struct {
 }
 
 // live is a shard in memory. Requests that run belong to a term; if it ends, they are not acknowledged. Writes up to acknowledged are at all who
-// are alive. No order that holds requests back begins before restUntil. Who is leaving asks for leave under this number; leave is that of the
+// are alive. Once it isCopied, enough servers have all that was here when it began to lead; told is the last reopening since which a controller
+// knows. No order that holds requests back begins before restUntil. Who is leaving asks for leave under this number; leave is that of the
 // question that was answered.
 type live struct {
 	running      int
@@ -76,12 +79,14 @@ type live struct {
 	said         string
 	restUntil    time.Time
 	acknowledged uint64
+	isCopied     bool
+	told         *uint64
 	links        map[uint32]*link
 }
 
 // beginAnew forgets what other servers have, since who executes is another one, or may be.
 func (it *live) beginAnew() {
-	it.acknowledged, it.links = 0, map[uint32]*link{}
+	it.acknowledged, it.isCopied, it.told, it.links = 0, false, nil, map[uint32]*link{}
 	it.stay()
 }
 
@@ -248,6 +253,7 @@ func (it *Server) Run() error {
 	}
 	go repeat(it.pushAll, it.Limits.Resting)
 	go repeat(it.askForSlots, it.Limits.Resting)
+	go repeat(it.tellCopies, it.Limits.Resting)
 	go repeat(func() { it.look() }, 4*it.Limits.Resting)
 	return it.listen(it.members()[it.Name].URL)
 }

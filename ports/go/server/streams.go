@@ -127,8 +127,19 @@ func (it *Server) round(shard string, position uint64, must map[uint32]bool) map
 	return said
 }
 
-// replicate waits until each live server that follows has the writes up to a place, and those that must have them, live or not; and returns
-// whether they have.
+// areEnough returns whether as many servers have the writes as each has to be at, this one among them.
+func (it *Server) areEnough(said map[uint32]told) bool {
+	having := 1
+	for _, one := range said {
+		if one == hasAll {
+			having++
+		}
+	}
+	return having >= it.Copies
+}
+
+// replicate waits until each live server that follows has the writes up to a place, enough servers do, and those that must have them, live or not;
+// and returns whether they have.
 func (it *Server) replicate(shard string, position uint64, term int, others []uint32) bool {
 	for until := time.Now().Add(it.Limits.Waiting); time.Now().Before(until); time.Sleep(50 * time.Millisecond) {
 		isOver, isDone := false, false
@@ -153,7 +164,7 @@ func (it *Server) replicate(shard string, position uint64, term int, others []ui
 		}
 		if all, isOvertaken := have(said, must); isOvertaken {
 			return false
-		} else if all {
+		} else if all && it.areEnough(said) {
 			it.with(shard, func(live *live) {
 				isOver = live.term != term
 				if !isOver && live.acknowledged < position {
