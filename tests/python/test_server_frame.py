@@ -99,12 +99,14 @@ class Client(threading.Thread):
 
 
 class Fleet:
-    """A controller, and servers a, b and c in Python and g in Go, which are processes. With a secret they have a token and TLS."""
+    """A controller, and servers a, b and c in Python and g in Go, which are processes, and acknowledge only what two of them have. With a secret they
+    have a token and TLS."""
 
     def __init__(self, folder, has_go, has_secret=False):
         self.folder, self.running, self.has_go = pathlib.Path(folder), {}, has_go
         self.dice, self.environment = random.Random(7), ENVIRONMENT
-        self.token, self.words, self.go_words, self.context = None, (), (), None
+        self.token, self.words, self.context = None, (), None
+        self.copies, self.go_words = ("--copies", "2"), ("-copies", "2")
         if has_secret:
             self.make_secret()
         port, *ports = free_ports(5)
@@ -124,7 +126,7 @@ class Fleet:
         subprocess.run(["openssl", "req", "-x509", "-newkey", "ec", "-pkeyopt", "ec_paramgen_curve:prime256v1", "-nodes", "-keyout", key, "-out", cert, "-subj", "/CN=kv",
                         "-addext", "subjectAltName=IP:127.0.0.1", "-days", "1"], check=True, capture_output=True)
         self.token, self.context = token.read_text(), ssl.create_default_context(cafile=str(cert))
-        self.words, self.go_words = ("--token", token, "--tls", cert, key), ("-token", token, "-cert", cert, "-key", key)
+        self.words, self.go_words = ("--token", token, "--tls", cert, key), (*self.go_words, "-token", token, "-cert", cert, "-key", key)
         self.environment = {**ENVIRONMENT, "SSL_CERT_FILE": str(cert)}
 
     def ask(self, url, line=None, token=""):
@@ -147,7 +149,7 @@ class Fleet:
         if is_go:
             self.start(name, self.folder / "kv", *words, *self.go_words, name, self.controller, f"{name}.store")
         else:
-            self.start(name, sys.executable, ROOT / "examples/kv_http.py", *(f"-{it}" for it in words), *self.words, name, self.controller, f"{name}.store")
+            self.start(name, sys.executable, ROOT / "examples/kv_http.py", *(f"-{it}" for it in words), *self.words, *self.copies, name, self.controller, f"{name}.store")
 
     def kill(self, name):
         self.running[name].send_signal(signal.SIGKILL)
@@ -204,6 +206,10 @@ class Fleet:
         """The views of all copies."""
         return {it["view"] for url in self.urls.values() for it in self.ask(f"{url}/slots")["slots"]}
 
+    def noted(self):
+        """How many copies of the shard are noted."""
+        return self.ask(f"{self.controller}/ask", {"do": "state", "shard": "s"})["state"]["shard"]["copies"]
+
     def end(self):
         for it in self.running.values():
             it.kill()
@@ -237,6 +243,7 @@ class FleetTest(unittest.TestCase):
             fleet.start_server(it, "-new")
         for it in "abcg":
             fleet.until(lambda it=it: fleet.is_up(it), it)
+        fleet.until(lambda: fleet.noted() == 2, "two copies")
         return fleet
 
     @unittest.skipUnless(shutil.which("openssl"), "there is no openssl")
