@@ -206,6 +206,10 @@ class Fleet:
         """The views of all copies."""
         return {it["view"] for url in self.urls.values() for it in self.ask(f"{url}/slots")["slots"]}
 
+    def reopen(self, *words):
+        """Gives servers up by a command."""
+        return subprocess.run([sys.executable, "-m", "smplan.control_commands", "reopen", *words, "--controller", self.controller], capture_output=True, text=True, check=False, cwd=self.folder, env=self.environment, timeout=120)
+
     def noted(self):
         """How many copies of the shard are noted."""
         return self.ask(f"{self.controller}/ask", {"do": "state", "shard": "s"})["state"]["shard"]["copies"]
@@ -246,6 +250,19 @@ class FleetTest(unittest.TestCase):
         fleet.until(lambda: fleet.noted() == 2, "two copies")
         return fleet
 
+    def end_clients(self, fleet, clients):
+        """All that was acknowledged is there once, in its order."""
+        for it in clients:
+            it.is_over = True
+            it.join(20)
+        values = {it.key: None for it in clients}
+        for key in values:
+            fleet.until(lambda key=key: values.update({key: fleet.request(None, ["get", key])}) or values[key] is not None, key)
+        for it in clients:
+            self.assertIsNone(it.fault)
+            self.assertGreater(len(it.words), 5)
+            self.assertIn(values[it.key].removeprefix("".join(it.words)), ("", f"<{len(it.words) + 1}>"))
+
     @unittest.skipUnless(shutil.which("openssl"), "there is no openssl")
     def test_servers_by_tls_ask_for_the_token_but_not_of_clients(self):
         fleet = self.begin(has_secret=True)
@@ -275,6 +292,20 @@ class FleetTest(unittest.TestCase):
         for url, token, tls in (("http://10.0.0.1:9300", "0123456789abcdef", None), ("http://[::1]:9300", None, None), ("https://localhost", None, 1)):
             refuse(urlsplit(url), token, tls)
 
+    def test_a_primary_is_lost_whose_writes_two_servers_have_and_nothing_is_named(self):
+        fleet = self.begin()
+        clients = [Client(fleet, it) for it in range(3)]
+        for it in clients:
+            it.start()
+        time.sleep(1.0)
+        fleet.kill("a")
+        for it in fleet.folder.glob("a.store*"):
+            it.unlink()
+        told = fleet.reopen("--lost", "a", "--yes")
+        self.assertEqual(told.returncode, 0, told.stdout + told.stderr)
+        fleet.until(lambda: fleet.listed() != "a" and fleet.noted() == 2, "two copies again")
+        self.end_clients(fleet, clients)
+
     def test_a_shard_moves_between_python_and_go_under_harm(self):
         fleet = self.begin()
         clients = [Client(fleet, it) for it in range(3)]
@@ -298,16 +329,7 @@ class FleetTest(unittest.TestCase):
         for name in "cbg":
             fleet.until(lambda name=name: fleet.is_up(name), f"{name} is restored")
         fleet.move("again", "a", "g")
-        for it in clients:
-            it.is_over = True
-            it.join(20)
-        values = {it.key: None for it in clients}
-        for key in values:
-            fleet.until(lambda key=key: values.update({key: fleet.request(None, ["get", key])}) or values[key] is not None, key)
-        for it in clients:
-            self.assertIsNone(it.fault)
-            self.assertGreater(len(it.words), 5)
-            self.assertIn(values[it.key].removeprefix("".join(it.words)), ("", f"<{len(it.words) + 1}>"))
+        self.end_clients(fleet, clients)
         position = fleet.marks()["g"]["s"][1]
         wanted = {"a": {}, "b": {"s": ("secondary", position)}, "c": {"s": ("secondary", position)}, "g": {"s": ("primary", position)}}
         fleet.until(lambda: fleet.marks() == wanted, f"{wanted}, and not {fleet.marks()}", 10)
