@@ -29,7 +29,9 @@ pub enum RecoverFault {
 impl From<AllocError> for RecoverFault {
     ghost from_gives = { λ _ why. why ≡ NoMemory };
 
-    fn from(_refused: AllocError) -> RecoverFault {
+    fn from(_refused: AllocError) -> RecoverFault
+        ensures { result ≡ RecoverFault.NoMemory }
+    {
         RecoverFault::NoMemory
     }
 }
@@ -37,7 +39,9 @@ impl From<AllocError> for RecoverFault {
 impl From<StoreFault> for RecoverFault {
     ghost from_gives = { λ fault why. why ≡ recover_fault_of fault };
 
-    fn from(fault: StoreFault) -> RecoverFault {
+    fn from(fault: StoreFault) -> RecoverFault
+        ensures { result ≡ recover_fault_of fault }
+    {
         match fault {
             StoreFault::NoMemory => RecoverFault::NoMemory,
             StoreFault::Failed(failure) => RecoverFault::Failed(failure),
@@ -61,7 +65,9 @@ pub enum ServeFault {
 impl From<AllocError> for ServeFault {
     ghost from_gives = { λ _ why. why ≡ NoneLeft };
 
-    fn from(_refused: AllocError) -> ServeFault {
+    fn from(_refused: AllocError) -> ServeFault
+        ensures { result ≡ ServeFault.NoMemory }
+    {
         ServeFault::NoMemory
     }
 }
@@ -69,7 +75,9 @@ impl From<AllocError> for ServeFault {
 impl From<StoreFault> for ServeFault {
     ghost from_gives = { λ fault why. why ≡ serve_fault_of fault };
 
-    fn from(fault: StoreFault) -> ServeFault {
+    fn from(fault: StoreFault) -> ServeFault
+        ensures { result ≡ serve_fault_of fault }
+    {
         match fault {
             StoreFault::NoMemory => ServeFault::NoMemory,
             StoreFault::Failed(failure) => ServeFault::NotKept(failure),

@@ -5,10 +5,12 @@ ghost use Rattle.journal_lines.specs.Journal.{journal_of, HasBatches, RecoversTo
 ghost use Rattle.journal_lines.specs.Reading.{Reads};
 ghost use Rattle.journal_store.specs.Store.{written_now, IsSynced};
 ghost use Rattle.journal_serve.specs.Journal.{IsOnDisk};
+ghost use Rattle.journal_serve.specs.Faults.{IsTooLong};
 ghost use Rattle.journal_serve.specs.Pieces.{IsOneLine};
 ghost use Rattle.journal_serve.specs.Trace.{ReplaysCommands};
 ghost use Rattle.journal_serve.specs.Session.{commands_of};
-ghost use Rattle.journal_serve.specs.Recovery.{KeepsJournal, IsUnfit, StartsAs, ComesNext, IsFront, WasRead, HasReplayed};
+ghost use Rattle.journal_serve.specs.Recovery.{KeepsJournal, IsUnfit, StartsAs, ComesNext, IsFront, WasRead};
+ghost use Rattle.journal_serve.specs.Recovery.{HasReplayed};
 
 use crate::applies::Applies;
 use crate::fault::RecoverFault;
@@ -35,8 +37,10 @@ enum Beginning {
     NotBegun,
 }
 
-/// Returns what is said of a journal that is too long to be read.
-fn too_long() -> StoreFailure {
+/// The failure of a journal that is too long to be read.
+fn too_long() -> StoreFailure
+    ensures { IsTooLong result }
+{
     StoreFailure::Read {
         cause: io::Error::from(ErrorKind::FileTooLarge),
     }
@@ -44,7 +48,8 @@ fn too_long() -> StoreFailure {
 
 /// Reads from a place on. It finds nothing only at the end or behind it.
 fn read_at<S: Store>(alloc: Global, store: &mut S, at: u64) -> Result<Vec<u8>, StoreFault>
-    ensures next { S.keeps_word store.old → IfOk result (λ bytes. ComesNext (written_now S.moment S.written_at store.old) at bytes.items) }
+    ensures next { S.keeps_word store.old → IfOk result
+        (λ bytes. ComesNext (written_now S.moment S.written_at store.old) at bytes.items) }
     ensures short { IfOk result (λ bytes. length bytes.items ≤ 65536) }
     ensures read { S.keeps_word store.old → WasRead S.moment S.written_at S.left_at store.old store.new }
     ensures word { S.keeps_word store.old → OnOk result (S.keeps_word store.new) }
@@ -57,7 +62,8 @@ fn read_at<S: Store>(alloc: Global, store: &mut S, at: u64) -> Result<Vec<u8>, S
 
 /// Reads the front of a store: all of it, or more than `most` bytes.
 fn read_front<S: Store>(alloc: Global, store: &mut S, most: usize) -> Result<Vec<u8>, StoreFault>
-    ensures front { S.keeps_word store.old → IfOk result (λ text. IsFront (written_now S.moment S.written_at store.old) most text.items) }
+    ensures front { S.keeps_word store.old → IfOk result
+        (λ text. IsFront (written_now S.moment S.written_at store.old) most text.items) }
     ensures read { S.keeps_word store.old → WasRead S.moment S.written_at S.left_at store.old store.new }
     ensures word { S.keeps_word store.old → OnOk result (S.keeps_word store.new) }
 {
@@ -97,8 +103,11 @@ fn read_head<S: Store>(alloc: Global, store: &mut S) -> Result<Beginning, StoreF
 /// Begins a journal in a store that has no more than what a crash left of a head.
 fn begin<S: Store>(store: &mut S) -> Result<(), StoreFault>
     ensures keeps { S.keeps_word store.old → IsSynced S.moment S.written_at S.left_at store.old
-        → length (written_now S.moment S.written_at store.old) ≤ length head → KeepsJournal S.moment S.written_at S.left_at store.old store.new }
-    ensures begun { S.keeps_word store.old → OnOk result ((written_now S.moment S.written_at store.new ≡ head) × IsSynced S.moment S.written_at S.left_at store.new) }
+        → length (written_now S.moment S.written_at store.old) ≤ length head
+        → KeepsJournal S.moment S.written_at S.left_at store.old store.new }
+    ensures begun { S.keeps_word store.old → OnOk result
+        ((written_now S.moment S.written_at store.new ≡ head)
+        × IsSynced S.moment S.written_at S.left_at store.new) }
     ensures word { S.keeps_word store.old → OnOk result (S.keeps_word store.new) }
 {
     store.cut(0)?;
@@ -110,9 +119,11 @@ fn begin<S: Store>(store: &mut S) -> Result<(), StoreFault>
 /// Cuts what stands behind the lines of a journal.
 fn cut_end<S: Store>(store: &mut S, whole: u64) -> Result<(), StoreFault>
     ensures keeps { S.keeps_word store.old → IsSynced S.moment S.written_at S.left_at store.old
-        → (batches : List (List (List ℕ))) → HasBatches (written_now S.moment S.written_at store.old) batches → whole ≡ length (journal_of batches)
+        → (batches : List (List (List ℕ))) → HasBatches (written_now S.moment S.written_at store.old) batches
+        → whole ≡ length (journal_of batches)
         → KeepsJournal S.moment S.written_at S.left_at store.old store.new }
-    ensures cut { S.keeps_word store.old → OnOk result ((written_now S.moment S.written_at store.new ≡ take whole (written_now S.moment S.written_at store.old))
+    ensures cut { S.keeps_word store.old → OnOk result
+        ((written_now S.moment S.written_at store.new ≡ take whole (written_now S.moment S.written_at store.old))
         × IsSynced S.moment S.written_at S.left_at store.new) }
     ensures word { S.keeps_word store.old → OnOk result (S.keeps_word store.new) }
 {
@@ -131,15 +142,22 @@ fn replay<S: Store, A: Applies>(
     ensures within { IfOk result (λ end. (reading.new.end ≤ end) × (end < 2 ^ 62)) }
     ensures read { S.keeps_word store.old → WasRead S.moment S.written_at S.left_at store.old store.new }
     ensures word { S.keeps_word store.old → OnOk result (S.keeps_word store.new) }
-    ensures replayed { IfOk result (λ end. (commands : List (List ℕ)) × ReplaysCommands A.takes commands state.old state.new
-        × (S.keeps_word store.old → take (length head) (written_now S.moment S.written_at store.old) ≡ head → Reads reading.old [] []
+    ensures replayed { IfOk result (λ end. (commands : List (List ℕ))
+        × ReplaysCommands A.takes commands state.old state.new
+        × (S.keeps_word store.old → take (length head) (written_now S.moment S.written_at store.old) ≡ head
+        → Reads reading.old [] []
         → (end ≡ length (written_now S.moment S.written_at store.old))
         × (batches : List (List (List ℕ))) × (open_line : List ℕ) × IsOneLine open_line
-        × HasReplayed (written_now S.moment S.written_at store.old) end reading.new batches open_line × (commands_of batches ≡ commands))) }
-    ensures damaged { S.keeps_word store.old → take (length head) (written_now S.moment S.written_at store.old) ≡ head → Reads reading.old [] []
-        → (number : ℕ) → result ≡ Err (RecoverFault.Damaged number) → IsDamaged (written_now S.moment S.written_at store.old) number }
-    ensures unfit { S.keeps_word store.old → take (length head) (written_now S.moment S.written_at store.old) ≡ head → Reads reading.old [] []
-        → (number : ℕ) → result ≡ Err (RecoverFault.Unfit number) → IsUnfit A.takes state.old (written_now S.moment S.written_at store.old) number }
+        × HasReplayed (written_now S.moment S.written_at store.old) end reading.new batches open_line
+        × (commands_of batches ≡ commands))) }
+    ensures damaged { S.keeps_word store.old
+        → take (length head) (written_now S.moment S.written_at store.old) ≡ head → Reads reading.old [] []
+        → (number : ℕ) → result ≡ Err (RecoverFault.Damaged number)
+        → IsDamaged (written_now S.moment S.written_at store.old) number }
+    ensures unfit { S.keeps_word store.old
+        → take (length head) (written_now S.moment S.written_at store.old) ≡ head → Reads reading.old [] []
+        → (number : ℕ) → result ≡ Err (RecoverFault.Unfit number)
+        → IsUnfit A.takes state.old (written_now S.moment S.written_at store.old) number }
     ensures no_other { result ≡ Err RecoverFault.Foreign → ⊥ }
 {
     let mut pending = Pending::new(alloc);
@@ -175,10 +193,14 @@ fn recover_lines<S: Store, A: Applies>(
         → take (length head) (written_now S.moment S.written_at journal.old.store) ≡ head
         → KeepsJournal S.moment S.written_at S.left_at journal.old.store journal.new.store }
     ensures word { S.keeps_word journal.old.store → OnOk result (S.keeps_word journal.new.store) }
-    ensures damaged { S.keeps_word journal.old.store → take (length head) (written_now S.moment S.written_at journal.old.store) ≡ head
-        → (number : ℕ) → result ≡ Err (RecoverFault.Damaged number) → IsDamaged (written_now S.moment S.written_at journal.old.store) number }
-    ensures unfit { S.keeps_word journal.old.store → take (length head) (written_now S.moment S.written_at journal.old.store) ≡ head
-        → (number : ℕ) → result ≡ Err (RecoverFault.Unfit number) → IsUnfit A.takes state.old (written_now S.moment S.written_at journal.old.store) number }
+    ensures damaged { S.keeps_word journal.old.store
+        → take (length head) (written_now S.moment S.written_at journal.old.store) ≡ head
+        → (number : ℕ) → result ≡ Err (RecoverFault.Damaged number)
+        → IsDamaged (written_now S.moment S.written_at journal.old.store) number }
+    ensures unfit { S.keeps_word journal.old.store
+        → take (length head) (written_now S.moment S.written_at journal.old.store) ≡ head
+        → (number : ℕ) → result ≡ Err (RecoverFault.Unfit number)
+        → IsUnfit A.takes state.old (written_now S.moment S.written_at journal.old.store) number }
     ensures no_other { result ≡ Err RecoverFault.Foreign → ⊥ }
 {
     let mut reading = Reading::begin();
@@ -198,19 +220,23 @@ pub fn recover<S: Store, A: Applies>(
     journal: &mut Journal<S>,
     state: &mut A,
 ) -> Result<(), RecoverFault>
-    // Whatever the store gives, commands were applied that changed something. If it keeps its word, they are those that it has, and the journal of just these is
-    // on the disk.
+    // Whatever the store gives, commands were applied that changed something. If it keeps its word, they are those that
+    // it has, and the journal of just these is on the disk.
     ensures recovered { OnOk result ((commands : List (List ℕ)) × ReplaysCommands A.takes commands state.old state.new
         × (S.keeps_word journal.old.store → RecoversTo (written_now S.moment S.written_at journal.old.store) commands
-        × (batches : List (List (List ℕ))) × IsOnDisk S.moment S.written_at S.left_at journal.new batches × (commands_of batches ≡ commands))) }
-    // A crash at any moment of the call leaves what it might have left before, or the same journal: the next recovery finds the same. Damage stays as it is.
-    ensures keeps { S.keeps_word journal.old.store → KeepsJournal S.moment S.written_at S.left_at journal.old.store journal.new.store }
+        × (batches : List (List (List ℕ))) × IsOnDisk S.moment S.written_at S.left_at journal.new batches
+        × (commands_of batches ≡ commands))) }
+    // A crash at any moment of the call leaves what it might have left before, or the same journal: the next recovery
+    // finds the same. Damage stays as it is.
+    ensures keeps { S.keeps_word journal.old.store
+        → KeepsJournal S.moment S.written_at S.left_at journal.old.store journal.new.store }
     ensures word { S.keeps_word journal.old.store → OnOk result (S.keeps_word journal.new.store) }
     ensures damaged { S.keeps_word journal.old.store → (number : ℕ) → result ≡ Err (RecoverFault.Damaged number)
         → IsDamaged (written_now S.moment S.written_at journal.old.store) number }
     ensures unfit { S.keeps_word journal.old.store → (number : ℕ) → result ≡ Err (RecoverFault.Unfit number)
         → IsUnfit A.takes state.old (written_now S.moment S.written_at journal.old.store) number }
-    ensures foreign { S.keeps_word journal.old.store → result ≡ Err RecoverFault.Foreign → IsForeign (written_now S.moment S.written_at journal.old.store) }
+    ensures foreign { S.keeps_word journal.old.store → result ≡ Err RecoverFault.Foreign
+        → IsForeign (written_now S.moment S.written_at journal.old.store) }
 {
     // The bytes that are read may be nowhere but in memory.
     journal.store.sync()?;

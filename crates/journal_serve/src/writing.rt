@@ -1,13 +1,16 @@
 //! Replies, written.
 ghost use Rattle.std.specs.Prelude.{◌≤◌, length, take, IfOk, OnOk, OnErr};
 ghost use Rattle.std.specs.Io.KnownBytes.{Appends, Keeps};
+ghost use Rattle.journal_serve.specs.Faults.{TakesNoByte};
 ghost use Rattle.journal_serve.specs.Session.{GrowsWithin};
 
 use crate::fault::ServeFault;
 use std::io::{self, ErrorKind, Write};
 
-/// Returns what is said of an output that takes no byte.
-fn nothing_written() -> ServeFault {
+/// The fault of an output that takes no byte.
+fn nothing_written() -> ServeFault
+    ensures { TakesNoByte result }
+{
     ServeFault::WriteFailed {
         cause: io::Error::from(ErrorKind::WriteZero),
     }
@@ -25,7 +28,8 @@ fn flush<W: Write>(writer: &mut W) -> Result<(), ServeFault>
 
 /// Writes some of these bytes. Returns their number, or 0 if the call was interrupted.
 fn write_some<W: Write>(writer: &mut W, bytes: &[u8]) -> Result<usize, ServeFault>
-    ensures some { IfOk result (λ n. (n ≤ length bytes.now) × Appends (W.contents writer.old) (W.contents writer.new) (take n bytes.now)) }
+    ensures some { IfOk result (λ n. (n ≤ length bytes.now)
+        × Appends (W.contents writer.old) (W.contents writer.new) (take n bytes.now)) }
     ensures none { OnErr result (Keeps (W.contents writer.old) (W.contents writer.new)) }
 {
     match writer.write(bytes) {
