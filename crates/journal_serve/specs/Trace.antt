@@ -38,7 +38,8 @@ LeadsThrough {A} takes old [] new = new ≡ old
 LeadsThrough {A} takes old (x ∷ trace) new = (next : A) × takes old x next × LeadsThrough takes next trace new
 
 -- Commands were applied again, and each of them changed something.
-pub record ReplaysCommands {A : Type 0} (takes : A → Exchange → A → Type 0) (commands : List (List ℕ)) (old new : A) : Type 0 where
+pub record ReplaysCommands {A : Type 0} (takes : A → Exchange → A → Type 0) (commands : List (List ℕ))
+    (old new : A) : Type 0 where
   pub trace : List Exchange
   pub leads : LeadsThrough takes old trace new
   pub are : lines_in trace ≡ commands
@@ -46,4 +47,5 @@ pub record ReplaysCommands {A : Type 0} (takes : A → Exchange → A → Type 0
 
 -- a state and a line determine what the line does, the reply to it and the next state
 abbrev pub IsDetermined : {A : Type 0} → (A → Exchange → A → Type 0) → Type 0
-IsDetermined {A} takes = (old next other : A) (x y : Exchange) → takes old x next → takes old y other → y.line ≡ x.line → (y ≡ x) × (other ≡ next)
+IsDetermined {A} takes = (old next other : A) (x y : Exchange) → takes old x next → takes old y other
+    → y.line ≡ x.line → (y ≡ x) × (other ≡ next)

@@ -44,7 +44,8 @@ pub record Took (trace : List Exchange) (old new : Turn) : Type 0 where
   pub objects : All IsObject (changes_in trace)
 
 -- A text was read as these lines and an open one: the lines were applied, and the open one is pending.
-pub record TookText {A : Type 0} (takes : A → Exchange → A → Type 0) (text : List ℕ) (lines : List (List ℕ)) (open_line : List ℕ) (trace : List Exchange)
+pub record TookText {A : Type 0} (takes : A → Exchange → A → Type 0) (text : List ℕ) (lines : List (List ℕ))
+    (open_line : List ℕ) (trace : List Exchange)
     (pending : Pending) (first state : A) (old new : Turn) : Type 0 where
   pub splits : Splits text lines open_line
   pub held : pending.text.items ≡ kept_line open_line

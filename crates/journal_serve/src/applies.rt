@@ -33,7 +33,8 @@ pub trait Applies {
     /// Applies an entry of a journal again: it does what `apply` does, and writes no reply.
     fn replay(&mut self, alloc: Global, entry: &[u8]) -> Result<Applied, AllocError>
         requires { IsObject entry.now }
-        ensures { IfOk result (λ applied. (reply : List ℕ) × takes self.old (exchange entry.now applied reply) self.new) }
+        ensures { IfOk result (λ applied. (reply : List ℕ)
+            × takes self.old (exchange entry.now applied reply) self.new) }
     {
         let mut reply = Vec::new(alloc);
         self.apply(alloc, entry, &mut reply)

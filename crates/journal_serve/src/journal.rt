@@ -30,7 +30,8 @@ impl<S: Store> Journal<S> {
         }
     }
 
-    /// Appends the commands of one batch, and returns once they are on the disk. After an error nothing more is to be asked of it.
+    /// Appends the commands of one batch, and returns once they are on the disk. After an error nothing more is to be
+    /// asked of it.
     pub fn append(&mut self, alloc: Global, body: &[u8]) -> Result<(), StoreFault>
         ensures appended { S.keeps_word self.old.store → (batches : List (List (List ℕ))) (commands : List (List ℕ))
             → IsOnDisk S.moment S.written_at S.left_at self.old batches → IsBatch commands → body.now ≡ listed commands
@@ -43,7 +44,8 @@ impl<S: Store> Journal<S> {
         // The old content stays as it was.
         ensures time { S.keeps_word self.old.store → (batches : List (List (List ℕ))) (commands : List (List ℕ))
             → IsOnDisk S.moment S.written_at S.left_at self.old batches → IsBatch commands → body.now ≡ listed commands
-            → Passes S.moment S.written_at S.left_at self.old.store self.new.store (journal_of (batches ++ commands ∷ [])) (RecoversToOneOf batches commands) }
+            → Passes S.moment S.written_at S.left_at self.old.store self.new.store
+            (journal_of (batches ++ commands ∷ [])) (RecoversToOneOf batches commands) }
     {
         let line = write_line(alloc, &self.sum, body)?;
         let mut text = line.text;
@@ -57,15 +59,19 @@ impl<S: Store> Journal<S> {
     /// Appends the commands of one turn if there are any. Each has a comma before it.
     pub fn keep(&mut self, alloc: Global, commands: &[u8]) -> Result<(), StoreFault>
         ensures kept { S.keeps_word self.old.store → (batches : List (List (List ℕ))) (changed : List (List ℕ))
-            → IsOnDisk S.moment S.written_at S.left_at self.old batches → All IsObject changed → commands.now ≡ behind_commas changed
+            → IsOnDisk S.moment S.written_at S.left_at self.old batches → All IsObject changed
+            → commands.now ≡ behind_commas changed
             → OnOk result (IsOnDisk S.moment S.written_at S.left_at self.new (grown batches changed)) }
         ensures word { S.keeps_word self.old.store → OnOk result (S.keeps_word self.new.store) }
         ensures any_moment { S.keeps_word self.old.store → (batches : List (List (List ℕ))) (changed : List (List ℕ))
-            → IsOnDisk S.moment S.written_at S.left_at self.old batches → All IsObject changed → commands.now ≡ behind_commas changed
+            → IsOnDisk S.moment S.written_at S.left_at self.old batches → All IsObject changed
+            → commands.now ≡ behind_commas changed
             → EachLeft S.moment S.left_at self.old.store self.new.store (RecoversToGrown batches changed) }
         ensures time { S.keeps_word self.old.store → (batches : List (List (List ℕ))) (changed : List (List ℕ))
-            → IsOnDisk S.moment S.written_at S.left_at self.old batches → All IsObject changed → commands.now ≡ behind_commas changed
-            → Passes S.moment S.written_at S.left_at self.old.store self.new.store (journal_of (grown batches changed)) (RecoversToGrown batches changed) }
+            → IsOnDisk S.moment S.written_at S.left_at self.old batches → All IsObject changed
+            → commands.now ≡ behind_commas changed
+            → Passes S.moment S.written_at S.left_at self.old.store self.new.store
+            (journal_of (grown batches changed)) (RecoversToGrown batches changed) }
     {
         if commands.is_empty() {
             return Ok(());

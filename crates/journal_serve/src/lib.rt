@@ -1,4 +1,5 @@
-//! A session over a journal: each line that comes is applied, and what changed something is on the disk before its reply is written.
+//! A session over a journal: each line that comes is applied, and what changed something is on the disk before its
+//! reply is written.
 #![tactic(auto)]
 
 mod applies;

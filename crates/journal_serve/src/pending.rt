@@ -32,7 +32,8 @@ impl Pending {
     /// Takes more of the line, up to `most` bytes of it.
     fn extend(&mut self, part: &[u8], most: usize) -> Result<(), AllocError>
         requires { IsOneLine part.now }
-        ensures taken { (raw : List ℕ) → self.old.text.items ≡ take most raw → OnOk result (self.new.text.items ≡ take most (raw ++ part.now)) }
+        ensures taken { (raw : List ℕ) → self.old.text.items ≡ take most raw
+            → OnOk result (self.new.text.items ≡ take most (raw ++ part.now)) }
         ensures size { OnOk result (length self.new.text.items ≤ length self.old.text.items + length part.now) }
     {
         let room = most.saturating_sub(self.text.len()).min(part.len());
@@ -47,7 +48,8 @@ impl Pending {
             × ((raw : List ℕ) → self.old.text.items ≡ take most raw → self.new.text.items ≡ take most (raw ++ part))
             × (length self.new.text.items + 1 ≤ length self.old.text.items + used))) }
         ensures unended { IfOk result (λ found. IfNone found (IsOneLine piece.now
-            × ((raw : List ℕ) → self.old.text.items ≡ take most raw → self.new.text.items ≡ take most (raw ++ piece.now))
+            × ((raw : List ℕ) → self.old.text.items ≡ take most raw
+            → self.new.text.items ≡ take most (raw ++ piece.now))
             × (length self.new.text.items ≤ length self.old.text.items + length piece.now))) }
     {
         match memchr(b'\n', piece) {

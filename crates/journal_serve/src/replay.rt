@@ -25,7 +25,8 @@ fn apply_batch<A: Applies>(
         × ((those : List (List ℕ)) → IsBatch those → body.now ≡ listed those → commands ≡ those)) }
     ensures undamaged { (other : ℕ) → result ≡ Err (RecoverFault.Damaged other) → ⊥ }
     ensures unfit { (commands : List (List ℕ)) → IsBatch commands → body.now ≡ listed commands
-        → (other : ℕ) → result ≡ Err (RecoverFault.Unfit other) → (other ≡ number) × HasUnchanged A.takes state.old [] commands }
+        → (other : ℕ) → result ≡ Err (RecoverFault.Unfit other)
+        → (other ≡ number) × HasUnchanged A.takes state.old [] commands }
     ensures no_other { result ≡ Err RecoverFault.Foreign → ⊥ }
 {
     let mut rest = body;
@@ -54,10 +55,13 @@ fn replay_line<A: Applies>(
     ensures within { OnOk result (reading.new.end ≤ reading.old.end + length line.now + 1) }
     ensures reads { OnOk result ((commands : List (List ℕ)) × ReplaysCommands A.takes commands state.old state.new
         × ((text : List ℕ) (batches : List (List (List ℕ))) → Reads reading.old text batches
-        → (next : List (List (List ℕ))) × Reads reading.new (text ++ line.now ++ 10 ∷ []) next × (commands_of next ≡ commands_of batches ++ commands))) }
-    ensures damaged { (number : ℕ) → result ≡ Err (RecoverFault.Damaged number) → (text more : List ℕ) (batches : List (List (List ℕ)))
+        → (next : List (List (List ℕ))) × Reads reading.new (text ++ line.now ++ 10 ∷ []) next
+        × (commands_of next ≡ commands_of batches ++ commands))) }
+    ensures damaged { (number : ℕ) → result ≡ Err (RecoverFault.Damaged number)
+        → (text more : List ℕ) (batches : List (List (List ℕ)))
         → Reads reading.old text batches → IsDamaged (head ++ (text ++ line.now ++ 10 ∷ more)) number }
-    ensures unfit { (number : ℕ) → result ≡ Err (RecoverFault.Unfit number) → (text more : List ℕ) (batches : List (List (List ℕ)))
+    ensures unfit { (number : ℕ) → result ≡ Err (RecoverFault.Unfit number)
+        → (text more : List ℕ) (batches : List (List (List ℕ)))
         → Reads reading.old text batches → (first : A) → ReplaysCommands A.takes (commands_of batches) first state.old
         → IsUnfit A.takes first (head ++ (text ++ line.now ++ 10 ∷ more)) number }
     ensures no_other { result ≡ Err RecoverFault.Foreign → ⊥ }
@@ -86,11 +90,15 @@ pub fn replay_piece<A: Applies>(
         ≤ reading.old.end + length pending.old.text.items + length piece.now) }
     ensures reads { OnOk result ((commands : List (List ℕ)) × ReplaysCommands A.takes commands state.old state.new
         × ((text : List ℕ) (batches : List (List (List ℕ))) → Reads reading.old text batches
-        → (read : List ℕ) × (next : List (List (List ℕ))) × (text ++ (pending.old.text.items ++ piece.now) ≡ read ++ pending.new.text.items)
+        → (read : List ℕ) × (next : List (List (List ℕ)))
+        × (text ++ (pending.old.text.items ++ piece.now) ≡ read ++ pending.new.text.items)
         × Reads reading.new read next × (commands_of next ≡ commands_of batches ++ commands))) }
-    ensures damaged { (number : ℕ) → result ≡ Err (RecoverFault.Damaged number) → (text more : List ℕ) (batches : List (List (List ℕ)))
-        → Reads reading.old text batches → IsDamaged (head ++ (text ++ (pending.old.text.items ++ piece.now ++ more))) number }
-    ensures unfit { (number : ℕ) → result ≡ Err (RecoverFault.Unfit number) → (text more : List ℕ) (batches : List (List (List ℕ)))
+    ensures damaged { (number : ℕ) → result ≡ Err (RecoverFault.Damaged number)
+        → (text more : List ℕ) (batches : List (List (List ℕ)))
+        → Reads reading.old text batches
+        → IsDamaged (head ++ (text ++ (pending.old.text.items ++ piece.now ++ more))) number }
+    ensures unfit { (number : ℕ) → result ≡ Err (RecoverFault.Unfit number)
+        → (text more : List ℕ) (batches : List (List (List ℕ)))
         → Reads reading.old text batches → (first : A) → ReplaysCommands A.takes (commands_of batches) first state.old
         → IsUnfit A.takes first (head ++ (text ++ (pending.old.text.items ++ piece.now ++ more))) number }
     ensures no_other { result ≡ Err RecoverFault.Foreign → ⊥ }

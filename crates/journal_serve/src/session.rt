@@ -1,5 +1,6 @@
 //! The loop over what comes.
-ghost use Rattle.std.specs.Prelude.{◌≡◌, ◌⊎◌, ◌≤◌, ◌<◌, ℕ, List, [], length, take, Err, All, IfOk, IfSome, IfNone, OnOk};
+ghost use Rattle.std.specs.Prelude.{◌≡◌, ◌⊎◌, ◌≤◌, ◌<◌, ℕ, List, [], length, take, Err, All, IfOk, IfSome, IfNone};
+ghost use Rattle.std.specs.Prelude.{OnOk};
 ghost use Rattle.std.specs.Io.KnownBytes.{Appends, Keeps, Consumes, IsAtEnd};
 ghost use Rattle.journal_lines.specs.Objects.{IsObject, behind_commas};
 ghost use Rattle.journal_lines.specs.Journal.{journal_of};
@@ -25,9 +26,11 @@ const PIECE: usize = 1 << 16;
 /// Clears a piece, and reads into it. Returns the number of bytes, or `None` if the call was interrupted.
 fn read_piece<R: Read>(reader: &mut R, piece: &mut Vec<u8>) -> Result<Option<usize>, ServeFault>
     ensures count { IfOk result (λ found. IfSome found (λ count. length piece.new.items ≡ count)) }
-    ensures read { IfOk result (λ found. IfSome found (λ count. Consumes (R.remaining reader.old) (R.remaining reader.new) piece.new.items)) }
+    ensures read { IfOk result (λ found. IfSome found
+        (λ count. Consumes (R.remaining reader.old) (R.remaining reader.new) piece.new.items)) }
     ensures end { IfOk result (λ found. IfSome found (λ count. count ≡ 0 → IsAtEnd (R.remaining reader.new))) }
-    ensures interrupted { IfOk result (λ found. IfNone found (Keeps (R.remaining reader.old) (R.remaining reader.new))) }
+    ensures interrupted { IfOk result (λ found. IfNone found
+        (Keeps (R.remaining reader.old) (R.remaining reader.new))) }
 {
     piece.clear();
     piece.resize(PIECE, 0)?;
@@ -58,14 +61,19 @@ fn end_turn<S: Store, W: Write>(
     ensures changed { OnOk result (turn.new.changed.items ≡ []) }
     ensures replies { OnOk result (turn.new.replies.items ≡ []) }
     ensures time { S.keeps_word journal.old.store → (batches : List (List (List ℕ))) (changed : List (List ℕ))
-        → IsOnDisk S.moment S.written_at S.left_at journal.old batches → All IsObject changed → turn.old.changed.items ≡ behind_commas changed
-        → Passes S.moment S.written_at S.left_at journal.old.store journal.new.store (journal_of (grown batches changed)) (RecoversToGrown batches changed) }
+        → IsOnDisk S.moment S.written_at S.left_at journal.old batches → All IsObject changed
+        → turn.old.changed.items ≡ behind_commas changed
+        → Passes S.moment S.written_at S.left_at journal.old.store journal.new.store
+        (journal_of (grown batches changed)) (RecoversToGrown batches changed) }
     ensures kept { S.keeps_word journal.old.store → (batches : List (List (List ℕ))) (changed : List (List ℕ))
-        → IsOnDisk S.moment S.written_at S.left_at journal.old batches → All IsObject changed → turn.old.changed.items ≡ behind_commas changed
-        → OnOk result (S.keeps_word journal.new.store × IsOnDisk S.moment S.written_at S.left_at journal.new (grown batches changed)) }
+        → IsOnDisk S.moment S.written_at S.left_at journal.old batches → All IsObject changed
+        → turn.old.changed.items ≡ behind_commas changed
+        → OnOk result (S.keeps_word journal.new.store
+        × IsOnDisk S.moment S.written_at S.left_at journal.new (grown batches changed)) }
     // No reply is written before what its line changed is on the disk.
     ensures told { S.keeps_word journal.old.store → (batches : List (List (List ℕ))) (changed : List (List ℕ))
-        → IsOnDisk S.moment S.written_at S.left_at journal.old batches → All IsObject changed → turn.old.changed.items ≡ behind_commas changed
+        → IsOnDisk S.moment S.written_at S.left_at journal.old batches → All IsObject changed
+        → turn.old.changed.items ≡ behind_commas changed
         → Keeps (W.contents writer.old) (W.contents writer.new)
         ⊎ IsOnDisk S.moment S.written_at S.left_at journal.new (grown batches changed) }
 {
@@ -87,11 +95,13 @@ pub fn serve<S: Store, A: Applies, R: Read, W: Write>(
 ) -> Result<(), ServeFault>
     // It writes the reply to each line in turn. However the call ends, a crash leaves what a line changed if any of its
     // reply was written.
-    ensures { (input : List ℕ) × IfSome (R.remaining reader.old) (λ bytes. input ≡ bytes) × (trace : List Exchange) × (end : A)
+    ensures { (input : List ℕ) × IfSome (R.remaining reader.old) (λ bytes. input ≡ bytes) × (trace : List Exchange)
+        × (end : A)
         × HasServed A.takes input (W.contents writer.old) (W.contents writer.new) state.old end trace
         × OnOk result (IsServed input (W.contents writer.old) (W.contents writer.new) trace)
         × ((result ≡ Err ServeFault.NoMemory → ⊥) → state.new ≡ end)
-        × ((batches : List (List (List ℕ))) → S.keeps_word journal.old.store → IsOnDisk S.moment S.written_at S.left_at journal.old batches
+        × ((batches : List (List (List ℕ))) → S.keeps_word journal.old.store
+        → IsOnDisk S.moment S.written_at S.left_at journal.old batches
         → (count : ℕ) × AreSafe S.moment S.written_at S.left_at (commands_of batches) trace
         (W.contents writer.old) (W.contents writer.new) journal.old.store journal.new.store count) }
 {
@@ -122,7 +132,8 @@ pub fn serve_unkept<A: Applies, R: Read, W: Write>(
     reader: &mut R,
     writer: &mut W,
 ) -> Result<(), ServeFault>
-    ensures { (input : List ℕ) × IfSome (R.remaining reader.old) (λ bytes. input ≡ bytes) × (trace : List Exchange) × (end : A)
+    ensures { (input : List ℕ) × IfSome (R.remaining reader.old) (λ bytes. input ≡ bytes) × (trace : List Exchange)
+        × (end : A)
         × HasServed A.takes input (W.contents writer.old) (W.contents writer.new) state.old end trace
         × OnOk result (IsServed input (W.contents writer.old) (W.contents writer.new) trace)
         × ((result ≡ Err ServeFault.NoMemory → ⊥) → state.new ≡ end) }

@@ -64,7 +64,8 @@ impl Turn {
         state: &mut A,
         line: &[u8],
     ) -> Result<(), AllocError>
-        ensures { OnOk result ((one : Exchange) × (one.line ≡ bare_line line.now) × A.takes state.old one state.new × Took (one ∷ []) self.old self.new) }
+        ensures { OnOk result ((one : Exchange) × (one.line ≡ bare_line line.now) × A.takes state.old one state.new
+            × Took (one ∷ []) self.old self.new) }
     {
         let line = bare_line(line);
         let applied = state.apply(alloc, line, &mut self.replies)?;
@@ -89,7 +90,8 @@ impl Turn {
     ) -> Result<(), AllocError>
         ensures { (raw : List ℕ) → IsOneLine raw → pending.old.text.items ≡ kept_line raw
             → OnOk result ((lines : List (List ℕ)) × (open_line : List ℕ) × (trace : List Exchange)
-            × TookText A.takes (raw ++ piece.now) lines open_line trace pending.new state.old state.new self.old self.new) }
+            × TookText A.takes (raw ++ piece.now) lines open_line trace pending.new state.old state.new
+            self.old self.new) }
     {
         let mut rest = piece;
         while let Some(used) = pending.take(rest, LONGEST)? {
@@ -108,7 +110,8 @@ impl Turn {
         pending: &Pending,
     ) -> Result<(), AllocError>
         ensures { (raw : List ℕ) → IsOneLine raw → pending.now.text.items ≡ kept_line raw
-            → OnOk result ((trace : List Exchange) × (lines_in trace ≡ lines_taken raw) × LeadsThrough A.takes state.old trace state.new
+            → OnOk result ((trace : List Exchange) × (lines_in trace ≡ lines_taken raw)
+            × LeadsThrough A.takes state.old trace state.new
             × Took trace self.old self.new) }
     {
         let text = pending.text.as_slice();

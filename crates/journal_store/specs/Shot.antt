@@ -2,7 +2,8 @@
 use Rattle.std.specs.Prelude.{◌≡◌, ◌≤◌, ℕ, List, [], ◌++◌, length, take, false, Option, Some, None}
 use Rattle.journal_store.specs.declared.shot.Shot.{Shot}
 
--- a beginning of what is on the disk, not shorter than the last cut, and any bytes in the range that was appended since the last sync
+-- a beginning of what is on the disk, not shorter than the last cut, and any bytes in the range that was appended since
+-- the last sync
 pub record IsLeft (shot : Shot) (content : List ℕ) : Type 0 where
   pub front : ℕ
   pub torn : List ℕ

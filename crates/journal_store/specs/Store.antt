@@ -1,6 +1,6 @@
--- The effects of a store's calls on its bytes, and what a crash may leave of them, moment by moment.
--- A moment is a number that does not fall; a call takes one or more, or none. A store is seen by three functions: its latest moment, what was written by a
--- moment, and what a crash at a moment may leave.
+-- The effects of a store's calls on its bytes, and what a crash may leave of them, moment by moment. A moment is a
+-- number that does not fall; a call takes one or more, or none. A store is seen by three functions: its latest moment,
+-- what was written by a moment, and what a crash at a moment may leave.
 use Rattle.std.specs.Prelude.{◌≡◌, ◌≤◌, ◌<◌, ℕ, List, ◌++◌, length, take, drop}
 
 -- what was written by now
@@ -13,10 +13,13 @@ MayLeave moment left_at store content = left_at store (moment store) content
 
 -- a crash now leaves what was written, and nothing else
 abbrev pub IsSynced : {D : Type 0} → (D → ℕ) → (D → ℕ → List ℕ) → (D → ℕ → List ℕ → Type 0) → D → Type 0
-IsSynced moment written_at left_at store = (content : List ℕ) → left_at store (moment store) content → content ≡ written_at store (moment store)
+IsSynced moment written_at left_at store =
+    (content : List ℕ) → left_at store (moment store) content → content ≡ written_at store (moment store)
 
--- Time went on in a call: what was before is as it was, and in each new moment this text was written, and a crash may leave only what is told.
-pub record Passes {D : Type 0} (moment : D → ℕ) (written_at : D → ℕ → List ℕ) (left_at : D → ℕ → List ℕ → Type 0) (old new : D) (text : List ℕ) (told : List ℕ → Type 0) : Type 0 where
+-- Time went on in a call: what was before is as it was, and in each new moment this text was written, and a crash may
+-- leave only what is told.
+pub record Passes {D : Type 0} (moment : D → ℕ) (written_at : D → ℕ → List ℕ) (left_at : D → ℕ → List ℕ → Type 0)
+    (old new : D) (text : List ℕ) (told : List ℕ → Type 0) : Type 0 where
   pub later : moment old ≤ moment new
   pub texts : (n : ℕ) → n ≤ moment old → written_at new n ≡ written_at old n
   pub before : (n : ℕ) (content : List ℕ) → n ≤ moment old → left_at new n content → left_at old n content

@@ -1,5 +1,6 @@
 //! A disk in memory, which keeps its word, fails if it is told to, and says what a crash may leave.
-ghost use Rattle.std.specs.Prelude.{◌≡◌, ◌≤◌, ◌<◌, ◌-◌, ℕ, List, [], ◌∷◌, ◌++◌, false, length, IfOk, IfSome, OnOk, Some, slice_get, ◌⊎◌};
+ghost use Rattle.std.specs.Prelude.{◌≡◌, ◌≤◌, ◌<◌, ◌-◌, ℕ, List, [], ◌∷◌, ◌++◌, false, length, IfOk, IfSome, OnOk};
+ghost use Rattle.std.specs.Prelude.{Some, slice_get, ◌⊎◌};
 
 use crate::disk::Disk;
 use crate::shot::Shot;
@@ -26,7 +27,8 @@ pub struct MemoryDisk {
 impl MemoryDisk {
     ghost use Rattle.journal_store.specs.Shot.{IsLeft};
     ghost use Rattle.journal_store.specs.Disk.{IsFirmBut, DiskPasses};
-    ghost use Rattle.journal_store.specs.MemoryDisk.{memory_moment, memory_written, memory_left, memory_nameless, memory_own};
+    ghost use Rattle.journal_store.specs.MemoryDisk.{memory_moment, memory_written, memory_left, memory_nameless};
+    ghost use Rattle.journal_store.specs.MemoryDisk.{memory_own};
 
     /// A disk with a file of these bytes, of which an earlier process failed to sync the last `lost`. It fails at the
     /// call that changes something after `left` others.
@@ -120,7 +122,8 @@ impl MemoryDisk {
 }
 
 impl Disk for MemoryDisk {
-    ghost use Rattle.journal_store.specs.MemoryDisk.{memory_moment, memory_written, memory_left, memory_nameless, memory_own};
+    ghost use Rattle.journal_store.specs.MemoryDisk.{memory_moment, memory_written, memory_left, memory_nameless};
+    ghost use Rattle.journal_store.specs.MemoryDisk.{memory_own};
 
     ghost keeps_word = { λ disk. disk.failed ≡ false };
 

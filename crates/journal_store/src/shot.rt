@@ -28,8 +28,8 @@ impl Shot {
     ghost use Rattle.journal_store.specs.Disk.{IsBrought};
     ghost use Rattle.journal_store.specs.Shot.{IsLeft};
 
-    /// The shot of a file with these bytes, of which an earlier process failed to sync the last `lost`: on the disk they
-    /// are zeros.
+    /// The shot of a file with these bytes, of which an earlier process failed to sync the last `lost`: on the disk
+    /// they are zeros.
     pub fn found(alloc: Global, bytes: &[u8], lost: usize) -> Result<Shot, AllocError>
         ensures written { IfOk result (λ shot. shot.written.items ≡ bytes.now) }
         ensures firm { IfOk result (λ shot. (content : List ℕ) → IsLeft shot content
