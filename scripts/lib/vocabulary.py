@@ -74,7 +74,7 @@ class Tree:
             exported = {name for names in re.findall(r"^pub use ([^;]+);", files.get("lib", ""), re.MULTILINE) for name in WORD.findall(re.sub(r"\w+::", "", names))}
             whole = re.findall(r"^pub mod (\w+);", files.get("lib", ""), re.MULTILINE)
             for path, text in files.items():
-                own = {name for _, name in re.findall(r"^pub (\w+) (\w+)", text, re.MULTILINE)} if path in whole else set()
+                own = {name for _, name in re.findall(r"^pub (\w+) (\w+)", text, re.MULTILINE)} if path in whole or "lib" not in files else set()
                 self.public |= self.cited(promised(re.sub(r"//[^\n]*", "", text), exported | own), *imports_of(text))
 
     def home(self, name, place):

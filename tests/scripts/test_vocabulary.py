@@ -53,12 +53,21 @@ impl Model for Count {
 
 
 class VocabularyTest(unittest.TestCase):
-    """A tree of these modules and this code."""
+    """A tree of these modules and some code."""
 
-    def test_what_is_not_said(self):
-        files = {f"src/{name}.rt": text for name, text in CODE.items()}
+    def unsaid(self, code):
+        """What is found in a tree of these files of src/: the modules and their words."""
+        files = {f"src/{name}.rt": text for name, text in code.items()}
         for name, (head, words) in MODULES.items():
             files[f"specs/{name}.antt"] = head + "".join(f"\n-- a number\nabbrev pub {word} : ℕ\n{word} = {text}\n" for word, text in words.items())
         status, lines = found_by("check/vocabulary", {f"crates/one/{path}": text for path, text in files.items()})
-        found = [(line.split(".")[0].rsplit("/")[-1], line.split("`")[1]) for line in lines]
-        self.assertEqual((status, found), (1, [("Partly", "unsaid"), ("Silent", "silent"), ("Wrong", "wrong")]))
+        self.assertEqual(status, 1)
+        return [(line.split(".")[0].rsplit("/")[-1], line.split("`")[1]) for line in lines]
+
+    def test_what_is_not_said(self):
+        self.assertEqual(self.unsaid(CODE), [("Partly", "unsaid"), ("Silent", "silent"), ("Wrong", "wrong")])
+
+    def test_a_program(self):
+        # (it exports nothing, and no type `Count` is in it)
+        program = {"main": "mod counts;\n", "counts": CODE["counts"]}
+        self.assertEqual(self.unsaid(program), [("Partly", "partly"), ("Partly", "unsaid"), ("Silent", "silent")])
