@@ -11,7 +11,7 @@ pub struct Keeper {
 }
 
 impl Keeper {
-    /// Returns a session before its first line.
+    /// A session before its first line.
     pub fn new() -> Self
         ensures { IsNew result.session }
     {
@@ -19,29 +19,12 @@ impl Keeper {
             session: Session::new(),
         }
     }
-
-    /// Ends the session.
-    pub fn close(self) {
-        let Keeper { session } = self;
-        session.close();
-    }
 }
 
 impl Applies for Keeper {
-    ghost use Rattle.std.specs.Prelude.{◌≡◌};
-    ghost use Rattle.journal_serve.specs.declared.applies.Applied.TheVariants as effect;
-    ghost use Rattle.smpland_session.specs.declared.session.LineEffect.TheVariants as did;
-    ghost use Rattle.smpland_session.specs.Asked.{DoesAsSaid};
-    ghost use Rattle.smpland_session.specs.Changes.{SessionChanges};
-    ghost use Rattle.smpland_session.specs.Declines.{DeclinesBy};
-    ghost use Rattle.smpland_session.specs.Replies.{IsLineReply, RepliesTo};
+    ghost use Rattle.smpland.specs.Serving.{KeeperTakes};
 
-    ghost takes = { λ old x new. (x.effect ≡ effect.Changed → SessionChanges old.session new.session)
-        × (x.effect ≡ effect.Changed → DoesAsSaid x.line old.session new.session)
-        × (x.effect ≡ effect.Changed → RepliesTo x.line old.session new.session did.Changed x.reply)
-        × (x.effect ≡ effect.Unchanged → new.session ≡ old.session)
-        × (x.effect ≡ effect.Unchanged → IsLineReply x.line old.session new.session did.Unchanged x.reply)
-        × (x.effect ≡ effect.Unchanged → DeclinesBy x.reply x.line old.session) };
+    ghost takes = { KeeperTakes };
 
     fn apply(
         &mut self,

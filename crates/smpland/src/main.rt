@@ -4,6 +4,7 @@
 mod command_line;
 mod keeper;
 mod served;
+mod serving;
 mod status;
 
 use command_line::{Asked, LineFault, asked_for};

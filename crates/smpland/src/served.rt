@@ -1,14 +1,14 @@
-//! Lines that are served.
+//! Lines that come on standard input.
 
-use crate::keeper::Keeper;
+use crate::serving::{serve_given, serve_kept};
 use crate::status::Status;
 use journal_lines::journal_head;
-use journal_serve::{Journal, RecoverFault, ResumeFault, ServeFault, resume, serve_unkept};
+use journal_serve::{Journal, RecoverFault, ResumeFault, ServeFault};
 use journal_store::{FileStore, HostDisk, OpenFailure};
 use std::fs::File;
 use std::io;
 
-/// Returns how the program ends when lines were served, and tells what has failed. The journal has this path.
+/// The end of the program when lines were served. What has failed is told. The journal has this path.
 fn ending(rt: &HostRuntime, path: &str, served: Result<(), ServeFault>) -> Status {
     match served {
         Ok(()) => return Status::Done,
@@ -23,7 +23,7 @@ fn ending(rt: &HostRuntime, path: &str, served: Result<(), ServeFault>) -> Statu
     Status::Failed
 }
 
-/// Returns how the program ends when the journal with this path was not recovered, and tells why.
+/// The end of the program when the journal with this path was not recovered. It is told why.
 fn unrecovered(rt: &HostRuntime, path: &str, fault: RecoverFault) -> Status {
     let status = match fault {
         RecoverFault::NoMemory => return Status::NoMemory,
@@ -36,7 +36,7 @@ fn unrecovered(rt: &HostRuntime, path: &str, fault: RecoverFault) -> Status {
     status
 }
 
-/// Returns how the program ends when the journal with this path was not opened, and tells why.
+/// The end of the program when the journal with this path was not opened. It is told why.
 fn unopened(rt: &HostRuntime, path: &str, failure: OpenFailure) -> Status {
     let _ = eprintln!(rt; "error: {path}: {failure}");
     match failure {
@@ -51,30 +51,20 @@ fn unopened(rt: &HostRuntime, path: &str, failure: OpenFailure) -> Status {
 
 /// Serves each line of standard input, which is the journal.
 pub fn serve_input(rt: &HostRuntime) -> Status {
-    let mut session = Keeper::new();
-    let served = serve_unkept(
-        rt.alloc(),
-        &mut session,
-        &mut rt.reader(),
-        &mut io::writer(rt),
-    );
-    session.close();
+    let served = serve_given(rt.alloc(), &mut rt.reader(), &mut io::writer(rt));
     ending(rt, "-", served)
 }
 
 /// Recovers what the journal in a store leads to, and serves each line of standard input. The journal has this path.
 fn serve_store(rt: &HostRuntime, path: &str, store: FileStore<HostDisk<'_>>) -> Status {
-    let mut session = Keeper::new();
     let mut journal = Journal::new(store);
-    let resumed = resume(
+    let served = serve_kept(
         rt.alloc(),
         &mut journal,
-        &mut session,
         &mut rt.reader(),
         &mut io::writer(rt),
     );
-    session.close();
-    match resumed {
+    match served {
         Ok(()) => Status::Done,
         Err(ResumeFault::Unserved(fault)) => ending(rt, path, Err(fault)),
         Err(ResumeFault::Unrecovered(fault)) => unrecovered(rt, path, fault),
@@ -86,8 +76,8 @@ fn open_any(rt: &HostRuntime) -> Result<File, OpenFailure> {
     File::open(rt, "/").map_err(|cause| OpenFailure::File { cause })
 }
 
-/// Opens a journal's file. It does not get the number of a standard stream that is closed: other files have those numbers
-/// until it is open. Otherwise replies would be written into the journal.
+/// Opens a journal's file. It does not get the number of a standard stream that is closed: other files have those
+/// numbers until it is open. Otherwise replies would be written into the journal.
 fn open_disk<'a>(rt: &'a HostRuntime, path: &'a str) -> Result<HostDisk<'a>, OpenFailure> {
     let _input = open_any(rt)?;
     let _output = open_any(rt)?;
