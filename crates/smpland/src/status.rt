@@ -1,4 +1,6 @@
 //! The end of the program.
+ghost use Rattle.std.specs.Prelude.{◌≡◌};
+ghost use Rattle.smpland.specs.Endings.{exit_status_of};
 
 /// The end of the program.
 #[derive(Clone, Copy, Debug, PartialEq, Eq)]
@@ -18,8 +20,10 @@ pub enum Status {
 }
 
 impl Status {
-    /// Returns the exit status of a program that ends so.
-    pub const fn code(self) -> u8 {
+    /// The exit status of a program that ends so.
+    pub const fn code(self) -> u8
+        ensures { result ≡ exit_status_of self }
+    {
         match self {
             Status::Done => 0,
             Status::BadWords => 2,
