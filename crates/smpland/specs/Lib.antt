@@ -1,3 +1,4 @@
 pub mod Takes
 pub mod Serving
 pub mod Endings
+pub mod CommandLine

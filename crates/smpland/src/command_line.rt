@@ -1,4 +1,9 @@
 //! The command line.
+ghost use Rattle.std.specs.Prelude.{◌≡◌, ℕ, false, true, List, [], ◌∷◌, Some, IfOk, IfErr, MatchResult, option_map};
+ghost use Rattle.clap.specs.Words.{app_of, fault_of, kind_of, rule_of, takes};
+ghost use Rattle.clap.specs.Walk.{texts};
+ghost use Rattle.smpland.specs.CommandLine.{IsName, Names, TellsErrorKind, TellsWords};
+ghost use Rattle.smpland.specs.CommandLine.{journal_in, journal_word, own_command};
 
 use clap::error::ErrorKind;
 use clap::{Arg, ArgAction, Command, Error};
@@ -24,14 +29,23 @@ pub enum LineFault {
     Bad { text: String },
 }
 
-/// Returns the command line: one word, a journal.
-fn parser<'a>(alloc: Global) -> Result<Command<'a>, AllocError> {
-    let journal = Arg::new(alloc, "JOURNAL")
+/// The word that names the journal.
+fn journal_word<'a>(alloc: Global) -> Arg<'a>
+    ensures word { rule_of result ≡ journal_word }
+    ensures alone { result.global ≡ false }
+{
+    Arg::new(alloc, "JOURNAL")
         .help(
             "The file that keeps the journal; - keeps none, for a host that stores each line before it comes",
         )
         .required(true)
-        .action(ArgAction::Set);
+        .action(ArgAction::Set)
+}
+
+/// The command line: one word, a journal.
+fn parser<'a>(alloc: Global) -> Result<Command<'a>, AllocError>
+    ensures { IfOk result (λ p. app_of p ≡ own_command) }
+{
     Command::new(alloc, "smpland")
         .bin_name("smpland")?
         .version("1")
@@ -39,11 +53,13 @@ fn parser<'a>(alloc: Global) -> Result<Command<'a>, AllocError> {
             "Drives servers that move shards: reads a JSON object a line on standard input, and writes a line of reply for each",
         )
         .no_binary_name(true)
-        .arg(journal)
+        .arg(journal_word(alloc))
 }
 
-/// Returns what an error of the command line tells.
-fn fault_in(alloc: Global, error: &Error) -> LineFault {
+/// What an error of the command line tells.
+fn fault_in(alloc: Global, error: &Error) -> LineFault
+    ensures { TellsErrorKind result (kind_of error.now) }
+{
     let Ok(text) = error.to_string(alloc) else {
         return LineFault::NoMemory;
     };
@@ -54,16 +70,30 @@ fn fault_in(alloc: Global, error: &Error) -> LineFault {
     }
 }
 
-/// Returns what the words behind the program's name ask for.
-pub fn asked_for<'a>(alloc: Global, words: &'a [&'a str]) -> Result<Asked<'a>, LineFault> {
+/// What is asked for by the name of a journal.
+fn asked_by<'a>(name: Option<&'a str>) -> Asked<'a>
+    ensures { Names result (option_map (λ text. text.now) name.entry) }
+{
+    match name {
+        Some("-") | None => Asked::Input,
+        Some(path) => Asked::Journal(path),
+    }
+}
+
+/// What the words behind the program's name ask for.
+pub fn asked_for<'a>(alloc: Global, words: &'a [&'a str]) -> Result<Asked<'a>, LineFault>
+    ensures named { IfOk result (λ asked. Names asked (journal_in (texts words.now))) }
+    // Words that are taken ask for something, unless memory runs out. One name is.
+    ensures taken { takes own_command (texts words.now) ≡ true → IfErr result (λ fault. fault ≡ LineFault.NoMemory) }
+    ensures one { (name : List ℕ) → IsName name → texts words.now ≡ name ∷ []
+        → MatchResult result (λ asked. Names asked (Some name)) (λ fault. fault ≡ LineFault.NoMemory) }
+    ensures faults { IfErr result (λ fault. TellsWords fault (fault_of own_command (texts words.now))) }
+{
     let Ok(mut parser) = parser(alloc) else {
         return Err(LineFault::NoMemory);
     };
     match parser.try_get_matches_from_mut(words) {
-        Ok(found) => match found.get_str("JOURNAL") {
-            Some("-") | None => Ok(Asked::Input),
-            Some(path) => Ok(Asked::Journal(path)),
-        },
+        Ok(found) => Ok(asked_by(found.get_str("JOURNAL"))),
         Err(error) => Err(fault_in(alloc, &error)),
     }
 }

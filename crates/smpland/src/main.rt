@@ -7,6 +7,11 @@ mod served;
 mod serving;
 mod status;
 
+ghost use Rattle.std.specs.Prelude.{◌≡◌, false, IfOk, map, string_bytes};
+ghost use Rattle.clap.specs.Words.{takes};
+ghost use Rattle.smpland.specs.CommandLine.{own_command};
+ghost use Rattle.smpland.specs.Endings.{EndsUnasked};
+
 use command_line::{Asked, LineFault, asked_for};
 use served::{serve_input, serve_journal};
 use status::Status;
@@ -15,7 +20,7 @@ use std::io::ErrorKind;
 use std::process::ExitCode;
 use std::{env, io};
 
-/// Returns the words behind the program's name.
+/// The words behind the program's name.
 fn words_of(rt: &HostRuntime) -> io::Result<Vec<String>> {
     let mut words = Vec::new(rt.alloc());
     for word in env::args(rt)?.skip(1) {
@@ -24,8 +29,10 @@ fn words_of(rt: &HostRuntime) -> io::Result<Vec<String>> {
     Ok(words)
 }
 
-/// Returns the texts of words.
-fn texts_of<'a>(alloc: Global, words: &'a [String]) -> Result<Vec<&'a str>, AllocError> {
+/// The texts of words.
+fn texts_of<'a>(alloc: Global, words: &'a [String]) -> Result<Vec<&'a str>, AllocError>
+    ensures { IfOk result (λ texts. map (λ text. text.now) texts.items ≡ map string_bytes words.now) }
+{
     let mut texts = Vec::new(alloc);
     for word in words {
         texts.push(word.as_str())?;
@@ -33,8 +40,10 @@ fn texts_of<'a>(alloc: Global, words: &'a [String]) -> Result<Vec<&'a str>, Allo
     Ok(texts)
 }
 
-/// Tells what is said of words that ask for nothing, and returns how the program ends.
-fn told(rt: &HostRuntime, fault: LineFault) -> Status {
+/// Tells what is said of words that ask for nothing. The end of the program.
+fn told(rt: &HostRuntime, fault: LineFault) -> Status
+    ensures { EndsUnasked fault result }
+{
     match fault {
         LineFault::NoMemory => Status::NoMemory,
         LineFault::Told { text } => match rt.print(text.as_str()) {
@@ -48,8 +57,11 @@ fn told(rt: &HostRuntime, fault: LineFault) -> Status {
     }
 }
 
-/// Serves what the words ask for, and returns how the program ends.
-fn serve_words(rt: &HostRuntime, words: &[String]) -> Status {
+/// Serves what the words ask for. The end of the program.
+fn serve_words(rt: &HostRuntime, words: &[String]) -> Status
+    // Words that the command line takes are not called bad.
+    ensures { result ≡ Status.BadWords → takes own_command (map string_bytes words.now) ≡ false }
+{
     let Ok(texts) = texts_of(rt.alloc(), words) else {
         return Status::NoMemory;
     };
