@@ -35,4 +35,7 @@ WRONG = {
     "DocumentReopening::put_in_force": "smpland_reopening/a_permit_is_lost",
     "OngoingReopening::fenced": "sm_reopening/earlier_inventory_taken",
     "OngoingReopening::confirm": "sm_reopening/primary_moved",
+    "OngoingReopening::is_named_lost": "sm_reopening/one_copy_too_few_is_named",
+    "Driver::copied": "sm_driver/copied_ignores_the_fence",
+    "Driver::kept_copies": "sm_driver/kept_copies_forgets_the_order",
 }
