@@ -6,6 +6,7 @@ pub mod Found
 pub mod Named
 pub mod Openings
 pub mod Outcomes
+pub mod Planned
 pub mod Reopenings
 pub mod Taken
 pub mod Unknowns

@@ -8,6 +8,7 @@ pub mod Exchanges
 pub mod Lost
 pub mod Openings
 pub mod Outcomes
+pub mod Planned
 pub mod Questions
 pub mod Reopenings
 pub mod Replies

@@ -3,6 +3,7 @@ use Rattle.std.specs.Prelude.{◌≡◌, ℕ, Bool, true, false, List, [], ◌++
 use Rattle.json.specs.Token.{Token}
 use Rattle.json_tree.specs.View.{view}
 use Rattle.json_tree.specs.declared.tree.Tree.{Tree}
+use Rattle.sm_placement.specs.Setup.{server_named}
 use Rattle.sm_reservation.specs.declared.stream_id.StreamId.{StreamId}
 use Rattle.sm_driver.specs.Driver.{record_of}
 use Rattle.sm_driver.specs.Orders.{awaiting_of}
@@ -34,6 +35,7 @@ use Rattle.smpland_reopening_lines.specs.Parties.{fences_member}
 use Rattle.smpland_reopening_lines.specs.Progress.{progress_member}
 use Rattle.smpland_reopening_lines.specs.Settles.{settles_member}
 use Rattle.smpland_session.specs.Checks.{TellsCheck}
+use Rattle.smpland_session.specs.Planned.{TellsDrain, TellsMoves}
 use Rattle.smpland_session.specs.declared.session.Session.{Session}
 use Rattle.smpland_session.specs.declared.telling.TheConstants.{FORMAT}
 use Rattle.smpland_session.specs.declared.under_way.UnderWay.{UnderWay}
@@ -166,7 +168,12 @@ TellsState of.Whole s before after = after ≡ before ++ object_member (codes "s
 
 -- ---- questions
 
--- The reply to a question. What `moves` and `drain` are told is tested alone: a plan that is made is written by way of its text.
+-- the reply to `drain` of the server with a name
+abbrev pub TellsDrainOf : List ℕ → JournalState → List Token → List Token → Type 0
+TellsDrainOf name o before after =
+    TellsDrain o.driver.machine (server_named o.driver.machine.placement.setup name) before after
+
+-- The reply to a question. Of the moves that a line asks for nothing is said but that the plan makes some.
 abbrev pub TellsAnswer : Question → Session → List Token → List Token → Type 0
 TellsAnswer question.Hello s before after = after ≡ before ++ object_member (codes "hello") (hello_members s)
 TellsAnswer question.Orders s before after = after ≡ before ++ all_orders s.opened s.under_way
@@ -179,7 +186,7 @@ TellsAnswer (question.InForce (plans.Check plan)) s before after =
     TellsOf (journal_in_force s) (λ o. TellsCheck o.driver.machine (view plan.now)) before after
 TellsAnswer (question.InForce (plans.Failed plan stream number answer)) s before after =
     TellsFailed (record { plan = plan; stream = stream }) number answer s.opened s.under_way before after
-TellsAnswer (question.InForce (plans.Moves _)) s before after = Unit {0}
-TellsAnswer (question.InForce (plans.Drain _)) s before after = Unit {0}
+TellsAnswer (question.InForce (plans.Moves _)) s before after = TellsOf (journal_in_force s) (λ o. TellsMoves o.driver.machine) before after
+TellsAnswer (question.InForce (plans.Drain server)) s before after = TellsOf (journal_in_force s) (TellsDrainOf server.now) before after
 TellsAnswer (question.InForce (plans.Audit server place rows)) s before after =
     TellsUnlessLater (nat_lt s.place place) (journal_in_force s) server.now place rows.now before after

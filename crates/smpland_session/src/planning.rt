@@ -1,13 +1,14 @@
 //! Plans that are not begun: whether one would begin now, and plans that are made.
 ghost use Rattle.std.specs.Prelude.{◌≡◌, ◌++◌, IfErr, IfOk, OnOk, count_by, length, sum_by};
 ghost use Rattle.json_tree.specs.View.{view};
-ghost use Rattle.sm_placement.specs.Setup.{sizes_of};
+ghost use Rattle.sm_placement.specs.Setup.{server_named, sizes_of};
 ghost use Rattle.sm_plan_code.specs.Instr.{is_call};
 ghost use Rattle.sm_plan_code.specs.Plan.{IsKnownPlan};
 ghost use Rattle.sm_verifier.specs.Plan.{IsSound};
 ghost use Rattle.smpland_session.specs.Asked.{SaysPlan};
 ghost use Rattle.smpland_session.specs.Checks.{IsUnchecked, TellsCheck, TellsVerdict, accepted_member};
 ghost use Rattle.smpland_session.specs.Checks.{accepted_members};
+ghost use Rattle.smpland_session.specs.Planned.{TellsDrain, TellsMade, TellsMoves, plan_member};
 
 use crate::decline::Decline;
 use json_tree::Tree;
@@ -60,6 +61,7 @@ fn write_made(
     plan: &Plan,
 ) -> Result<(), AllocError>
     requires { IsKnownPlan (length config.now.shards) (length config.now.servers) plan.now }
+    ensures { OnOk result (writer.new.tokens ≡ writer.old.tokens ++ plan_member config.now plan.now) }
 {
     let text = write_plan(alloc, config, plan)?;
     writer.key("plan")?;
@@ -74,6 +76,7 @@ fn write_answer(
     answer: Result<Checked, NoPlan>,
 ) -> Result<(), AllocError>
     requires { IfOk answer (λ checked. checked.setup ≡ config.now) }
+    ensures { OnOk result (TellsMade config.now answer writer.old.tokens writer.new.tokens) }
 {
     match answer {
         Ok(checked) => write_made(alloc, writer, config, checked.plan()),
@@ -88,7 +91,9 @@ pub fn write_moves(
     alloc: Global,
     writer: &mut Writer,
     entries: &[Tree<'_>],
-) -> Result<(), AllocError> {
+) -> Result<(), AllocError>
+    ensures { OnOk result (TellsMoves opened.now.driver.machine writer.old.tokens writer.new.tokens) }
+{
     let machine = opened.driver.machine();
     match read_moves_in(alloc, machine.config(), entries)? {
         Ok(list) => {
@@ -105,7 +110,10 @@ pub fn write_drain(
     alloc: Global,
     writer: &mut Writer,
     name: &str,
-) -> Result<(), AllocError> {
+) -> Result<(), AllocError>
+    ensures { OnOk result (TellsDrain opened.now.driver.machine
+        (server_named opened.now.driver.machine.placement.setup name.now) writer.old.tokens writer.new.tokens) }
+{
     let machine = opened.driver.machine();
     match machine.config().server_named(name) {
         Some(server) => {

@@ -6,7 +6,9 @@ ghost use Rattle.smpland_lines.specs.Refusals.{TellsRefused};
 ghost use Rattle.smpland_lines.specs.declared.command.Question.TheVariants as asked;
 ghost use Rattle.smpland_state.specs.State.{TellsPlanState, shard_state_reply};
 ghost use Rattle.smpland_session.specs.Checks.{TellsCheck};
-ghost use Rattle.smpland_session.specs.Questions.{TellsAnswer, TellsAudit, TellsFailed, TellsOf, TellsState};
+ghost use Rattle.smpland_session.specs.Planned.{TellsMoves};
+ghost use Rattle.smpland_session.specs.Questions.{TellsAnswer, TellsAudit, TellsDrainOf, TellsFailed, TellsOf};
+ghost use Rattle.smpland_session.specs.Questions.{TellsState};
 ghost use Rattle.smpland_session.specs.Questions.{TellsUnlessLater, condition_word, fence_now};
 ghost use Rattle.smpland_session.specs.Questions.{journal_in_force};
 ghost use Rattle.smpland_session.specs.Questions.{all_orders, orders_reply, present_notices, present_orders};
@@ -171,6 +173,33 @@ impl Session {
         }
     }
 
+    /// Writes a plan of moves, or why there is none.
+    fn tell_moves(
+        &self,
+        alloc: Global,
+        moves: &[Tree<'_>],
+        writer: &mut Writer,
+    ) -> Result<(), AllocError>
+        ensures { OnOk result (TellsOf (journal_in_force self.now) (λ o. TellsMoves o.driver.machine)
+            writer.old.tokens writer.new.tokens) }
+    {
+        match self.in_force() {
+            Some(opened) => write_moves(opened, alloc, writer, moves),
+            None => self.refuse_closed(alloc, writer),
+        }
+    }
+
+    /// Writes a plan that empties a server, or why there is none.
+    fn tell_drain(&self, alloc: Global, server: &str, writer: &mut Writer) -> Result<(), AllocError>
+        ensures { OnOk result (TellsOf (journal_in_force self.now) (TellsDrainOf server.now)
+            writer.old.tokens writer.new.tokens) }
+    {
+        match self.in_force() {
+            Some(opened) => write_drain(opened, alloc, writer, server),
+            None => self.refuse_closed(alloc, writer),
+        }
+    }
+
     /// Writes what to do about an order that has failed.
     fn tell_failed(
         &self,
@@ -234,14 +263,8 @@ impl Session {
     {
         match question {
             PlanQuestion::Check { plan } => self.tell_check(alloc, plan, writer),
-            PlanQuestion::Moves { moves } => match self.in_force() {
-                Some(opened) => write_moves(opened, alloc, writer, moves),
-                None => self.refuse_closed(alloc, writer),
-            },
-            PlanQuestion::Drain { server } => match self.in_force() {
-                Some(opened) => write_drain(opened, alloc, writer, server),
-                None => self.refuse_closed(alloc, writer),
-            },
+            PlanQuestion::Moves { moves } => self.tell_moves(alloc, moves, writer),
+            PlanQuestion::Drain { server } => self.tell_drain(alloc, server, writer),
             PlanQuestion::Failed {
                 plan,
                 stream,
