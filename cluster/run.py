@@ -133,7 +133,7 @@ class Run:
         self.moved_for = 0.0
 
     def tell(self, text: str) -> None:
-        """Tells what happens, above the live line, and in the run's folder."""
+        """Prints this line above the live one, and adds it to story.txt in the run's folder."""
         self.told = f"{time.monotonic() - self.begun:6.1f} s  {text}"
         with (self.settings.directory / "story.txt").open("a") as file:
             file.write(f"{self.told}\n")
