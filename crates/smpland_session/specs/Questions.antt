@@ -37,7 +37,7 @@ use Rattle.smpland_reopening_lines.specs.Settles.{settles_member}
 use Rattle.smpland_session.specs.Checks.{TellsCheck}
 use Rattle.smpland_session.specs.Planned.{TellsDrain, TellsMoves}
 use Rattle.smpland_session.specs.declared.session.Session.{Session}
-use Rattle.smpland_session.specs.declared.telling.TheConstants.{FORMAT}
+use Rattle.smpland_session.specs.declared.telling.hello.TheConstants.{FORMAT}
 use Rattle.smpland_session.specs.declared.under_way.UnderWay.{UnderWay}
 
 -- ---- orders

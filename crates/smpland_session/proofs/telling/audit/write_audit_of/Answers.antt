@@ -1,7 +1,7 @@
 use Rattle.smpland_lines.specs.Slots.{TellSlots}
 use Rattle.smpland_session.proofs.Audits.{tells_compared, tells_malformed}
 use Rattle.smpland_session.proofs.Found.{read_is}
-use Rattle.smpland_session.proofs.telling.write_audit_of.Goals as goal
+use Rattle.smpland_session.proofs.telling.audit.write_audit_of.Goals as goal
 
 -- The slots are those that the rows tell.
 pub returns-in-Ok : goal.returns-in-Ok
