@@ -4,8 +4,8 @@ use Rattle.std.specs.List.{AllByRecursion}
 use Rattle.sm_copies.specs.Lists.{ListEntry, begins}
 use Rattle.laws_data.specs.Shard.{HasPrimary, MayHappenInTurn, Event, IsGreatest, IsShardReached, Shard, counted, gone, lacks, names, all_left}
 
--- Whatever happens from now on, if the shard is not named as lost its primary has all that is acknowledged now, as long as
--- there is one, and it has a whole copy.
+-- Whatever happens from now on, if the shard is not named as lost its primary has all that is acknowledged now, as long
+-- as there is one, and it has a whole copy.
 abbrev pub AcknowledgedWritesStay : Type 0
 AcknowledgedWritesStay = (w : Shard) (events : List Event) (copy : List ListEntry) →
     IsShardReached w → MayHappenInTurn w events → AllByRecursion (λ e. names e ≡ false) events →

@@ -1,4 +1,5 @@
--- A reopening does not name a shard, of which more copies are kept than the primary's own: its new primary has all that is acknowledged.
+-- A shard that a reopening does not name, and of which more copies are kept than the primary's own: its new primary has
+-- all that is acknowledged.
 use Rattle.std.specs.Prelude.{◌≡◌, ◌≤◌, ◌⊎◌, ℕ, true, false, not, List, Some, is_some}
 use Rattle.sm_server.specs.Cell.{is_absent}
 use Rattle.sm_placement.specs.Opening.{first_below}
@@ -11,8 +12,8 @@ use Rattle.sm_reopening.specs.Proposal.{Documented}
 use Rattle.sm_reopening.specs.Survivors.{IsSuccessorOf, standing_of}
 use Rattle.laws_data.specs.Shard.{IsShardReached, Shard}
 
--- What the reopening knows of a shard is so: its replicas are those that are recorded, each whole copy is there as it was
--- told, who is lost has told nothing, and nobody but the primary has another part than a secondary's.
+-- What a reopening knows of a shard is so: the shard's replicas are those that are recorded, each whole copy is as it
+-- was told, no lost server has told anything, and each server has no claim, or a secondary's.
 pub record KnowsShard (x : OngoingReopening) (s : ℕ) (w : Shard) : Type 0 where
   pub servers : w.servers ≡ (net_reopening x).servers
   pub replicas : (v : ℕ) → w.replicas v ≡ not (is_absent ((recorded_place x).cells s v))
@@ -20,8 +21,8 @@ pub record KnowsShard (x : OngoingReopening) (s : ℕ) (w : Shard) : Type 0 wher
   pub lost : (v : ℕ) → (net_reopening x).lost v ≡ true → is_some ((net_reopening x).told (Server v)) ≡ false
   pub secondaries : (v : ℕ) → ((standing_of x s v).claim ≡ 0) ⊎ ((standing_of x s v).claim ≡ 2)
 
--- The primary is gone, no more than as many copies are kept as each acknowledged write had, and the shard is not named: who inherits it has all
--- that is acknowledged.
+-- The primary of a shard is gone, at most as many copies are kept as each acknowledged write had, and the shard is not
+-- named: the server that inherits the shard has all that is acknowledged.
 abbrev pub UnnamedIsWhole : Type 0
 UnnamedIsWhole = (x : OngoingReopening) (d : Documented) (kept s u : ℕ) (w : Shard) → IsShardReached w → KnowsShard x s w
     → 2 ≤ kept → kept ≤ w.needed → is_some (first_below (net_reopening x).servers (has_gone x s)) ≡ true

@@ -1,4 +1,5 @@
--- What happens to the data of one shard: writes, copies, losses, replicas that come and go, other primaries. What a server has is what is durable there.
+-- What happens to the data of one shard: writes, copies, losses, replicas that come and go, other primaries. What a
+-- server has is what is durable there.
 use Rattle.std.specs.Prelude.{◌≡◌, ◌≢◌, ◌<◌, ◌≤◌, ◌⊎◌, ◌+◌, ◌==◌, ◌&&◌, nat_lt, ℕ, zero, suc, Bool, true, false, not, List, [], ◌∷◌, ◌++◌, Option, Some, None, is_some, length, slice_get, if◌then◌else◌}
 use Rattle.sm_placement.specs.Sums.{put, count_below}
 use Rattle.sm_copies.specs.declared.order.ToldCopy.{ToldCopy}
@@ -44,8 +45,8 @@ pub record Shard : Type 0 where
   -- the list of each view as its primary had it; nothing that happens depends on these
   pub lists : ℕ → List ListEntry
 
--- A choice of another primary by a reopening: who it is, its view, and who are replicas from then on; whose copies were told; how many replicas are
--- asked for; and whether the shard is named as lost.
+-- A choice of another primary by a reopening: who it is, its view, and who are replicas from then on; whose copies were
+-- told; how many replicas are asked for; and whether the shard is named as lost.
 pub record Choice : Type 0 where
   pub successor : ℕ
   pub view : ℕ
@@ -154,8 +155,8 @@ abbrev pub HaveNoLess : Shard → (ℕ → Bool) → ℕ → List ListEntry → 
 HaveNoLess w others s list = (t : ℕ) → others t ≡ true → (t ≢ s) × (is_counted w t ≡ true)
     × (copy : List ListEntry) × (w.copies t ≡ Some copy) × IsAtLeast (told_of copy) (told_of list)
 
--- A server may have a list in place of its copy without a primary: the copy is no greater, or the server has none and is
--- no replica yet.
+-- A server may have a list in place of its copy without a primary: the copy is no greater, or the server has none and
+-- is no replica yet.
 abbrev pub MayTake : Shard → ℕ → List ListEntry → Type 0
 MayTake w s list = ((copy : List ListEntry) × (w.copies s ≡ Some copy) × IsAtLeast (told_of list) (told_of copy))
     ⊎ ((w.copies s ≡ None) × (w.replicas s ≡ false))

@@ -3,19 +3,20 @@ ghost use Rattle.laws_data.specs.Laws.{AcknowledgedWritesStay, EnoughHaveThem, G
 ghost use Rattle.laws_data.specs.Naming.{UnnamedIsWhole};
 ghost use Rattle.laws_data.specs.Plays.{ComesWithoutPrimary, LeavesWithoutPrimary, OutlivesItsPrimary, SucceedsItsPrimary};
 
-/// States that the primary, if there is one and it has a whole copy, has every write that was ever acknowledged, whatever
-/// happened since, unless a reopening has named the shard as lost.
+/// States that the primary, if there is one and it has a whole copy, has every write that was ever acknowledged,
+/// whatever happened since, unless a reopening has named the shard as lost.
 pub fn acknowledged_writes_stay()
     ensures { AcknowledgedWritesStay }
 {}
 
-/// States that at each moment at least as many replicas as are asked for have all acknowledged writes, or have lost their whole copy.
+/// States that at each moment at least as many replicas as are asked for have all acknowledged writes, or have lost
+/// their whole copy.
 pub fn enough_replicas_have_them()
     ensures { EnoughHaveThem }
 {}
 
-/// States that if fewer replicas than are asked for are gone or silent, the greatest copy of those that were told has all
-/// acknowledged writes.
+/// States that if fewer replicas than are asked for are gone or silent, the greatest copy of those that were told has
+/// all acknowledged writes.
 pub fn greatest_copy_has_all()
     ensures { GreatestHasAll }
 {}
@@ -43,8 +44,8 @@ pub fn a_replica_comes_without_a_primary()
     ensures { ComesWithoutPrimary }
 {}
 
-/// States that if a reopening does not name a shard whose primary is gone, who inherits it has all acknowledged writes, as
-/// long as no more copies are kept of it than each of them had.
+/// States that if a reopening does not name a shard whose primary is gone, the server that inherits the shard has all
+/// acknowledged writes, as long as no more copies of the shard are kept than each of them had.
 pub fn unnamed_shards_are_whole()
     ensures { UnnamedIsWhole }
 {}

@@ -1,4 +1,5 @@
-//! Laws of data: a write that is acknowledged stays with the shard's primary, whatever is lost, unless the shard was named as lost.
+//! Laws of data: a write that is acknowledged stays with the shard's primary, whatever is lost, unless the shard was
+//! named as lost.
 #![tactic(auto)]
 
 mod law;

@@ -20,8 +20,8 @@ pub record IsTold (d : DriverModel) (c : Controller) (told : RestoreModel) : Typ
   pub restoration : given.restoration ≡ record { journal = d.journal; fence = d.fence; number = told.number; nonce = told.nonce }
   pub cells : told.cells ≡ map given.cells (range_with_len 0 (record_of d).sizes.shards)
 
--- The driver is this controller: it has the same journal, fence, base, record and permits, one for each server at most; and whatever a server
--- was told last, the controller has given.
+-- The driver is this controller: it has the same journal, fence, base, record and permits, one for each server at most;
+-- and whatever a server was told last, the controller has given.
 pub record IsControllerOf (d : DriverModel) (c : Controller) : Type 0 where
   pub journal : c.journal ≡ d.journal
   pub fence : c.fence ≡ d.fence
@@ -41,8 +41,8 @@ pub data Command : Type 0 where
   NoteCopies : (shard copies : ℕ) → Command
   OpenEpoch : Command
 
--- An entry for an answer that a stream waits for: the answer to an order of the stream with this number, if it stands before a call; otherwise
--- that to the publication that it stands before.
+-- An entry for an answer that a stream waits for: the answer to an order of the stream with this number, if it stands
+-- before a call; otherwise that to the publication that it stands before.
 abbrev pub IsAnswerEntry : DriverModel → StreamId → ℕ → JournalEntry → Type 0
 IsAnswerEntry d id number (Answered o) = (o.stream ≡ id) × (o.number ≡ number) × IsSome (next_call_of (record_of d) id)
 IsAnswerEntry d id number (Stored p) = publication_of (base d) (record_of d) id ≡ Some p
@@ -52,8 +52,8 @@ IsAnswerEntry d id number _ = ⊥
 abbrev pub free_steps : List StreamId → List JournalEntry
 free_steps ids = map (λ id. Made (Step id)) (reverse ids)
 
--- By its contract, a command makes one driver of another one; and these are its entries, the latest first: that of the command, and behind it
--- the local steps. Copies that are noted have none: the controller keeps nothing of them.
+-- By its contract, a command makes one driver of another one; and these are its entries, the latest first: that of the
+-- command, and behind it the local steps. Copies that are noted have none: the controller keeps nothing of them.
 abbrev pub Writes : Command → DriverModel → DriverModel → List JournalEntry → Type 0
 Writes (BeginPlan plan) old new es = (number : ℕ) × (begun : HasBegunPlan plan number old new) × (es ≡ free_steps begun.advanced.streams ++ Made (Begin plan) ∷ [])
 Writes (TakeAnswer id number) old new es =
@@ -68,7 +68,8 @@ Writes OpenEpoch old new es = HasOpenedEpoch old new × (epoch_fault old ≡ Non
 abbrev pub IsWritten : Command → DriverModel → DriverModel → Type 0
 IsWritten command old new = (es : List JournalEntry) × Writes command old new es
 
--- The caller of a command has to know that the plan was checked for the driver's configuration, and the server or the shard is one of it.
+-- What the caller of a command has to know: the plan was checked for the driver's configuration, and the server or the
+-- shard is one of it.
 abbrev pub IsCallable : DriverModel → Command → Type 0
 IsCallable d (BeginPlan plan) = FitsConfig (record_of d).sizes (Begin plan)
 IsCallable d (ApproveRestart v) = FitsConfig (record_of d).sizes (Approve v)

@@ -86,7 +86,8 @@ abbrev pub DriversOpen : Type 0
 DriversOpen = (setup : Setup) (p : Place) (room : ℕ) (d : DriverModel) → IsOpening setup p room → IsJustOpened setup p room [] d → d.fence ≡ 0 →
     (f : Fleet) × IsDrivenOpening (record { driver = d; fleet = f }) × ((s v : ℕ) → ((f.servers v).slots s).cell ≡ p.cells s v)
 
--- A driver that has just been opened, with permits of before, is a controller that has given no restore, and whose permits are apart.
+-- A driver that has just been opened, with permits of before, is a controller that has given no restore, and whose
+-- permits are apart.
 abbrev pub OpenedControls : Type 0
 OpenedControls = (setup : Setup) (p : Place) (room : ℕ) (before : List (Option ℕ)) (d : DriverModel) → IsOpening setup p room → IsJustOpened setup p room before d →
     AreEarlierPermits (base d) before → (c : Controller) × IsControllerOf d c × (c.restores ≡ []) × ArePermits c

@@ -15,7 +15,8 @@ LeadTo (c ∷ cs) old new = (between : DriverModel) × IsWritten c old between �
 abbrev pub StayAlike : DriverModel → DriverModel → Type 0
 StayAlike d e = (commands : List Command) (new next : DriverModel) → LeadTo commands d new → LeadTo commands e next → AreAlike new next
 
--- Both drivers have just been opened, in the same epoch of the same journal, over the same placement, with the same servers carried over.
+-- Both drivers have just been opened, in the same epoch of the same journal, over the same placement, with the same
+-- servers carried over.
 pub record OpenedAlike (rows : Setup) (p : Place) (room : ℕ) (before : List (Option ℕ)) (d e : DriverModel) : Type 0 where
   pub one : IsJustOpened rows p room before d
   pub other : IsJustOpened rows p room before e

@@ -23,7 +23,8 @@ pub fn begin(driver: &mut Driver, ready: ReadyPlan) -> Result<u32, (ReadyPlan, B
     driver.begin(ready)
 }
 
-/// Takes an answer as `Driver::answered` does: one that a stream waits for is written, and the steps behind it that are local.
+/// Takes an answer as `Driver::answered` does: one that a stream waits for is written, and the steps behind it that are
+/// local.
 pub fn answered(driver: &mut Driver, id: StreamId, number: u64) -> AnswerEffect
     ensures { result ≡ answer.Moved → IsWritten (TakeAnswer id number) driver.old driver.new }
 {

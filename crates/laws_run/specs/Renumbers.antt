@@ -24,7 +24,8 @@ documents_numbers r = record { servers = r.servers; shards = r.shards }
 abbrev pub settlement_kept : PlacementModel → ℕ → Settlement
 settlement_kept p room = record { setup = p.setup; place = place_of p; room = room }
 
--- An operator's choices are confirmed. The reopening numbers what had numbers, and its document; these servers are lost.
+-- An operator's choices are confirmed. The reopening numbers what had numbers, and its document; these servers are
+-- lost.
 pub record IsConfirmedUnder (numbered : Setup) (lost : List (List ℕ)) (chosen : List Choice) (r new : ReopeningModel)
     (s : Settlement) : Type 0 where
   pub numbers : NumbersUnder numbered r
@@ -33,8 +34,8 @@ pub record IsConfirmedUnder (numbered : Setup) (lost : List (List ℕ)) (chosen 
   pub settles : SettlesChosen r chosen s
   pub keeps : KeepsChosen r new chosen
 
--- If a controller may open on the settlement, and one on what is kept for the next driver, both are the same: the second
--- is the first in the document's numbers.
+-- If a controller may open on the settlement, and one on what is kept for the next driver, both are the same: the
+-- second is the first in the document's numbers.
 abbrev pub KeptIsRenumbered : Type 0
 KeptIsRenumbered = (numbered : Setup) (lost : List (List ℕ)) (chosen : List Choice) (r new : ReopeningModel) (s : Settlement)
     (c : IsConfirmedUnder numbered lost chosen r new s) → IsOpening s.setup s.place s.room →

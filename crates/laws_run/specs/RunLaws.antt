@@ -12,7 +12,8 @@ use Rattle.smpland_session.specs.declared.session.Session.{Session}
 use Rattle.laws_run.specs.Runs.{AllMomentsFit, Happens, LineFits, IsOpenWith, IsRunReached, Moment, Run, after_moment, after_moments}
 use Rattle.laws_run.specs.Truth.{LineIsTrue}
 
--- A line that changes something is a command of the driver, whose entries tell the truth if the line does: the run goes on by it.
+-- A line that changes something is a command of the driver, whose entries tell the truth if the line does: the run goes
+-- on by it.
 abbrev pub LinesGoOn : Run → Type 0
 LinesGoOn x = (line : List ℕ) (session : Session) → SessionChanges x.session session → DoesAsSaid line x.session session →
     session.under_way ≡ None → LineIsTrue x.driven line →
@@ -36,8 +37,8 @@ abbrev pub AllLoseDown : List Moment → Run → Type 0
 AllLoseDown [] x = Unit {0}
 AllLoseDown (m ∷ ms) x = LosesDown x m × AllLoseDown ms (after_moment x m)
 
--- If only servers that are down have lost their slots, and servers lose them only then, no shard has fewer replicas at servers that are up and have
--- their slots than its floor.
+-- If only servers that are down have lost their slots, and servers lose them only then, no shard has fewer replicas at
+-- servers that are up and have their slots than its floor.
 abbrev pub FloorsHold : Run → Type 0
 FloorsHold x = AreLostDown x.driven.fleet → (ms : List Moment) → AllMomentsFit ms x → AllLoseDown ms x →
     AreLostDown (after_moments ms x).driven.fleet × HasFloors (after_moments ms x).driven.fleet
@@ -48,7 +49,8 @@ FloorsHold x = AreLostDown x.driven.fleet → (ms : List Moment) → AllMomentsF
 abbrev pub AsksForSlots : Fleet → ℕ → Type 0
 AsksForSlots f v = (nonce : ℕ) × ((f.servers v).base.nonce ≡ Some nonce) × HasAskedUnder f.asks v nonce
 
--- A line that opens a journal leads a session to the beginning of a run, as users begin it: every server is Unknown, and asks for its slots.
+-- A line that opens a journal leads a session to the beginning of a run, as users begin it: every server is Unknown,
+-- and asks for its slots.
 abbrev pub RunsBegin : Type 0
 RunsBegin = (line : List ℕ) (old new : Session) → old.opened ≡ None → old.under_way ≡ None → new.under_way ≡ None →
     SessionChanges old new → DoesAsSaid line old new →

@@ -1,5 +1,5 @@
--- Runs of smpland between reopenings: lines come to a session whose journal is open, and its driver has a fleet, to which anything may happen meanwhile.
--- Processes are killed, and others go on.
+-- Runs of smpland between reopenings: lines come to a session whose journal is open, and its driver has a fleet, to
+-- which anything may happen meanwhile. Processes are killed, and others go on.
 use Rattle.std.specs.Prelude.{◌≡◌, ℕ, List, [], ◌∷◌, Some, None}
 use Rattle.laws_driver.specs.Control.{Command, DriverModel, JournalEntry}
 use Rattle.laws_driver.specs.Driven.{Driven, FleetEvent, Goes, IsDrivenOpening, Takes, TurnFits, WritesNothing, after_turn, driver_setup}
@@ -37,8 +37,8 @@ abbrev pub after_moments : List Moment → Run → Run
 after_moments [] x = x
 after_moments (m ∷ ms) x = after_moments ms (after_moment x m)
 
--- A line changes something, as the contract of the program's session says; it is true, and begins no reopening. Its command writes these entries, each
--- of which tells the truth.
+-- A line changes something, as the contract of the program's session says; it is true, and begins no reopening. Its
+-- command writes these entries, each of which tells the truth.
 pub record LineFits (x : Run) (line : List ℕ) (command : Command) (session : Session) (driver : DriverModel) (es : List JournalEntry) : Type 0 where
   pub changes : SessionChanges x.session session
   pub said : DoesAsSaid line x.session session

@@ -57,9 +57,10 @@ AnswerIsGiven x id number None = OwnerHasStored x id
 abbrev pub HasBase : Fleet → ℕ → ℕ → Type 0
 HasBase f v number = (has_lost f v ≡ false) × ((f.servers v).base.number ≡ number)
 
--- What a command tells is so: the answer was given; the server with the permit has its slots and the base; the server has asked under the nonce. A plan
--- that begins, an approval and an epoch tell nothing of servers: of these smpland itself decides. Of copies nothing is asked here: whether writes are on
--- them the servers know, and no law of cells rests on it.
+-- What a command tells is so: the answer was given; the server with the permit has its slots and the base; the server
+-- has asked under the nonce. A plan that begins, an approval and an epoch tell nothing of servers: of these smpland
+-- itself decides. Of copies nothing is asked here: whether writes are on them the servers know, and no law of cells
+-- rests on it.
 abbrev pub CommandIsTrue : Driven → Command → Type 0
 CommandIsTrue x (TakeAnswer id number) = AnswerIsGiven x id number (next_call_of (record_of x.driver) id)
 CommandIsTrue x (EndRestart permit (Some number)) = (v : ℕ) → server_permitted x.driver.permits permit ≡ Some v → HasBase x.fleet v number

@@ -1,4 +1,5 @@
--- A driver and the service that it controls, over all its epochs and reopenings: what may happen to them, in any order and any number of times.
+-- A driver and the service that it controls, over all its epochs and reopenings: what may happen to them, in any order
+-- and any number of times.
 use Rattle.std.specs.Prelude.{◌≡◌, ◌<◌, ℕ, Bool, true, Option, Some, List, [], ◌∷◌, length, map, slice_get}
 use Rattle.sm_plan_code.specs.declared.limits.TheConstants.{MOST_PLACES}
 pub use Rattle.laws_network.specs.World.{World}
@@ -19,7 +20,8 @@ pub use Rattle.sm_reopening.specs.Ongoing.{net_reopening, recorded_place}
 pub data Controlled : Type 0 where
   -- it runs plans over its fleet
   Drives : (x : Driven) → Controlled
-  -- its plans have ended, and a reopening is under way over the fleet: as its controller keeps it, and as it is over the network
+  -- its plans have ended, and a reopening is under way over the fleet: as its controller keeps it, and as it is over
+  -- the network
   Settles : (x : Driven) (ongoing : OngoingReopening) (settling : Settling) → Controlled
 
 -- An event: something happens to servers and network, or the driver takes a command.
@@ -32,7 +34,8 @@ pub data ControlledEvent : Type 0 where
   Meets : (event : SettlingEvent) → ControlledEvent
   -- the controller writes this of the reopening, which is this one then
   Writes : (entry : Entry) (ongoing : OngoingReopening) → ControlledEvent
-  -- what was settled is in force: in numbers of its own it is this settlement, on which this driver opens over this fleet
+  -- what was settled is in force: in numbers of its own it is this settlement, on which this driver opens over this
+  -- fleet
   Opens : (numbers : Renumbering) (opening : Settlement) (driver : DriverModel) (fleet : Fleet) → ControlledEvent
 
 -- what an event does
@@ -55,7 +58,8 @@ controlled_run (e ∷ es) c = controlled_run es (controlled_comes c e)
 abbrev pub AreGivenUp : Settling → (ℕ → Bool) → Type 0
 AreGivenUp y lost = (v : ℕ) → lost v ≡ true → IsGivenUp y v
 
--- The driver takes the command to reopen: by its contract, the reopening is of a later epoch, over what the driver has recorded.
+-- The driver takes the command to reopen: by its contract, the reopening is of a later epoch, over what the driver has
+-- recorded.
 pub record MayReopenAs (x : Driven) (world : World) (number servers : ℕ) (lost : ℕ → Bool) (new : OngoingReopening) : Type 0 where
   pub reopening : net_reopening new ≡ entered (Reopen number servers lost) (no_reopening (length (driver_setup x).servers))
   pub place : recorded_place new ≡ (record_of x.driver).place
@@ -78,7 +82,8 @@ WritesNone y (Records e) = ⊥
 WritesNone y (Arrives k reached) = IsNoAnswer (slice_get y.messages k)
 WritesNone y _ = Unit {0}
 
--- by its contract, the command may be taken: one reopening replaces another under a higher number, and a settlement may be confirmed
+-- by its contract, the command may be taken: one reopening replaces another under a higher number, and a settlement may
+-- be confirmed
 abbrev pub MayWrite : OngoingReopening → Entry → Type 0
 MayWrite ongoing (Reopen number servers lost) = (net_reopening ongoing).base < number
 MayWrite ongoing (Confirm s) = MayConfirm ongoing s
@@ -106,7 +111,8 @@ AreLow versions = (s : ℕ) → versions s < MOST_PLACES
 abbrev pub permits_as : Renumbering → List (Option ℕ) → List (Option ℕ)
 permits_as n before = map (permit_of before) n.servers
 
--- All have taken the settlement, and by its contract the driver opens on it in numbers of its own, as the controller of a fleet in force.
+-- All have taken the settlement, and by its contract the driver opens on it in numbers of its own, as the controller of
+-- a fleet in force.
 pub record MayOpenAs (x : Driven) (ongoing : OngoingReopening) (y : Settling) (n : Renumbering) (new : Settlement) (driver : DriverModel) (fleet : Fleet) : Type 0 where
   pub settlement : Settlement
   pub settled : (net_reopening ongoing).settlement ≡ Some settlement

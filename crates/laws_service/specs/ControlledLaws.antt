@@ -25,7 +25,8 @@ abbrev pub service_of : Controlled → Service
 service_of (Drives x) = Runs (driver_setup x) x.fleet
 service_of (Settles x ongoing y) = ServiceReopens (driver_setup x) x.fleet y
 
--- A reopening as its controller keeps it is the one that is under way over the network, over what the driver has recorded, and in a later epoch.
+-- A reopening as its controller keeps it is the one that is under way over the network, over what the driver has
+-- recorded, and in a later epoch.
 pub record IsReopeningOf (x : Driven) (ongoing : OngoingReopening) (y : Settling) : Type 0 where
   pub reopening : net_reopening ongoing ≡ y.reopening
   pub record_is : y.world.net.w ≡ record_of x.driver
@@ -33,8 +34,8 @@ pub record IsReopeningOf (x : Driven) (ongoing : OngoingReopening) (y : Settling
   pub base_is : y.world.net.base ≡ base x.driver
   pub later : base x.driver + EPOCH ≤ y.reopening.base
 
--- The driver is the service's controller, and a reopening that it has under way is the service's. Between reopenings turns lead to the driver and
--- its fleet, so that whatever holds of these holds of it.
+-- The driver is the service's controller, and a reopening that it has under way is the service's. Between reopenings
+-- turns lead to the driver and its fleet, so that whatever holds of these holds of it.
 abbrev pub IsControlled : Controlled → Type 0
 IsControlled (Drives x) = IsControllerOf x.driver (controller x.fleet) × IsDrivenReached x
 IsControlled (Settles x ongoing y) = IsControllerOf x.driver (controller x.fleet) × IsReopeningOf x ongoing y
@@ -69,8 +70,8 @@ abbrev pub ControlledOpens : Type 0
 ControlledOpens = (setup : Setup) (p : Place) (room : ℕ) (d : DriverModel) → IsOpening setup p room → IsJustOpened setup p room [] d → d.fence ≡ 0 → AreLow p.version →
     (f : Fleet) × IsControlledReached (Drives (record { driver = d; fleet = f })) × ((s v : ℕ) → ((f.servers v).slots s).cell ≡ p.cells s v)
 
--- Whenever the driver runs plans, it can reopen: there is a world for each reopening of a later epoch that begins over what it has recorded, if
--- those that are given up are gone.
+-- Whenever the driver runs plans, it can reopen: there is a world for each reopening of a later epoch that begins over
+-- what it has recorded, if those that are given up are gone.
 abbrev pub DriverCanReopen : Controlled → Type 0
 DriverCanReopen (Settles x ongoing y) = Unit {0}
 DriverCanReopen (Drives x) = (epoch servers : ℕ) (lost : ℕ → Bool) (new : OngoingReopening) → x.driver.epoch < epoch →

@@ -1,4 +1,5 @@
-//! Laws that join the driver to the laws of the service: it is their controller over all epochs and reopenings, whatever commands it takes.
+//! Laws that join the driver to the laws of the service: it is their controller over all epochs and reopenings,
+//! whatever commands it takes.
 #![tactic(auto)]
 
 mod law;

@@ -24,8 +24,8 @@ pub record AreOngoingAlike (x y : OngoingReopening) : Type 0 where
   pub copies : told_copies y ≡ told_copies x
   pub rest : IsSameButTold x y
 
--- So they are with what they are under: journal, epoch, rows of the document, numbers, roles, permits and kept copies. Once a settlement is confirmed, the next
--- driver opens with the same setup and the same place.
+-- So they are with what they are under: journal, epoch, rows of the document, numbers, roles, permits and kept copies.
+-- Once a settlement is confirmed, the next driver opens with the same setup and the same place.
 pub record AreReopeningsAlike (r s : ReopeningModel) : Type 0 where
   pub ongoing : AreOngoingAlike r.ongoing s.ongoing
   pub journal : s.journal ≡ r.journal

@@ -27,7 +27,8 @@ abbrev pub IsOnJournal : LineCommand → Type 0
 IsOnJournal (line.Question _) = ⊥
 IsOnJournal _ = Unit {0}
 
--- A session took a line that is no question, and did what it asks for: the line is an entry. This is what a replay of a changing line promises.
+-- A session took a line that is no question, and did what it asks for: the line is an entry. This is what a replay of a
+-- changing line promises.
 pub record TakesEntry (text : List ℕ) (old new : Session) : Type 0 where
   pub value : Data
   pub read : data_of text ≡ Some value
@@ -51,7 +52,8 @@ TakesEntries (text ∷ texts) old new = (between : Session) × TakesEntry text o
 abbrev pub ReplaysStayAlike : Session → Session → Type 0
 ReplaysStayAlike a b = (texts : List (List ℕ)) (new next : Session) → TakesEntries texts a new → TakesEntries texts b next → AreSessionsAlike new next
 
--- So sessions that begin with nothing and take the same entries are alike: a session after its recovery is like the one before.
+-- So sessions that begin with nothing and take the same entries are alike: a session after its recovery is like the one
+-- before.
 abbrev pub ReplaysAgree : Type 0
 ReplaysAgree = (a b : Session) → IsNew a → IsNew b → ReplaysStayAlike a b
 
@@ -68,7 +70,8 @@ IsSameTold (told.Slots rows) (told.Slots others) = items_view others.now ≡ ite
 IsSameTold (told.Unknown nonce) (told.Unknown other) = other ≡ nonce
 IsSameTold _ _ = ⊥
 
--- Two reopenings take the same answer to a fence, the same confirmation, or the same answer to a settle: they are alike afterwards.
+-- Two reopenings take the same answer to a fence, the same confirmation, or the same answer to a settle: they are alike
+-- afterwards.
 pub record ReopeningsGoAlike (r s : ReopeningModel) : Type 0 where
   pub fenced : (server other : Option (Bor (List ℕ))) (base : ℕ) (tells also : InventoryText) (new next : ReopeningModel) → IsSameName server other →
       IsSameTold tells also → TakesFenced server base tells r new → TakesFenced other base also s next → AreReopeningsAlike new next

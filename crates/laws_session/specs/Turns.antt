@@ -8,7 +8,8 @@ use Rattle.laws_driver.specs.Driven.{AllByRecursion, Command, Driven, DriverMode
 abbrev pub ChangesAreCommands : Type 0
 ChangesAreCommands = (old new : DriverModel) → Changes old new → (command : Command) × (es : List JournalEntry) × IsCallable old command × Writes command old new es
 
--- A line's change is such a command. Whatever entries it writes, if they tell the truth, the driver and its fleet have come on by a turn.
+-- A line's change is such a command. Whatever entries it writes, if they tell the truth, the driver and its fleet have
+-- come on by a turn.
 abbrev pub ChangesAreTurns : Driven → Type 0
 ChangesAreTurns x = (new : DriverModel) → Changes x.driver new → (command : Command) × IsCallable x.driver command × IsWritten command x.driver new
     × ((es : List JournalEntry) → Writes command x.driver new es → AllByRecursion (TellsTruth x.fleet) es → IsDrivenReached (after_turn x (Takes command new es)))

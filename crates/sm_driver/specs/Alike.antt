@@ -27,7 +27,8 @@ pub record AreAlike (d e : DriverModel) : Type 0 where
 abbrev pub EachAlike : (DriverModel → DriverModel → Type 0) → Type 0
 EachAlike P = (d e : DriverModel) → AreAlike d e → P d e
 
--- The outcome of a command is decided by the same, streams stand before the same messages, and a reopening keeps the same copies.
+-- The outcome of a command is decided by the same, streams stand before the same messages, and a reopening keeps the
+-- same copies.
 pub record ReplyAlike (d e : DriverModel) : Type 0 where
   pub begin : (plan : PlanModel) → (happens (record_of e) (Begin plan)).0 ≡ (happens (record_of d) (Begin plan)).0
   pub due : (id : StreamId) (number : ℕ) → is_due e id number ≡ is_due d id number

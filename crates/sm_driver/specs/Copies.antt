@@ -1,4 +1,5 @@
--- Copies: how many replicas of each shard surely have every acknowledged write, as far as it was told, and what a reopening keeps of it.
+-- Copies: how many replicas of each shard surely have every acknowledged write, as far as it was told, and what a
+-- reopening keeps of it.
 use Rattle.std.specs.Prelude.{◌≡◌, ℕ, ◌==◌, ◌&&◌, ◌||◌, Bool, false, not, Option, Some, None, List, map, nat_le, nat_lt, slice_index_or, slice_set, if◌then◌else◌}
 use Rattle.std.specs.List.{list_any, range_with_len}
 use Rattle.sm_placement.specs.Opening.{is_handing}
@@ -23,7 +24,8 @@ shard_want setup s = (slice_index_or setup.shards s no_shard).want
 abbrev pub is_told_now : DriverModel → ToldCopies → Bool
 is_told_now d told = (told.journal == d.journal) && (told.fence == d.fence)
 
--- what comes of copies that are told: they are old if they were told to another journal, before its last reopening, or if as many are recorded
+-- what comes of copies that are told: they are old if they were told to another journal, or before its last reopening,
+-- or if as many are recorded already
 abbrev pub copies_effect : DriverModel → ℕ → ToldCopies → CopiesEffect
 copies_effect d s told =
     if not (is_told_now d told) || nat_le told.copies (copies_of d s) then Old

@@ -20,15 +20,16 @@ use Rattle.sm_driver.specs.declared.restart.RestartEffect.{RestartEffect}
 use Rattle.sm_driver.specs.declared.restart.RestartEffect.TheVariants.{Old, Unsettled, Up}
 use Rattle.sm_driver.specs.Restores.{RestoreModel, restore_now}
 
--- A driver, as contracts see it: a machine, whose state is what is recorded, the journal that it belongs to, and its epoch there.
+-- A driver, as contracts see it: a machine, whose state is what is recorded, the journal that it belongs to, and its
+-- epoch there.
 pub record DriverModel : Type 0 where
   pub machine : MachineModel
   pub journal : ℕ
   pub epoch : ℕ
   -- the base of the journal's last reopening, 0 before any
   pub fence : ℕ
-  -- by the servers' numbers: of each that is down the permit of its restart, and whether a reopening carried it over; what each was told
-  -- last after it had lost all it had
+  -- by the servers' numbers: of each that is down the permit of its restart, and whether a reopening carried it over;
+  -- what each was told last after it had lost all it had
   pub permits : List (Option ℕ)
   pub carried : List Bool
   pub restores : List (Option RestoreModel)
@@ -59,7 +60,8 @@ is_due d id number = awaits_answer d id && (number == order_number d id)
 abbrev pub is_past : DriverModel → StreamId → ℕ → Bool
 is_past d id number = is_begun (record_of d) id && ((progress_of (record_of d) id).done || nat_lt number (order_number d id))
 
--- what an answer comes to: a stream that waits for it makes its step; otherwise it is old if its stream has gone on since, and else unknown
+-- what an answer comes to: a stream that waits for it makes its step; otherwise it is old if its stream has gone on
+-- since, and else unknown
 abbrev pub answer_effect : DriverModel → StreamId → ℕ → AnswerEffect
 answer_effect d id number = if is_due d id number then answer.Moved else if is_past d id number then answer.Old else answer.Unknown
 

@@ -23,7 +23,8 @@ abbrev pub is_settled : ℕ → Option ℕ → Bool
 is_settled fence None = false
 is_settled fence (Some number) = nat_le fence number
 
--- what comes of the end of a restart, if its permit is this server's, or no server's: a server that is not settled does not come up
+-- what comes of the end of a restart, if its permit is this server's, or no server's: a server that is not settled does
+-- not come up
 abbrev pub restart_effect : ℕ → Option ℕ → Option ℕ → RestartEffect
 restart_effect fence server_base None = Old
 restart_effect fence server_base (Some v) = if is_settled fence server_base then Up v else Unsettled v
@@ -45,8 +46,8 @@ pub record AreEarlierPermits (base : ℕ) (permits : List (Option ℕ)) : Type 0
   pub earlier : (v permit : ℕ) → permit_of permits v ≡ Some permit → permit ≤ base
   pub apart : (u v permit : ℕ) → permit_of permits u ≡ Some permit → permit_of permits v ≡ Some permit → u ≡ v
 
--- Permits of a driver whose log has come to this length above this base, no two alike: each is an earlier one or one of an approval in
--- the log, or otherwise one that the opening gave.
+-- Permits of a driver whose log has come to this length above this base, no two alike: each is an earlier one or one of
+-- an approval in the log, or otherwise one that the opening gave.
 pub record AreGivenPermits (base recorded : ℕ) (permits : List (Option ℕ)) : Type 0 where
   pub given : (v permit : ℕ) → permit_of permits v ≡ Some permit → (permit ≤ base + recorded) ⊎ ((base + MOST_PLACES < permit) × (permit ≤ base + 2 * MOST_PLACES))
   pub apart : (u v permit : ℕ) → permit_of permits u ≡ Some permit → permit_of permits v ≡ Some permit → u ≡ v

@@ -7,8 +7,8 @@ use Rattle.sm_server.specs.declared.call.Cell.TheVariants.{Prepared, Forwarding}
 use Rattle.sm_protocol.specs.State.{State}
 use Rattle.laws_network.specs.Net.{cell_above}
 
--- The message to a server: under which nonce it asked, the number at or below which orders are old to it from then on, and its cells,
--- by the shards' numbers.
+-- The message to a server: under which nonce it asked, the number at or below which orders are old to it from then on,
+-- and its cells, by the shards' numbers.
 pub record RestoreModel : Type 0 where
   pub nonce : ℕ
   pub number : ℕ

@@ -22,7 +22,7 @@ impl Model for CarriedServers {
     ghost view = { λ c. c.marks.items };
 }
 
-/// Returns whether a server is marked as carried over, and down in a placement.
+/// Whether a server is marked as carried over, and down in a placement.
 fn is_carried_down(placement: &Placement, marks: &[bool], server: u32) -> bool
     requires { server < length placement.now.setup.servers }
     ensures { result ≡ (was_carried marks.now server && (place_of placement.now).down server) }
@@ -34,7 +34,7 @@ fn is_carried_down(placement: &Placement, marks: &[bool], server: u32) -> bool
 }
 
 impl CarriedServers {
-    /// Returns those of the marked servers that are down in a placement.
+    /// Those of the marked servers that are down in a placement.
     #[tactic(auto, using(crate::proofs::Lists::mapped_more))]
     pub fn at_opening(
         alloc: Global,
@@ -50,7 +50,7 @@ impl CarriedServers {
         Ok(CarriedServers { marks: kept })
     }
 
-    /// Returns the marks of all servers, by the servers' numbers.
+    /// The marks of all servers, by the servers' numbers.
     pub fn as_slice(&self) -> &[bool]
         ensures { result.now ≡ self.now }
     {

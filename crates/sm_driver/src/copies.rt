@@ -8,16 +8,16 @@ use std::marker::Model;
 /// The effect of copies that are told of a shard.
 #[derive(Clone, Copy, Debug, PartialEq, Eq)]
 pub enum CopiesEffect {
-    /// So many copies of the shard are recorded now.
+    /// They are recorded now.
     Noted,
-    /// They were told to another journal, before its last reopening, or as many are recorded.
+    /// They were told to another journal, or before its last reopening, or as many are recorded already.
     Old,
-    /// The shard does not want so many replicas.
+    /// They are more than the replicas that the shard wants.
     AboveWant,
 }
 
-/// The copies that are told of a shard: on so many of its replicas is each acknowledged write, and each later one before it is
-/// acknowledged.
+/// The copies that are told of a shard: the number of its replicas that have each acknowledged write, and will have
+/// each later one before it is acknowledged.
 #[derive(Clone, Copy, Debug, PartialEq, Eq)]
 pub struct ToldCopies {
     /// The journal to which they are told.
@@ -43,7 +43,7 @@ impl Model for Copies {
 }
 
 impl Copies {
-    /// Returns the copies at an opening with a number of shards: 1 of each.
+    /// The copies at an opening with a number of shards: 1 of each shard.
     pub fn at_opening(alloc: Global, shards: u32) -> Result<Copies, AllocError>
         ensures { IfOk result (λ copies. copies ≡ replicate shards 1) }
     {
@@ -54,7 +54,7 @@ impl Copies {
         Ok(Copies { counts })
     }
 
-    /// Returns the copies of a shard.
+    /// The copies of a shard.
     pub fn get(&self, shard: ShardId) -> u32
         requires { shard < length self.now }
         ensures { result ≡ slice_index_or self.now shard 1 }

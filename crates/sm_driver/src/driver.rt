@@ -56,7 +56,8 @@ pub enum AnswerEffect {
     Unknown,
 }
 
-/// A controller of real servers: a machine whose calls and publications are orders, each of which is recorded once its answer has come.
+/// A controller of real servers: a machine whose calls and publications are orders, each of which is recorded once its
+/// answer has come.
 pub struct Driver {
     director: Director,
     room: u32,
@@ -82,28 +83,28 @@ impl Model for Driver {
 }
 
 impl Driver {
-    /// Returns the machine, whose state is what is recorded.
+    /// The machine, whose state is what is recorded.
     pub fn machine(&self) -> &Machine
         ensures { result.now ≡ self.now.machine }
     {
         self.director.machine()
     }
 
-    /// Returns the journal that the driver belongs to.
+    /// The journal that the driver belongs to.
     pub fn journal(&self) -> u64
         ensures { result ≡ self.now.journal }
     {
         self.journal
     }
 
-    /// Returns the driver's epoch in its journal.
+    /// The driver's epoch in its journal.
     pub fn epoch(&self) -> u32
         ensures { result ≡ self.now.epoch }
     {
         self.epoch
     }
 
-    /// Returns the number above which all numbers of the driver are.
+    /// The number above which all numbers of the driver are.
     pub fn base(&self) -> u64
         ensures base { result ≡ base self.now }
         ensures small { result < bases_end }
@@ -111,21 +112,21 @@ impl Driver {
         self.epoch as u64 * EPOCH_STEP
     }
 
-    /// Returns the base of the journal's last reopening, 0 before any.
+    /// The base of the journal's last reopening, 0 before any.
     pub fn fence(&self) -> u64
         ensures { result ≡ self.now.fence }
     {
         self.fence
     }
 
-    /// Returns the order of a running stream that stands before a call.
+    /// The order of a running stream that stands before a call.
     pub fn order(&self, id: StreamId) -> Option<StreamOrder>
         ensures { option_map net_order result ≡ order_of (base self.now) (record_of self.now) id }
     {
         order_of(self.machine(), self.base(), id)
     }
 
-    /// Returns the publication of a running stream that stands before one.
+    /// The publication of a running stream that stands before one.
     pub fn publication(&self, id: StreamId) -> Option<StreamPublication>
         ensures publication { option_map net_publication result ≡ publication_of (base self.now) (record_of self.now) id }
         ensures number { IfSome result (λ p. p.number ≡ order_number self.now id) }
@@ -133,7 +134,7 @@ impl Driver {
         publication_of(self.machine(), self.base(), id)
     }
 
-    /// Returns the order or the publication that a running stream stands before.
+    /// The order or the publication that a running stream stands before.
     pub fn message(&self, id: StreamId) -> Option<StreamMessage>
         ensures message { option_map net_message result ≡ message_of (base self.now) (record_of self.now) id }
         ensures number { IfSome result (λ m. message_number m ≡ order_number self.now id) }
@@ -156,8 +157,8 @@ impl Driver {
         let _ = &self.director;
     }
 
-    /// Begins a plan that is ready and was checked for the configuration, and makes every local step. Returns the plan's
-    /// number. If the plan does not begin, it comes back ready, and nothing changes.
+    /// Begins a plan that is ready and was checked for the configuration, and makes every local step. Returns the
+    /// plan's number. If the plan does not begin, it comes back ready, and nothing changes.
     pub fn begin(&mut self, ready: ReadyPlan) -> Result<u32, (ReadyPlan, BeginFault)>
         requires { ready.setup ≡ self.old.machine.placement.setup }
         ensures begun { IfOk result (λ number. HasBegunPlan ready.plan number self.old self.new) }
@@ -211,7 +212,9 @@ impl Driver {
         advance(&mut self.director, id);
     }
 
-    /// Takes the answer to an order or a publication of a stream. If the stream waits for it, it makes its step, and every local step is made: neither the log's room nor the stream's allowance is in the way. Otherwise nothing changes.
+    /// Takes the answer to an order or a publication of a stream. If the stream waits for it, it makes its step, and
+    /// every local step is made: neither the log's room nor the stream's allowance is in the way. Otherwise nothing
+    /// changes.
     pub fn answered(&mut self, id: StreamId, number: u64) -> AnswerEffect
         ensures effect { result ≡ answer_effect self.old id number }
         ensures moved { result ≡ answer.Moved → HasTakenStep id self.old self.new }
@@ -227,7 +230,7 @@ impl Driver {
         }
     }
 
-    /// Returns the permits of restarts, by the servers' numbers: those of the servers that are down.
+    /// The permits of restarts, by the servers' numbers: those of the servers that are down.
     pub fn permits(&self) -> &[Option<u64>]
         ensures permits { result.now ≡ self.now.permits }
         ensures down { ArePermitsOfDown (record_of self.now) self.now.permits }
@@ -237,8 +240,8 @@ impl Driver {
         self.permits.as_slice()
     }
 
-    /// Returns which servers a reopening has carried over, by the servers' numbers: such a server is down, did not answer the reopening,
-    /// and its restart has not ended since.
+    /// Which servers a reopening has carried over, by the servers' numbers: such a server is down, did not answer the
+    /// reopening, and its restart has not ended since.
     pub fn carried(&self) -> &[bool]
         ensures carried { result.now ≡ self.now.carried }
         ensures down { AreCarriedDown (record_of self.now) self.now.carried }
@@ -246,7 +249,7 @@ impl Driver {
         self.carried.as_slice()
     }
 
-    /// Returns why the restart of a server is not approved now.
+    /// Why the restart of a server is not approved now.
     fn denial(&self, server: ServerId) -> Option<Denied>
         requires { server < (record_of self.now).sizes.servers }
         ensures { result ≡ denial (record_of self.now).sizes (record_of self.now).place (pool (record_of self.now)) (engaged (record_of self.now) server) (free_places (record_of self.now)) server }
@@ -258,8 +261,8 @@ impl Driver {
         decide(machine.placement(), machine.pool(), engaged, free, server).err()
     }
 
-    /// Approves the restart of a server, if nothing is against it, and returns its permit. The server is down then. Otherwise nothing
-    /// changes.
+    /// Approves the restart of a server, if nothing is against it, and returns its permit. The server is down then.
+    /// Otherwise nothing changes.
     pub fn approve(&mut self, server: ServerId) -> Result<u64, Denied>
         requires { server < (record_of self.old).sizes.servers }
         ensures approved { IfOk result (λ permit. HasApproved server permit self.old self.new) }
@@ -276,8 +279,9 @@ impl Driver {
         Ok(permit)
     }
 
-    /// Ends the restart that has this permit, if the number of the server's base is at or above the fence: the server is up, and no longer
-    /// carried over. A server has no base if it is Unknown, or fenced. No other permit ends anything. A full log is no hindrance.
+    /// Ends the restart that has this permit, if the number of the server's base is at or above the fence: the server
+    /// is up, and no longer carried over. A server has no base if it is Unknown, or fenced. No other permit ends
+    /// anything. A full log is no hindrance.
     pub fn restarted(&mut self, permit: u64, base: Option<u64>) -> RestartEffect
         ensures effect { result ≡ restart_effect self.old.fence base (server_permitted self.old.permits permit) }
         ensures come { HasCome result permit base self.old self.new }
@@ -335,7 +339,7 @@ impl Driver {
         recorded_cell(self.machine(), self.base(), shard, server)
     }
 
-    /// Returns what a server was told last after it had lost all it had.
+    /// What a server was told last after it had lost all it had.
     pub fn restored(&self, server: ServerId) -> Option<&ServerRestore>
         requires { server < (record_of self.now).sizes.servers }
         ensures { option_copied result ≡ restore_at self.now.restores server }
@@ -343,14 +347,14 @@ impl Driver {
         self.restores.get(server)
     }
 
-    /// Returns the lowest plan that is unfinished.
+    /// The lowest plan that is unfinished.
     fn lowest_unfinished(&self) -> Option<u32>
         ensures { result ≡ slice_get (unfinished_plans (record_of self.now)) 0 }
     {
         self.machine().unfinished().first().copied()
     }
 
-    /// Returns why the next epoch does not open now.
+    /// Why the next epoch does not open now.
     fn epoch_fault(&self) -> Option<EpochFault>
         ensures { result ≡ epoch_fault self.now }
     {
@@ -362,8 +366,8 @@ impl Driver {
         )
     }
 
-    /// Opens the next epoch over the placement as it is recorded, if no plan is unfinished: the log is empty again. Fence, permits,
-    /// carried servers, restores and copies stay.
+    /// Opens the next epoch over the placement as it is recorded, if no plan is unfinished: the log is empty again.
+    /// Fence, permits, carried servers, restores and copies stay.
     pub fn new_epoch(&mut self, alloc: Global) -> Result<(), EpochFault>
         ensures opened { OnOk result (HasOpenedEpoch self.old self.new) }
         ensures fits { OnOk result (epoch_fault self.old ≡ None) }

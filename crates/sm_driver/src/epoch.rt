@@ -32,7 +32,7 @@ pub enum EpochFault {
     NoMemory,
 }
 
-/// Returns whether a full log might take the version of a shard up to the distance of two epochs' bases.
+/// Whether a full log might take the version of a shard up to the distance of two epochs' bases.
 fn is_spent(machine: &Machine, shard: u32) -> bool
     requires { shard < (state_of machine.now).sizes.shards }
     ensures { result ≡ nat_le MOST_PLACES ((state_of machine.now).place.version shard) }
@@ -40,7 +40,7 @@ fn is_spent(machine: &Machine, shard: u32) -> bool
     MOST_PLACES as u64 <= machine.entry(ShardId::new(shard)).version
 }
 
-/// Returns the lowest shard whose version a full log might raise to the next base.
+/// The lowest shard whose version a full log might raise to the next base.
 pub(crate) fn shard_spent(machine: &Machine) -> Option<ShardId>
     ensures { result ≡ shard_spent (state_of machine.now) }
 {
@@ -52,7 +52,7 @@ pub(crate) fn shard_spent(machine: &Machine) -> Option<ShardId>
     None
 }
 
-/// Returns the first of the reasons: an unfinished plan, the last epoch, and a version that is too high.
+/// The first of the reasons: an unfinished plan, the last epoch, and a version that is too high.
 pub(crate) fn fault_by(
     plan: Option<u32>,
     is_last: bool,
@@ -70,7 +70,7 @@ pub(crate) fn fault_by(
     }
 }
 
-/// Returns the number of the epoch after another.
+/// The number of the epoch after another.
 pub(crate) const fn epoch_after(epoch: u32) -> u32
     requires { epoch ≢ last_epoch }
     ensures { result ≡ epoch + 1 }

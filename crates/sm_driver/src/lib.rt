@@ -1,5 +1,5 @@
-//! A controller of real servers: which orders to send now, and what their answers make of what is recorded. It has no handle, reads
-//! no file and writes none.
+//! A controller of real servers: which orders to send now, and what their answers make of what is recorded. It has no
+//! handle, reads no file and writes none.
 #![tactic(auto)]
 
 mod carried;

@@ -10,7 +10,7 @@ use sm_plan_code::Instr;
 use sm_protocol::Event;
 use sm_reservation::StreamId;
 
-/// Returns the instruction that a stream makes next.
+/// The instruction that a stream makes next.
 fn next_instruction(machine: &Machine, id: StreamId) -> Option<Instr>
     requires { is_begun (state_of machine.now) id ≡ true }
     ensures { result ≡ next_instruction (state_of machine.now) id }
@@ -19,7 +19,7 @@ fn next_instruction(machine: &Machine, id: StreamId) -> Option<Instr>
     stream.code.get(machine.position(id)).copied()
 }
 
-/// Returns whether a stream that was begun can make its next step without anybody.
+/// Whether a stream that was begun can make its next step without anybody.
 fn goes_by_itself(machine: &Machine, id: StreamId) -> bool
     requires { is_begun (state_of machine.now) id ≡ true }
     ensures { result ≡ is_free (state_of machine.now) id }
@@ -31,14 +31,14 @@ fn goes_by_itself(machine: &Machine, id: StreamId) -> bool
     }
 }
 
-/// Returns whether a stream can make its next step without anybody.
+/// Whether a stream can make its next step without anybody.
 pub fn is_free(machine: &Machine, id: StreamId) -> bool
     ensures { result ≡ is_free (state_of machine.now) id }
 {
     machine.is_begun(id) && goes_by_itself(machine, id)
 }
 
-/// Returns whether a stream's next step posts a signal.
+/// Whether a stream's next step posts a signal.
 fn posts(machine: &Machine, id: StreamId) -> bool
     requires { is_begun (state_of machine.now) id ≡ true }
     ensures { result ≡ posts_signal (next_instruction (state_of machine.now) id) }
@@ -46,7 +46,7 @@ fn posts(machine: &Machine, id: StreamId) -> bool
     matches!(next_instruction(machine, id), Some(Instr::Signal { .. }))
 }
 
-/// Returns the lowest free stream of a plan.
+/// The lowest free stream of a plan.
 fn free_in(machine: &Machine, plan: u32) -> Option<StreamId>
     requires { plan < length (state_of machine.now).plans }
     ensures { result ≡ first_from 0 (stream_count (state_of machine.now) plan) (λ i. if is_free (state_of machine.now) (stream_id plan i) then Some (stream_id plan i) else None) }

@@ -15,7 +15,7 @@ use sm_reservation::StreamId;
 use sm_server::Call;
 use std::alloc::AllocError;
 
-/// Returns a call with the base added to its handover number, if it has one.
+/// A call with the base added to its handover number, if it has one.
 fn call_above(base: u64, call: Call) -> Call
     requires base { base < bases_end }
     requires number { handover_of call ≤ numbers_end }
@@ -97,7 +97,7 @@ pub fn message_of(machine: &Machine, base: u64, id: StreamId) -> Option<StreamMe
     Some(StreamMessage::Publication(publication))
 }
 
-/// Returns whether a stream stands before a call or an entry of the published map.
+/// Whether a stream stands before a call or an entry of the published map.
 pub fn awaits(machine: &Machine, id: StreamId) -> bool
     ensures { result ≡ awaits (state_of machine.now) id }
 {

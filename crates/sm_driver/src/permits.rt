@@ -25,14 +25,14 @@ impl Model for Permits {
     ghost view = { λ p. p.given.items };
 }
 
-/// Returns the permit of a server, of these by the servers' numbers.
+/// The permit of a server, of these by the servers' numbers.
 fn permit_of(permits: &[Option<u64>], server: u32) -> Option<u64>
     ensures { result ≡ permit_of permits.now server }
 {
     permits.get(server as usize).copied().flatten()
 }
 
-/// Returns the permit that a server has at an opening over a placement, if it is down: the one that it had before, or
+/// The permit that a server has at an opening over a placement, if it is down: the one that it had before, or
 /// otherwise a new one.
 fn opening_permit(
     placement: &Placement,
@@ -51,7 +51,7 @@ fn opening_permit(
     permit_of(before, server).or(Some(new_permit))
 }
 
-/// Returns whether one of a number of first servers has this permit.
+/// Whether one of a number of first servers has this permit.
 fn is_given(permits: &[Option<u64>], servers: usize, permit: u64) -> bool
     requires { servers ≤ length permits.now }
     ensures { IsTrue result ↔ ((v : ℕ) × (v < servers) × (permit_of permits.now v ≡ Some permit)) }
@@ -64,7 +64,7 @@ fn is_given(permits: &[Option<u64>], servers: usize, permit: u64) -> bool
     false
 }
 
-/// Returns whether permits were all given under lower bases than this one, no two alike.
+/// Whether permits were all given under lower bases than this one, no two alike.
 pub fn are_earlier_permits(permits: &[Option<u64>], base: u64) -> bool
     ensures { IsTrue result ↔ AreEarlierPermits base permits.now }
 {
@@ -79,7 +79,7 @@ pub fn are_earlier_permits(permits: &[Option<u64>], base: u64) -> bool
 }
 
 impl Permits {
-    /// Returns the permits at an opening over a placement, by those that servers had before.
+    /// The permits at an opening over a placement, by those that servers had before.
     #[tactic(auto, using(crate::proofs::Lists::mapped_more))]
     pub fn at_opening(
         alloc: Global,
@@ -97,14 +97,14 @@ impl Permits {
         Ok(Permits { given })
     }
 
-    /// Returns all permits, by the servers' numbers.
+    /// All permits, by the servers' numbers.
     pub fn as_slice(&self) -> &[Option<u64>]
         ensures { result.now ≡ self.now }
     {
         self.given.as_slice()
     }
 
-    /// Returns whether a server's permit is this one.
+    /// Whether a server's permit is this one.
     fn is_permitted(&self, server: u32, permit: u64) -> bool
         requires { server < length self.now }
         ensures { result ≡ is_permitted (permit_of self.now server) permit }
@@ -115,7 +115,7 @@ impl Permits {
         }
     }
 
-    /// Returns the server, of this number of servers, whose restart has this permit.
+    /// The server, of this number of servers, whose restart has this permit.
     pub fn server(&self, servers: u32, permit: u64) -> Option<ServerId>
         requires { length self.now ≡ servers }
         ensures { result ≡ server_permitted self.now permit }

@@ -15,7 +15,7 @@ pub enum RestartEffect {
     Unsettled(ServerId),
 }
 
-/// Returns whether a server that has this base, if any, was settled or restored at or above a fence.
+/// Whether a server that has this base, if any, was settled or restored at or above a fence.
 pub(crate) fn is_settled(fence: u64, base: Option<u64>) -> bool
     ensures { result ≡ is_settled fence base }
 {

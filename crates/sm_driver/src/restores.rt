@@ -45,7 +45,7 @@ impl Model for ServerRestore {
 }
 
 impl ServerRestore {
-    /// Returns a restore of its parts.
+    /// A restore of its parts.
     pub(crate) fn new(nonce: u64, number: u64, cells: Vec<Cell>) -> ServerRestore
         ensures { result ≡ record { nonce = nonce; number = number; cells = cells.items } }
     {
@@ -56,21 +56,21 @@ impl ServerRestore {
         }
     }
 
-    /// Returns the nonce under which the server asked.
+    /// The nonce under which the server asked.
     pub fn nonce(&self) -> u64
         ensures { result ≡ self.now.nonce }
     {
         self.nonce
     }
 
-    /// Returns the number at or below which all orders are old to the server.
+    /// The number at or below which all orders are old to the server.
     pub fn number(&self) -> u64
         ensures { result ≡ self.now.number }
     {
         self.number
     }
 
-    /// Returns what is recorded of the server's cells, by the shards' numbers, with the base in handover numbers.
+    /// What is recorded of the server's cells, by the shards' numbers, with the base in handover numbers.
     pub fn cells(&self) -> &[Cell]
         ensures { result.now ≡ self.now.cells }
     {
@@ -94,7 +94,7 @@ impl Model for Restores {
 }
 
 impl Restores {
-    /// Returns the restores of a number of servers: none was told anything.
+    /// The restores of a number of servers: none was told anything.
     pub fn none(alloc: Global, servers: u32) -> Result<Restores, AllocError>
         ensures { IfOk result (λ restores. restores ≡ replicate servers None) }
     {
@@ -105,7 +105,7 @@ impl Restores {
         Ok(Restores { told })
     }
 
-    /// Returns what a server was told last.
+    /// What a server was told last.
     pub fn get(&self, server: ServerId) -> Option<&ServerRestore>
         requires { server < length self.now }
         ensures { option_copied result ≡ restore_at self.now server }
@@ -113,7 +113,7 @@ impl Restores {
         self.told[server.number() as usize].as_ref()
     }
 
-    /// Returns whether a server was told under this nonce last.
+    /// Whether a server was told under this nonce last.
     pub fn is_last_restore(&self, server: ServerId, nonce: u64) -> bool
         requires { server < length self.now }
         ensures { result ≡ is_last_restore self.now server nonce }
@@ -163,7 +163,7 @@ pub(crate) fn recorded_cell(machine: &Machine, base: u64, shard: ShardId, server
     cell_above(base, machine.placement().cell(shard, server))
 }
 
-/// Returns what is recorded of a server's cells, by the shards' numbers, with the base in handover numbers.
+/// What is recorded of a server's cells, by the shards' numbers, with the base in handover numbers.
 pub(crate) fn cells_told(
     alloc: Global,
     machine: &Machine,

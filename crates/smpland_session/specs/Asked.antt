@@ -75,8 +75,8 @@ DoesToDriver driver.NewEpoch old new = OpensNext old new
 DoesToDriver (driver.Copied shard journal fence copies) old new =
     NotesCopiesOf shard.now (record { journal = journal; fence = fence; copies = copies }) old new
 
--- A driver has just opened the first epoch of a journal: nothing fences it, each server that is down has a new permit, none was carried
--- over or restored, and no copies of a shard were told.
+-- A driver has just opened the first epoch of a journal: nothing fences it, each server that is down has a new permit,
+-- none was carried over or restored, and no copies of a shard were told.
 pub record IsFirstOpened (servers shards : ℕ) (down : ℕ → Bool) (d : DriverModel) : Type 0 where
   pub fence : d.fence ≡ 0
   pub permits : d.permits ≡ opening_permits (base d) [] servers down
@@ -126,8 +126,8 @@ abbrev pub OpensAsNamed : Option ℕ → Option ℕ → Option JournalState → 
 OpensAsNamed journal epoch None None (Some u) = (journal ≡ Some u.reopening.journal) × (epoch ≡ Some u.reopening.epoch)
 OpensAsNamed journal epoch opened under after = Unit {0}
 
--- The effect of a command that changed something. A command of a reopening begins one. Otherwise the one under way takes an answer to a fence, a
--- confirmation or an answer to a settle. With the last such answer it comes in force.
+-- The effect of a command that changed something. A command of a reopening begins one. Otherwise the one under way
+-- takes an answer to a fence, a confirmation or an answer to a settle. With the last such answer it comes in force.
 abbrev pub Does : LineCommand → Option JournalState → Option UnderWay → Option JournalState → Option UnderWay → Type 0
 Does (line.Open document journal epoch) opened under new after = OpensOver (view document.now) journal epoch opened new
 Does (line.Reopening (reopening.Reopen document lost journal epoch)) opened under new after =

@@ -57,8 +57,8 @@ EndsRestart permit base old new = (server : ℕ) × HasEndedRestart server permi
 abbrev pub RestoresServer : DriverModel → DriverModel → Type 0
 RestoresServer old new = (server : ℕ) × (nonce : ℕ) × HasRestored server nonce old new
 
--- The copies that a line tells were noted of a known shard. The line is of this journal and its last reopening, and tells more than was noted before,
--- but no more than the shard wants.
+-- The copies that a line tells were noted of a known shard. The line is of this journal and its last reopening, and
+-- tells more than was noted before, but no more than the shard wants.
 abbrev pub NotesTold : ℕ → ToldCopies → DriverModel → DriverModel → Type 0
 NotesTold shard told old new =
     (shard < (record_of old).sizes.shards) × (copies_effect old shard told ≡ Noted) × HasNotedCopies shard told.copies old new
@@ -97,7 +97,8 @@ reopening_under_way = option_map (λ (u : UnderWay). u.reopening)
 abbrev pub IsBegunOver : Reopening → Setup → List (List ℕ) → ReopeningModel → Type 0
 IsBegunOver before numbered lost r = BeginsUnder before numbered r.document.config r.numbering lost r.epoch r.ongoing
 
--- it is of this journal, in the epoch behind this one, over this recorded placement and with these permits of servers that are down
+-- it is of this journal, in the epoch behind this one, over this recorded placement and with these permits of servers
+-- that are down
 pub record KeepsRecord (journal epoch : ℕ) (place : Place) (permits : List (Option ℕ)) (r : ReopeningModel) : Type 0 where
   pub same_journal : r.journal ≡ journal
   pub next : r.epoch ≡ epoch + 1
@@ -131,7 +132,8 @@ pub record BeginsAnew (lost : List (List ℕ)) (new : ReopeningModel) : Type 0 w
   pub kept : new.kept ≡ []
   pub fresh : BeginsFresh (setup_of [] []) (setup_of [] []) (opened_place (record { cells = []; listed = []; down = []; limit = 0 })) new
 
--- a reopening has begun without these servers: in place of the one under way, over what the driver has recorded, or over nothing
+-- a reopening has begun without these servers: in place of the one under way, over what the driver has recorded, or
+-- over nothing
 abbrev pub BeginsReopening : List (List ℕ) → Option DriverModel → Option ReopeningModel → Option ReopeningModel → Type 0
 BeginsReopening lost driver (Some before) (Some new) = Replaces lost before new
 BeginsReopening lost (Some d) None (Some new) = BeginsOver lost d new
@@ -180,8 +182,8 @@ ComesInForceBy P under after new =
 abbrev pub ComesInForce : Option UnderWay → Option UnderWay → Option JournalState → Type 0
 ComesInForce = ComesInForceBy TakesSettled
 
--- The effect of a command that changed something on the open journal, and on the reopening under way. While one is under way the driver stays as
--- it is.
+-- The effect of a command that changed something on the open journal, and on the reopening under way. While one is
+-- under way the driver stays as it is.
 pub data HasChanged (opened : Option JournalState) (under : Option UnderWay) (new : Option JournalState) (after : Option UnderWay) : Type 0 where
   Drives : under ≡ None → after ≡ None → HasDriven (driver_of opened) (driver_of new) → HasChanged opened under new after
   Reopens : new ≡ opened → HasReopened opened under after → HasChanged opened under new after

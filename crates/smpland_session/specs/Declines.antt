@@ -33,8 +33,8 @@ pub data Declines (before after : List Token) : Type 0 where
   Bad : TellsBad before after → Declines before after
   Ignored : IgnoresIt before after → Declines before after
 
--- A command that could have changed the driver of a journal is declined, but for one under a name that was used before. Of a restore this is
--- said as long as there is no such server.
+-- A command that could have changed the driver of a journal is declined, but for one under a name that was used before.
+-- Of a restore this is said as long as there is no such server.
 abbrev pub DriverDeclines : DriverCommand → Option JournalState → List Token → List Token → Type 0
 DriverDeclines (driver.Begin _ name) opened before after = IfSome opened (λ o. value_of o.plans name.now ≡ None) → Declines before after
 DriverDeclines (driver.Approve _ by) opened before after = IfSome opened (λ o. value_of o.approvals by.now ≡ None) → Declines before after

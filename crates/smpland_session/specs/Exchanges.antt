@@ -1,7 +1,7 @@
--- What comes of a line to a session, and the reply that tells it: command, outcome, change and reply are of one exchange.
--- (The clause `told` of `Session::apply` says so, by `IsLineReply` of Replies.antt.)
--- `IsNoObject`, `ReadsObject`, `TellsClosed`, `TellsExchange`, `KnowsAll`, `Replies` and `Exchanges` are internal: you need not read them for the
--- public contracts.
+-- What comes of a line to a session, and the reply that tells it: command, outcome, change and reply are of one
+-- exchange. (The clause `told` of `Session::apply` says so, by `IsLineReply` of Replies.antt.) `IsNoObject`,
+-- `ReadsObject`, `TellsClosed`, `TellsExchange`, `KnowsAll`, `Replies` and `Exchanges` are internal: you need not read
+-- them for the public contracts.
 use Rattle.std.specs.Prelude.{◌≡◌, ◌<◌, ◌⊎◌, ℕ, Bool, true, false, List, [], ◌++◌, IfSome, Ok, Err, Option, Some, None, Result, codes, if◌then◌else◌, is_some, length}
 use Rattle.json.specs.Token.{Token}
 use Rattle.json.specs.Print.{print}
@@ -60,7 +60,8 @@ ReadsObject text (Err fault) = IsNoObject text fault
 
 -- ---- changes
 
--- why nothing comes of a command on a journal, as long as none is open: what ends, answers or tells something of before a reopening is old
+-- why nothing comes of a command on a journal, as long as none is open: what ends, answers or tells something of before
+-- a reopening is old
 abbrev pub why_closed : DriverCommand → Bool → Closed
 why_closed (driver.Restarted _ _) is_reopening = if is_reopening then closed.Old else closed.NotOpened
 why_closed (driver.Answered _ _ _) is_reopening = if is_reopening then closed.Old else closed.NotOpened

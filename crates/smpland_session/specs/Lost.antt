@@ -7,7 +7,8 @@ use Rattle.smpland_lines.specs.Refusals.{RefusedLine}
 use Rattle.smpland_state.specs.declared.journal_state.JournalState.{JournalState}
 use Rattle.smpland_session.specs.declared.under_way.UnderWay.{UnderWay}
 
--- the servers and shards that have numbers: those of the reopening that is replaced, or those that are recorded; over nothing, none has to
+-- the servers and shards that have numbers: those of the reopening that is replaced, or those that are recorded; over
+-- nothing, none has to
 abbrev pub numbered : Option JournalState → Option UnderWay → Option Setup
 numbered (Some o) (Some u) = Some u.reopening.numbering
 numbered (Some o) None = Some o.driver.machine.placement.setup

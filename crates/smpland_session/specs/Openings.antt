@@ -22,7 +22,8 @@ abbrev pub has_opened : OpenOutcome → Bool
 has_opened opens.Opened = true
 has_opened (opens.NotOpened _) = false
 
--- A line opens a journal: none was open, no reopening was under way, and now one is open as the line says; or nothing has changed.
+-- A line opens a journal: none was open, no reopening was under way, and now one is open as the line says; or nothing
+-- has changed.
 abbrev pub DoesOpen : OpenLine → Bool → Option JournalState → OpenOutcome → Option JournalState → Type 0
 DoesOpen line is_reopening old opens.Opened new =
     (is_reopening ≡ false) × HasDriven (driver_of old) (driver_of new) × OpensOver (view line.document.now) line.journal line.epoch old new

@@ -110,7 +110,8 @@ abbrev pub TellsOf : Option JournalState → (JournalState → List Token → Li
 TellsOf (Some o) Tells before after = Tells o before after
 TellsOf None Tells before after = TellsRefused before after
 
--- the reply to `failed`: what to do about the stream's order under this number; while a reopening is under way it is old
+-- the reply to `failed`: what to do about the stream's order under this number; while a reopening is under way it is
+-- old
 abbrev pub TellsFailed : StreamId → ℕ → FailedAnswer → Option JournalState → Option UnderWay → List Token → List Token → Type 0
 TellsFailed id number answer opened (Some _) before after = after ≡ before ++ text_member (codes "ignored") (codes "old")
 TellsFailed id number answer (Some o) None before after = after ≡ before ++ failed_member o.driver id number answer

@@ -1,5 +1,6 @@
 -- What comes of lines of a reopening to a session, and the replies that tell it.
--- `TellsNotBegun`, `TellsReopen`, `TellsNotUnderWay` and `TellsUnderWay` are internal: you need not read them for the public contracts.
+-- `TellsNotBegun`, `TellsReopen`, `TellsNotUnderWay` and `TellsUnderWay` are internal: you need not read them for the
+-- public contracts.
 use Rattle.std.specs.Prelude.{◌≡◌, ℕ, Bool, true, false, List, ◌++◌, IfSome, Option, Some, None, codes, string_bytes}
 use Rattle.std.specs.Borrow.{Bor}
 use Rattle.json.specs.Token.{Token}
@@ -39,8 +40,8 @@ has_begun (reopen.NotBegun _) = false
 abbrev pub unknown_lost : ReopenLine → Option JournalState → Option UnderWay → Option (List ℕ)
 unknown_lost line opened under = first_unknown_server (numbered opened under) (texts_among line.lost.now)
 
--- A line asks for a reopening: it has begun, under the line's document and without the servers that are lost, which are known; or nothing has
--- changed.
+-- A line asks for a reopening: it has begun, under the line's document and without the servers that are lost, which are
+-- known; or nothing has changed.
 abbrev pub DoesReopen : ReopenLine → Option JournalState → Option UnderWay → ReopenOutcome → Option UnderWay → Type 0
 DoesReopen line opened under reopen.Begun after =
     ReopensWithout (texts_among line.lost.now) opened under after × IsUnderDocument (view line.document.now) after
@@ -53,7 +54,8 @@ DoesUnderWay P (Some old) came (Some new) = P old.reopening came new.reopening
 DoesUnderWay P None came None = came ≡ outcome.Old
 DoesUnderWay P _ came _ = ⊥
 
--- An answer to a settle, from the party that the line names: with the last one what was settled is in force. Any other leaves the journal as it is.
+-- An answer to a settle, from the party that the line names: with the last one what was settled is in force. Any other
+-- leaves the journal as it is.
 abbrev pub DoesSettle : Option (Bor (List ℕ)) → ℕ → Option JournalState → Option UnderWay → ReopeningOutcome → Option JournalState → Option UnderWay → Type 0
 DoesSettle server base opened under outcome.Complete new after = ComesInForceBy (TakesSettledBy server base) under after new
 DoesSettle server base opened under came new after = DoesUnderWay (DoesSettled server base) under came after × (new ≡ opened)
@@ -77,7 +79,8 @@ abbrev pub TellsNotUnderWay : Option JournalState → List Token → List Token 
 TellsNotUnderWay (Some o) before after = after ≡ before ++ text_member (codes "ignored") (codes "old")
 TellsNotUnderWay None before after = TellsRefused before after
 
--- The reply to a line on the reopening under way: with the last settle that the next epoch is open, and otherwise what has come of the line.
+-- The reply to a line on the reopening under way: with the last settle that the next epoch is open, and otherwise what
+-- has come of the line.
 abbrev pub TellsUnderWay : Option JournalState → Option UnderWay → ReopeningOutcome → List Token → List Token → Type 0
 TellsUnderWay opened under outcome.Complete before after = IfSome opened (λ (o : JournalState). after ≡ before ++ opened_member o.driver)
 TellsUnderWay opened (Some u) came before after = TellsTaken (hexadecimal u.reopening.journal) u.reopening came before after

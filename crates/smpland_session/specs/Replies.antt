@@ -51,7 +51,8 @@ abbrev pub TellsBegun : Data → DriverModel → DriverModel → List Token → 
 TellsBegun value old new before after =
     (plan : PlanModel) × SaysPlan old.machine.placement.setup value plan × TellsPlan plan old new before after
 
--- the stream whose answer came under this number has made its step, and it is told where it stands, with the messages that came up in its plan
+-- the stream whose answer came under this number has made its step, and it is told where it stands, with the messages
+-- that came up in its plan
 abbrev pub TellsMoved : StreamId → ℕ → DriverModel → DriverModel → List Token → List Token → Type 0
 TellsMoved id number old new before after =
     TakesAnswerOf id number old new × (after ≡ before ++ taken_members new id (sinces_of (record_of old) id.plan))
@@ -114,8 +115,8 @@ abbrev pub TellsFences : Option UnderWay → List Token → List Token → Type 
 TellsFences (Some u) before after = after ≡ before ++ fences_member (hexadecimal u.reopening.journal) u.reopening
 TellsFences None before after = ⊥
 
--- The reply to a line on a reopening. An answer to a fence tells who has to answer, or otherwise what may be confirmed, a confirmation the settles,
--- and an answer to a settle who has not taken its own.
+-- The reply to a line on a reopening. An answer to a fence tells who has to answer, or otherwise what may be confirmed,
+-- a confirmation the settles, and an answer to a settle who has not taken its own.
 pub data TellsOn (old new : ReopeningModel) (before after : List Token) : Type 0 where
   Fenced : TakesTold old new → TellsAwaited new before after → TellsOn old new before after
   Confirmed : TakesConfirm old new → after ≡ before ++ settles_member (hexadecimal new.journal) new → TellsOn old new before after
@@ -154,8 +155,8 @@ TellsValue value old new before after =
 abbrev pub TellsLine : List ℕ → Session → Session → List Token → List Token → Type 0
 TellsLine text old new before after = (value : Data) × (data_of text ≡ Some value) × TellsValue value old new before after
 
--- A text replies to a line: that of some tokens in braces, which need not make an object. They answer the line, and if it has changed something, they
--- tell that.
+-- A text replies to a line: that of some tokens in braces, which need not make an object. They answer the line, and if
+-- it has changed something, they tell that.
 pub record RepliesTo (line : List ℕ) (old new : Session) (effect : LineEffect) (text : List ℕ) : Type 0 where
   pub members : List Token
   pub is : text ≡ print (object members)

@@ -1,5 +1,6 @@
--- Answers to lines, whether they change something or not: a command that comes again is told what it was told, an answer that no stream waits for is
--- ignored, so are copies that are not noted, a question is told what it asks, and a line that is no command is told as bad.
+-- Answers to lines, whether they change something or not: a command that comes again is told what it was told, an
+-- answer that no stream waits for is ignored, so are copies that are not noted, a question is told what it asks, and a
+-- line that is no command is told as bad.
 use Rattle.std.specs.Prelude.{◌≡◌, ◌<◌, ◌⊎◌, ℕ, Bool, true, false, List, ◌++◌, Some, None, IfSome, bytes_eq, codes, is_some, length, not, string_bytes}
 use Rattle.json.specs.Token.{Token}
 use Rattle.serde_json.specs.Data.{Data}
@@ -111,8 +112,8 @@ pub data AnswersObject (value : Data) (s : Session) (before after : List Token) 
   IsCommand : (command : LineCommand) → Says value command → IsKnownOver (setup_in_force s) command → Answers command s before after
       → AnswersObject value s before after
 
--- The reply tells that a line is bad if it is too long, is no JSON on one line, or has a value that is no object. Otherwise it answers the line
--- behind its id.
+-- The reply tells that a line is bad if it is too long, is no JSON on one line, or has a value that is no object.
+-- Otherwise it answers the line behind its id.
 pub data AnswersLine (text : List ℕ) (s : Session) (before after : List Token) : Type 0 where
   TooLong : MOST_BYTES < length text → after ≡ before ++ told_bad bad.TooLong → AnswersLine text s before after
   NotJson : (data_of text ≡ None) ⊎ (IsObject text → ⊥) → after ≡ before ++ told_bad bad.NotJson → AnswersLine text s before after

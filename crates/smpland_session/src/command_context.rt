@@ -10,7 +10,7 @@ pub struct CommandContext {
 }
 
 impl CommandContext {
-    /// Returns the word for why nothing may be done to a journal that is not open.
+    /// The word for why nothing may be done to a journal that is not open.
     pub fn closed_word(self) -> &'static str
         ensures { result.now ≡ closed_word self.is_reopening }
     {

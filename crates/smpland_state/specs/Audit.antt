@@ -102,7 +102,8 @@ order_at_shard d streams s = option_and_then (order_of (base d) (record_of d)) (
 abbrev pub has_number : Option Order → ℕ → Bool
 has_number order number = option_map_or (λ o. o.number == number) order false
 
--- the last order of a slot is none that this journal has sent: its number is above all of the log's, and not that of the present order
+-- the last order of a slot is none that this journal has sent: its number is above all of the log's, and not that of
+-- the present order
 abbrev pub is_slot_ahead : DriverModel → Option Order → SlotText → Bool
 is_slot_ahead d order slot =
     nat_lt (base d + length (record_of d).log) (unwrap_or slot.last 0) && not (has_number order (unwrap_or slot.last 0))
@@ -131,7 +132,8 @@ cell_after order c = option_and_then (λ o. led_to o.call.call c) order
 abbrev pub tells_recorded : Setup → Option SlotText → Option Order → Cell → Bool
 tells_recorded setup slot order c = tells_cell setup slot c || option_map_or (tells_cell setup slot) (cell_after order c) false
 
--- A server differs in a shard if it tells neither. What was recorded after the place at which it was read counts for nothing.
+-- A server differs in a shard if it tells neither. What was recorded after the place at which it was read counts for
+-- nothing.
 abbrev pub differs : JournalState → ℕ → ℕ → List (Option SlotText) → List (Option StreamId) → ℕ → Bool
 differs o v place told streams s =
     nat_le (recorded_at o.history s v) place
@@ -223,7 +225,8 @@ audit_found o name v place told streams unknown_shards =
     if has_ahead o.driver told streams unknown_shards then audited_member name (codes "ahead")
     else compared_member o.driver name v told (differing o v place told streams) unknown_shards
 
--- what is found of a server by its slots, which were read at a place: they are ahead, or agree with what is recorded, or differ from it
+-- what is found of a server by its slots, which were read at a place: they are ahead, or agree with what is recorded,
+-- or differ from it
 abbrev pub audit_member : JournalState → List ℕ → ℕ → ℕ → List SlotText → List Token
 audit_member o name v place slots =
     audit_found o name v place (audited_slots o.driver.machine.placement.setup slots) (streams_to o.driver v)

@@ -48,7 +48,8 @@ failure_members answer.Refused _ = cause_members (codes "differs") (codes "audit
 failure_members answer.Foreign _ = cause_members (codes "foreign") (codes "reopen") None
 failure_members answer.NotReady nonce = unknown_members nonce
 
--- the reply, by what an answer under the order's number would come to: it tells what is to be done, or that there is no such order
+-- the reply, by what an answer under the order's number would come to: it tells what is to be done, or that there is no
+-- such order
 abbrev pub failed_reply : AnswerEffect → FailedAnswer → Option ℕ → List Token
 failed_reply effect.Moved answer nonce = object_member (codes "failed") (failure_members answer nonce)
 failed_reply effect.Old _ _ = text_member (codes "ignored") (codes "old")

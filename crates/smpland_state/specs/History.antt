@@ -12,8 +12,8 @@ pub record PlanPlacesModel : Type 0 where
   pub ordered : List ℕ
   pub ended : Option ℕ
 
--- The places of a journal: where the map and all cells were recorded anew, where each entry of the map changed last, where cells were recorded last
--- that have changed since, and those of the epoch's plans.
+-- The places of a journal: where the map and all cells were recorded anew, where each entry of the map changed last,
+-- where cells were recorded last that have changed since, and those of the epoch's plans.
 pub record HistoryModel : Type 0 where
   pub mapped : ℕ
   pub published : List ℕ

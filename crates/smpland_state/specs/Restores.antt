@@ -1,5 +1,6 @@
 -- Replies to servers that have lost all they had.
--- `last_told`, `told_to`, `told_in_epoch`, `was_told` and `latest_told` are internal: you need not read them for the public contracts.
+-- `last_told`, `told_to`, `told_in_epoch`, `was_told` and `latest_told` are internal: you need not read them for the
+-- public contracts.
 use Rattle.std.specs.Prelude.{◌≡◌, ◌==◌, ◌&&◌, ℕ, List, [], ◌∷◌, ◌++◌, Bool, IfSome, Option, Some, None, bytes_eq, codes, if◌then◌else◌, is_some, length, not, option_map}
 use Rattle.std.specs.List.{filter, find, flat_map, list_any, range_with_len}
 use Rattle.std.specs.Option.{option_map_or}
@@ -13,8 +14,8 @@ use Rattle.smpland_state.specs.Copies.{good_tokens}
 use Rattle.smpland_state.specs.Told.{ToldModel}
 use Rattle.smpland_state.specs.declared.journal_state.JournalState.{JournalState}
 
--- what a server is told: its name, the nonce under which it asked, the journal with its fence, its base (orders up to this number are old to
--- it), and its slots
+-- what a server is told: its name, the nonce under which it asked, the journal with its fence, its base (orders up to
+-- this number are old to it), and its slots
 abbrev pub restore_members : DriverModel → ℕ → RestoreModel → List Token
 restore_members d v restore =
     text_member (codes "server") (server_text d.machine.placement.setup v)
@@ -70,8 +71,8 @@ abbrev pub restore_told : JournalState → ℕ → ℕ → Option RestoreModel �
 restore_told o v nonce (Some restore) = if restore.nonce == nonce then Some (restore_object o.driver v restore) else None
 restore_told o v nonce None = option_map (λ t. t.restore) (told_under o.told.items (server_text o.driver.machine.placement.setup v) nonce)
 
--- What a server was told last, if that was under this nonce: the restore that the driver keeps for it, or if it keeps none the one of an earlier
--- epoch.
+-- What a server was told last, if that was under this nonce: the restore that the driver keeps for it, or if it keeps
+-- none the one of an earlier epoch.
 abbrev pub told_again : JournalState → ℕ → ℕ → Option (List Token)
 told_again o v nonce = restore_told o v nonce (restore_at o.driver.restores v)
 

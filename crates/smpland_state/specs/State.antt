@@ -43,7 +43,8 @@ cell_rows d s =
     list_member (codes "cells") (flat_map (λ v. cell_row d.machine.placement.setup v (recorded_cell d s v))
     (range_with_len 0 (length d.machine.placement.setup.servers)))
 
--- a shard: its load, how many live replicas it has and has to have, how many surely have each acknowledged write, and its entry in the map
+-- a shard: its load, how many live replicas it has and has to have, how many surely have each acknowledged write, and
+-- its entry in the map
 abbrev pub shard_head : DriverModel → ℕ → ℕ → Entry → List Token
 shard_head d s live entry =
     text_member (codes "shard") (shard_text d.machine.placement.setup s)
@@ -88,7 +89,8 @@ held_room d is_reopening v =
     if is_reopening then 0
     else (sizes_of d.machine.placement.setup).room v - (load_at (record_of d).sizes (record_of d).place v + (pool (record_of d)).room v)
 
--- a server: its region, its room, its load, the room that streams hold, the permit under which it is down, and whether it was carried over
+-- a server: its region, its room, its load, the room that streams hold, the permit under which it is down, and whether
+-- it was carried over
 abbrev pub server_state_members : ServerRow → ℕ → ℕ → Option ℕ → Bool → List Token
 server_state_members row load held permit carried =
     text_member (codes "server") row.name
@@ -183,7 +185,8 @@ plans_state o is_reopening =
 
 -- ---- all that is recorded
 
--- the places of the log that are neither used nor set aside: of plans that a reopening has broken off nothing is set aside
+-- the places of the log that are neither used nor set aside: of plans that a reopening has broken off nothing is set
+-- aside
 abbrev pub free_now : JournalState → Bool → ℕ
 free_now o is_reopening =
     if is_reopening then o.log_room - length (record_of o.driver).log - down_count (record_of o.driver).sizes (record_of o.driver).place

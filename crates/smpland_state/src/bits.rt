@@ -5,7 +5,7 @@ ghost use Rattle.smpland_state.specs.Bits.{bits_member, hexadecimal};
 use smpland_lines::{Writer, write_text};
 use std::alloc::{AllocError, Global};
 
-/// Returns the digits of a number, in lower case.
+/// The digits of a number, in lower case.
 pub fn hexadecimal(alloc: Global, bits: u64) -> Result<String, AllocError>
     ensures { IfOk result (λ text. string_bytes text ≡ hexadecimal bits) }
 {

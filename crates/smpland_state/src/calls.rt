@@ -8,7 +8,7 @@ use sm_server::{Call, Role, ServerId};
 use smpland_lines::{Writer, server_name, write_number, write_text};
 use std::alloc::AllocError;
 
-/// Returns the word for a call.
+/// The word for a call.
 pub fn call_word(call: &Call) -> &'static str
     ensures { result.now ≡ word_of_call call.now }
 {
@@ -21,7 +21,7 @@ pub fn call_word(call: &Call) -> &'static str
     }
 }
 
-/// Returns the word for a role.
+/// The word for a role.
 fn role_word(role: Role) -> &'static str
     ensures { result.now ≡ word_of_role role }
 {

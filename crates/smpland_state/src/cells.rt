@@ -10,7 +10,7 @@ use sm_server::{Cell, ShardId};
 use smpland_lines::{Writer, shard_name, write_number, write_text};
 use std::alloc::AllocError;
 
-/// Returns the word for what a server has of a shard.
+/// The word for what a server has of a shard.
 fn cell_word(cell: &Cell) -> &'static str
     ensures { result.now ≡ word_of_cell cell.now }
 {
@@ -83,7 +83,7 @@ fn write_slot(
     Ok(())
 }
 
-/// Returns what a server has of a shard, by its cells, if they tell.
+/// What a server has of a shard, by its cells, if they tell.
 fn cell_at(cells: &[Cell], shard: ShardId) -> Option<Cell>
     ensures { result ≡ slice_get cells.now shard }
 {

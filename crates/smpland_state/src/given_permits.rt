@@ -7,8 +7,8 @@ ghost use Rattle.smpland_state.specs.Given.{name_among, none_given};
 use std::alloc::{AllocError, Global};
 use std::marker::Model;
 
-/// A permit that was given, the name of its server, whose number may be another one after a reopening, and the name under
-/// which it was given.
+/// A permit that was given, the name of its server, whose number may be another one after a reopening, and the name
+/// under which it was given.
 #[derive(Drop)]
 pub struct GivenPermit {
     pub server: String,
@@ -63,7 +63,7 @@ fn given_permit(
 }
 
 impl GivenPermits {
-    /// Returns no permits, in an epoch.
+    /// No permits, in an epoch.
     pub fn new(alloc: Global, epoch: u32) -> Self
         ensures { result ≡ none_given epoch }
     {
@@ -75,7 +75,7 @@ impl GivenPermits {
         }
     }
 
-    /// Returns a permit that was given, if it has not been forgotten.
+    /// A permit that was given, if it has not been forgotten.
     pub fn get(&self, at: GivenAt) -> Option<&GivenPermit>
         ensures { option_copied result ≡ given_at self.now at }
     {

@@ -95,7 +95,7 @@ fn place_at(places: &[u64], index: usize) -> u64
 }
 
 impl History {
-    /// Returns the history of a journal that is opened at a place, over a number of shards.
+    /// The history of a journal that is opened at a place, over a number of shards.
     pub fn new(alloc: Global, shards: u32, place: u64) -> Result<Self, AllocError>
         ensures { IfOk result (λ history. history ≡ opened_history shards place) }
     {

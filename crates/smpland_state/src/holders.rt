@@ -12,7 +12,7 @@ use sm_server::{ServerId, ShardId};
 use smpland_lines::{Writer, server_name};
 use std::alloc::AllocError;
 
-/// Returns the server that has a shard's data under a lead: in a handover the old owner until the new one has taken
+/// The server that has a shard's data under a lead: in a handover the old owner until the new one has taken
 /// over.
 fn owner_under(lead: Option<Lead>) -> Option<ServerId>
     ensures { result ≡ owner_under lead }
@@ -26,7 +26,7 @@ fn owner_under(lead: Option<Lead>) -> Option<ServerId>
     }
 }
 
-/// Returns the server that has a shard's data: none if there is no such shard.
+/// The server that has a shard's data: none if there is no such shard.
 pub fn owner_of(placement: &Placement, shard: ShardId) -> Option<ServerId>
     ensures { result ≡ owner_under (lead_of (length placement.now.setup.servers)
         ((place_of placement.now).cells shard)) }
@@ -37,7 +37,7 @@ pub fn owner_of(placement: &Placement, shard: ShardId) -> Option<ServerId>
     owner_under(placement.lead(shard))
 }
 
-/// Returns whether a server has a replica of a shard, or a place for one.
+/// Whether a server has a replica of a shard, or a place for one.
 fn has_replica(placement: &Placement, shard: ShardId, server: ServerId) -> bool
     requires { server < length placement.now.setup.servers }
     ensures { result ≡ not (is_absent ((place_of placement.now).cells shard server)) }

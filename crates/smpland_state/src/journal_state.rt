@@ -63,7 +63,7 @@ fn write_nothing_new(writer: &mut Writer) -> Result<(), AllocError>
 }
 
 impl JournalState {
-    /// Returns a journal that opens with a driver at a place: nothing was given a name yet.
+    /// A journal that opens with a driver at a place: nothing was given a name yet.
     pub fn new(
         alloc: Global,
         driver: Driver,
@@ -81,7 +81,7 @@ impl JournalState {
         JournalState::with_carryover(alloc, driver, log_room, kept, place)
     }
 
-    /// Returns a journal that is opened anew with a driver at a place. The names of the epoch before are still known.
+    /// A journal that is opened anew with a driver at a place. The names of the epoch before are still known.
     pub fn reopened(
         alloc: Global,
         before: Option<JournalState>,
@@ -104,7 +104,7 @@ impl JournalState {
         JournalState::with_carryover(alloc, driver, log_room, kept, place)
     }
 
-    /// Returns a journal that opens with a driver at a place, with what is kept of it.
+    /// A journal that opens with a driver at a place, with what is kept of it.
     fn with_carryover(
         alloc: Global,
         driver: Driver,
@@ -184,7 +184,7 @@ impl JournalState {
         let _ = driver.give_up();
     }
 
-    /// Returns who writes the driver's messages.
+    /// Who writes the driver's messages.
     pub fn messages(&self, alloc: Global) -> Messages<'_>
         ensures { result.driver.now ≡ self.now.driver }
     {
@@ -202,7 +202,7 @@ impl JournalState {
         u32::try_from(count).unwrap_or(u32::MAX)
     }
 
-    /// Returns a plan of the present epoch: one of no streams, if it has not begun.
+    /// A plan of the present epoch: one of no streams, if it has not begun.
     pub fn begun_plan(&self, number: u32) -> BegunPlan
         ensures { result ≡ begun_plan self.now.driver number }
     {

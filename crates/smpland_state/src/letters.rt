@@ -20,7 +20,7 @@ use sm_server::{ServerId, ShardId};
 use smpland_lines::{Writer, server_name, shard_name, write_name, write_number, write_text};
 use std::alloc::AllocError;
 
-/// Returns the load of each replica of a shard: 0 if there is no such shard.
+/// The load of each replica of a shard: 0 if there is no such shard.
 fn load_of(config: &Config, shard: ShardId) -> u64
     ensures { result ≡ (sizes_of config.now).load shard }
 {
@@ -30,7 +30,7 @@ fn load_of(config: &Config, shard: ShardId) -> u64
     }
 }
 
-/// Returns the load that a server has room for: 0 if there is no such server.
+/// The load that a server has room for: 0 if there is no such server.
 fn room_of(config: &Config, server: ServerId) -> u64
     ensures { result ≡ (sizes_of config.now).room server }
 {
@@ -79,7 +79,7 @@ fn write_published(
 }
 
 impl Messages<'_> {
-    /// Returns the servers and shards of the journal.
+    /// The servers and shards of the journal.
     fn config(&self) -> &Config
         ensures setup { result.now ≡ self.now.driver.now.machine.placement.setup }
         ensures sizes { sizes_of result.now ≡ (record_of self.now.driver.now).sizes }
@@ -87,7 +87,7 @@ impl Messages<'_> {
         self.driver.machine().config()
     }
 
-    /// Returns the placement that is recorded.
+    /// The placement that is recorded.
     fn placement(&self) -> &Placement
         ensures setup { result.now.setup ≡ self.now.driver.now.machine.placement.setup }
         ensures place { place_of result.now ≡ (record_of self.now.driver.now).place }

@@ -21,7 +21,7 @@ pub struct Messages<'d> {
     pub alloc: Global,
 }
 
-/// Returns how many streams a plan has that has begun: none if it has not.
+/// The number of streams of a plan that has begun: 0 if it has not.
 pub fn stream_count(machine: &Machine, plan: u32) -> u32
     ensures count { result ≡ stream_count (state_of machine.now) plan }
     ensures begun { (i : ℕ) → i < result → is_begun (state_of machine.now) (stream_id plan i) ≡ true }
@@ -32,14 +32,14 @@ pub fn stream_count(machine: &Machine, plan: u32) -> u32
     machine.plan(plan).streams().len() as u32
 }
 
-/// Returns since when the stream at a number stood where it stood, if it stood anywhere.
+/// The log's length when the stream with a number came to where it stood, if it stood anywhere.
 fn since_at(sinces: &[u32], stream: u32) -> Option<u32>
     ensures { result ≡ slice_get sinces.now stream }
 {
     sinces.get(stream as usize).copied()
 }
 
-/// Returns whether a stream does not stand where it stood since then, if it stood anywhere.
+/// Whether a stream does not stand where it stood since then, if it stood anywhere.
 fn stands_else(machine: &Machine, id: StreamId, since: Option<u32>) -> bool
     requires { is_begun (state_of machine.now) id ≡ true }
     ensures { result ≡ stands_else (state_of machine.now) id since }
@@ -68,7 +68,7 @@ fn push_if_new(
 }
 
 impl Messages<'_> {
-    /// Returns since when the streams of a plan stand where they stand: none if the plan has not begun.
+    /// The log's lengths when the streams of a plan came to where they stand: none if the plan has not begun.
     pub fn sinces(&self, plan: u32) -> Result<Vec<u32>, AllocError>
         ensures { IfOk result (λ sinces. sinces.items ≡ sinces_of (record_of self.now.driver.now) plan) }
     {

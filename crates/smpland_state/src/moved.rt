@@ -9,7 +9,7 @@ use smpland_lines::{Writer, write_number};
 use std::alloc::AllocError;
 
 impl Messages<'_> {
-    /// Returns how many of its instructions a stream has made: none if it has not begun.
+    /// The number of instructions that a stream has made: 0 if it has not begun.
     fn position(&self, id: StreamId) -> u64
         ensures { result ≡ position_of (record_of self.now.driver.now) id }
     {

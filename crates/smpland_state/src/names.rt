@@ -25,7 +25,7 @@ impl<V> Model for Names<V> {
 }
 
 impl<V: Copy> Names<V> {
-    /// Returns no names.
+    /// No names.
     pub fn new(alloc: Global) -> Names<V>
         ensures { result ≡ no_names }
     {
@@ -36,7 +36,7 @@ impl<V: Copy> Names<V> {
         }
     }
 
-    /// Returns what a name stands for.
+    /// What a name stands for.
     pub fn get(&self, name: &str) -> Option<V>
         ensures { result ≡ value_of self.now name.now }
     {
@@ -45,7 +45,7 @@ impl<V: Copy> Names<V> {
         present.or(before)
     }
 
-    /// Returns the name of the present epoch with `index` names before it.
+    /// The name of the present epoch with `index` names before it.
     pub fn present_at(&self, index: usize) -> Option<&str>
         ensures { option_copied result ≡ option_map (λ e. e.0) (slice_get self.now.present index) }
     {
@@ -55,7 +55,8 @@ impl<V: Copy> Names<V> {
         }
     }
 
-    /// Lets a name of the present epoch that stands for nothing yet stand for a value. At want of memory nothing changes.
+    /// Lets a name of the present epoch that stands for nothing yet stand for a value. At want of memory nothing
+    /// changes.
     pub fn insert(&mut self, name: &str, value: V) -> Result<(), AllocError>
         requires { value_of self.old name.now ≡ None }
         ensures named { OnOk result (self.new ≡ with_name self.old name.now value) }

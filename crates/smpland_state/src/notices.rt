@@ -25,7 +25,7 @@ fn write_notice_members(
     Ok(())
 }
 
-/// Returns whether a server was carried over, and has not come up since.
+/// Whether a server was carried over, and has not come up since.
 pub fn is_carried(opened: &JournalState, server: ServerId) -> bool
     ensures { result ≡ slice_index_or opened.now.driver.carried server false }
 {

@@ -110,7 +110,7 @@ impl JournalState {
         }
     }
 
-    /// Returns the name of a server.
+    /// The name of a server.
     pub fn name_of(&self, server: ServerId) -> &str
         ensures { result.now ≡ server_text self.now.driver.machine.placement.setup server }
     {

@@ -28,7 +28,7 @@ fn mark(marks: &mut Vec<bool>, order: Option<StreamOrder>)
 }
 
 impl Driver {
-    /// Returns how many replicas of a shard surely have each acknowledged write, as far as it was told.
+    /// The number of replicas of a shard that surely have each acknowledged write, as far as it was told.
     pub fn copies(&self, shard: ShardId) -> u32
         requires { shard < (record_of self.now).sizes.shards }
         ensures { result ≡ copies_of self.now shard }
@@ -36,7 +36,7 @@ impl Driver {
         self.copies.get(shard)
     }
 
-    /// Returns how many replicas a shard wants.
+    /// The number of replicas that a shard wants.
     fn want(&self, shard: ShardId) -> u32
         requires { shard < (record_of self.now).sizes.shards }
         ensures { result ≡ shard_want self.now.machine.placement.setup shard }
@@ -44,14 +44,14 @@ impl Driver {
         self.machine().config().shard(shard).want
     }
 
-    /// Returns whether copies were told to the driver's journal, behind its last reopening.
+    /// Whether copies were told to the driver's journal, behind its last reopening.
     fn is_told_now(&self, told: ToldCopies) -> bool
         ensures { result ≡ is_told_now self.now told }
     {
         told.journal == self.journal && told.fence == self.fence
     }
 
-    /// Returns the effect that copies of a shard would have now.
+    /// The effect that copies of a shard would have now.
     fn copies_effect(&self, shard: ShardId, told: ToldCopies) -> CopiesEffect
         requires { shard < (record_of self.now).sizes.shards }
         ensures { result ≡ copies_effect self.now shard told }
@@ -65,8 +65,8 @@ impl Driver {
         }
     }
 
-    /// Takes the copies that are told of a shard: notes them if they were told to this journal, behind its last reopening, are more than
-    /// the recorded ones, and no more than the shard wants. Otherwise nothing changes.
+    /// Takes the copies that are told of a shard: notes them if they were told to this journal, behind its last
+    /// reopening, are more than the recorded ones, and no more than the shard wants. Otherwise nothing changes.
     pub fn copied(&mut self, shard: ShardId, told: ToldCopies) -> CopiesEffect
         requires { shard < (record_of self.old).sizes.shards }
         ensures effect { result ≡ copies_effect self.old shard told }
@@ -83,7 +83,7 @@ impl Driver {
         }
     }
 
-    /// Returns whether a server's cell of a shard has a part in a handover.
+    /// Whether a server's cell of a shard has a part in a handover.
     fn is_handing(&self, shard: ShardId, server: ServerId) -> bool
         requires shard { shard < (record_of self.now).sizes.shards }
         requires server { server < (record_of self.now).sizes.servers }
@@ -93,7 +93,7 @@ impl Driver {
         matches!(cell, Cell::Prepared { .. } | Cell::Forwarding { .. })
     }
 
-    /// Returns whether a handover of a shard is recorded.
+    /// Whether a handover of a shard is recorded.
     fn is_handed_over(&self, shard: ShardId) -> bool
         requires { shard < (record_of self.now).sizes.shards }
         ensures { result ≡ is_handed_over self.now shard }
@@ -106,7 +106,7 @@ impl Driver {
         false
     }
 
-    /// Returns by the shards' numbers whether a stream stands before an order for the shard.
+    /// Whether a stream stands before an order for a shard, by the shards' numbers.
     fn ordered(&self, alloc: Global) -> Result<Vec<bool>, AllocError>
         ensures { IfOk result (λ marks. marks.items ≡ map (is_ordered self.now) (range_with_len 0 (record_of self.now).sizes.shards)) }
     {
@@ -119,7 +119,7 @@ impl Driver {
         Ok(marks)
     }
 
-    /// Returns what a reopening keeps of a shard's copies, by whether a stream stands before an order for the shard.
+    /// What a reopening keeps of a shard's copies, by whether a stream stands before an order for the shard.
     fn kept_of(&self, shard: ShardId, ordered: bool) -> u32
         requires shard { shard < (record_of self.now).sizes.shards }
         requires ordered { ordered ≡ is_ordered self.now shard }
@@ -132,7 +132,8 @@ impl Driver {
         }
     }
 
-    /// Returns what a reopening keeps of the copies, by the shards' numbers: 1 of those that have a present order or a recorded handover.
+    /// What a reopening keeps of the copies, by the shards' numbers: 1 of those that have a present order or a recorded
+    /// handover.
     pub fn kept_copies(&self, alloc: Global) -> Result<Vec<u32>, AllocError>
         ensures { IfOk result (λ kept. kept.items ≡ kept_copies self.now) }
     {

@@ -23,8 +23,8 @@ use sm_plan_code::MOST_PLACES;
 use std::alloc::Global;
 
 impl Driver {
-    /// Opens a driver over a settled placement, with these permits and these carried servers as far as they are of servers that are
-    /// down. Its fence is 0.
+    /// Opens a driver over a settled placement, with these permits and these carried servers as far as they are of
+    /// servers that are down. Its fence is 0.
     fn over(
         alloc: Global,
         placement: Placement,
@@ -79,8 +79,8 @@ impl Driver {
         })
     }
 
-    /// Opens a driver over a settled placement, for a journal and one of its epochs, as `Director::open` does. Each server that is
-    /// down has a new permit, and none is carried over. The fence is 0.
+    /// Opens a driver over a settled placement, for a journal and one of its epochs, as `Director::open` does. Each
+    /// server that is down has a new permit, and none is carried over. The fence is 0.
     pub fn open(
         alloc: Global,
         placement: Placement,
