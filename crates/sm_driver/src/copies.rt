@@ -47,10 +47,7 @@ impl Copies {
     pub fn at_opening(alloc: Global, shards: u32) -> Result<Copies, AllocError>
         ensures { IfOk result (λ copies. copies ≡ replicate shards 1) }
     {
-        let mut counts = Vec::new(alloc);
-        for _ in 0..shards {
-            counts.push(1)?;
-        }
+        let counts = vec![in alloc; 1; shards as usize]?;
         Ok(Copies { counts })
     }
 
