@@ -32,7 +32,7 @@ copies_effect d s told =
     else if nat_lt (shard_want d.machine.placement.setup s) told.copies then AboveWant
     else Noted
 
--- So many copies of a shard are recorded now.
+-- This number of copies of a shard is recorded now.
 abbrev pub HasNotedCopies : ℕ → ℕ → DriverModel → DriverModel → Type 0
 HasNotedCopies s copies old new = new ≡ record old { copies = slice_set old.copies s copies }
 

@@ -54,7 +54,7 @@ abbrev pub ignored_word : Ignored → List ℕ
 ignored_word ignored.Old = codes "old"
 ignored_word ignored.Unknown = codes "unknown"
 
--- a shard does not want as many copies as are told
+-- more copies are told than the shard wants
 abbrev pub above_want : Setup → ℕ → RefusedLine
 above_want setup s = record {
   kind = codes "AboveWant";

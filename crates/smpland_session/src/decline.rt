@@ -67,7 +67,7 @@ pub enum Decline {
     Engaged { server: ServerId, stream: StreamId },
     /// The next epoch does not open.
     NoEpoch(EpochFault),
-    /// The shard does not want as many copies.
+    /// More copies are told than the shard wants.
     AboveWant(ShardId),
     /// A reopening is under way.
     Reopening,
@@ -138,7 +138,7 @@ fn wanted(config: &Config, shard: ShardId) -> u32
     }
 }
 
-/// Writes that a shard does not want as many copies.
+/// Writes that more copies are told than a shard wants.
 fn refuse_above_want(
     writer: &mut Writer,
     alloc: Global,
