@@ -1,32 +1,18 @@
 """The form that is built: a number that servers tell, what a reopening keeps of it, and what is named by it."""
 import unittest
-from collections import Counter
-from dataclasses import dataclass
-from unittest import mock
 
 from driving_model.cells import ABSENT, PRIMARY, SECONDARY
 from driving_model.commands import NewEpoch
 from driving_model.replies import Ignored, Refused, Up
 
-from data_model import laws
 from data_model.commands import CopiedAt
 from data_model.controller import replayed
 from data_model.play import ALL, Play as FullPlay, TWO
 from data_model.plays_built import OWN_PLAYS, PLAYS, Play
-from data_model.rules import BUILT, NOT_BUILT, SMALL, data_rule_names, sentence_of
-from data_model.schedule import run_schedule
-from data_model.worked import played
+from data_model.rules import BUILT, NOT_BUILT, SMALL, data_rule_names
 
-STEPS = 100
-# How many schedules of each profile are run; an empty one stands for schedules of all profiles.
-RUNS = {"": 15, "kept": 25, "one shard": 10, "drops": 10}
-# What happens in some schedule of these.
-MET = (
-    "a named loss taken", "a new primary, named", "a new primary, sure", "acknowledged at several", "approved",
-    "copied", "copies anew", "leave taken", "lost for good", "reopened", "reopening replaced", "restored",
-)
-# Without these a loss is unnamed only by what the laws say of copies, or a name is there that need not be.
-OTHERWISE = frozenset({"copied_of_fewer"})
+import forms
+from forms import Dice
 
 
 class Numbers(unittest.TestCase):
@@ -120,71 +106,32 @@ class Names(unittest.TestCase):
         self.assertEqual(self.names(play, {1}, (PRIMARY, ABSENT, ABSENT)), ())
 
 
-class Needed(unittest.TestCase):
+class Needed(forms.Needed, unittest.TestCase):
     """Each rule is needed."""
 
-    def test_each_rule_has_a_play(self):
-        self.assertEqual(sorted({it.rule for it in PLAYS}), sorted(data_rule_names(BUILT)))
-
-    def test_plays_break_without_their_rule_alone(self):
-        for worked in PLAYS:
-            with self.subTest(worked.name, rule=worked.rule):
-                self.assertIsNone(played(worked, True, BUILT))
-                self.assertIsNotNone(played(worked, False, BUILT), f"no law is broken without {worked.rule}")
-
-    def test_its_own_rules_keep_acknowledged_writes(self):
-        for worked in OWN_PLAYS:
-            if worked.name not in OTHERWISE:
-                with self.subTest(worked.name), mock.patch.object(laws, "STANDING", (laws.writes_stay,)):
-                    self.assertIn(played(worked, False, BUILT).law, ("writes_stay", "best_copy_wins"))
-
-    def test_the_small_form_has_the_rules_that_this_has_not(self):
-        self.assertEqual(sorted(NOT_BUILT), sorted(set(data_rule_names(SMALL)) - set(data_rule_names(BUILT))))
-        for rule in data_rule_names(BUILT):
-            self.assertTrue(sentence_of(rule).endswith("."), rule)
-        with self.assertRaises(ValueError):
-            BUILT.without("goers_lower")
+    form, plays, own_plays = BUILT, PLAYS, OWN_PLAYS
+    # Without it a name is there that need not be.
+    of_other_laws = frozenset({"copied_only_rises"})
+    left_out, wider = NOT_BUILT, data_rule_names(SMALL)
 
 
-@dataclass(frozen=True)
-class Dice:
-    """A random schedule, which breaks this law."""
+class Schedules(forms.Schedules, unittest.TestCase):
+    """Random schedules. If the model changes, `tools/data_model.py --built --mode RULE` finds other seeds."""
 
-    seed: int
-    law: str
-
-
-# If the model changes, so do the schedules of seeds: `tools/data_model.py --built --mode RULE` finds another one.
-DICE = {
-    "kept_begins_anew": Dice(2, "enough_have_it"),
-    "replaced_keeps_one": Dice(99, "enough_have_it"),
-    "loss_named": Dice(1, "best_copy_wins"),
-    "part_gone": Dice(5, "writes_stay"),
-    "silent_gone": Dice(27, "best_copy_wins"),
-    "server_named": Dice(88, "best_copy_wins"),
-}
-
-
-class Schedules(unittest.TestCase):
-    """Random schedules, of a fixed set of seeds."""
-
-    def test_no_law_is_broken(self):
-        met: Counter[str] = Counter()
-        for profile, runs in RUNS.items():
-            for seed in range(1, runs + 1):
-                with self.subTest(profile=profile, seed=seed):
-                    run = run_schedule(seed, BUILT, STEPS, profile)
-                    self.assertIsNone(run.violation)
-                    met.update(run.schedule.world.coverage)
-        self.assertEqual([it for it in MET if not met[it]], [])
-
-    def test_a_law_is_broken_without_a_rule_alone(self):
-        for rule, dice in DICE.items():
-            with self.subTest(rule):
-                violation = run_schedule(dice.seed, BUILT.without(rule), STEPS, "kept").violation
-                self.assertIsNotNone(violation, f"no law is broken without {rule}")
-                self.assertEqual(violation.law, dice.law)
-                self.assertIsNone(run_schedule(dice.seed, BUILT, STEPS, "kept").violation)
+    form = BUILT
+    runs = {"": 15, "kept": 25, "one shard": 10, "drops": 10}
+    met = (
+        "a named loss taken", "a new primary, named", "a new primary, sure", "acknowledged at several", "approved",
+        "copied", "copies anew", "leave taken", "lost for good", "reopened", "reopening replaced", "restored",
+    )
+    dice = {
+        "kept_begins_anew": Dice(2, "enough_have_it"),
+        "replaced_keeps_one": Dice(99, "enough_have_it"),
+        "loss_named": Dice(1, "best_copy_wins"),
+        "part_gone": Dice(5, "writes_stay"),
+        "silent_gone": Dice(27, "best_copy_wins"),
+        "server_named": Dice(88, "best_copy_wins"),
+    }
 
 
 if __name__ == "__main__":

@@ -1,31 +1,18 @@
 """The small form: a number that is wanted, one that is kept, and what is named by it."""
 import unittest
-from collections import Counter
-from dataclasses import dataclass
-from unittest import mock
 
 from driving_model.cells import ABSENT, PRIMARY, SECONDARY
 from driving_model.commands import NewEpoch
 from driving_model.replies import Ignored, Up
 
-from data_model import laws
 from data_model.commands import CopiedAt
 from data_model.controller import replayed
 from data_model.play import ALL, Play as FullPlay, TWO
 from data_model.plays_small import OWN_PLAYS, PLAYS, Play
-from data_model.rules import NOT_SMALL, SMALL, data_rule_names, sentence_of
-from data_model.schedule import run_schedule
-from data_model.worked import played
+from data_model.rules import NOT_SMALL, SMALL, data_rule_names
 
-STEPS = 100
-# How many schedules of each profile are run; an empty one stands for schedules of all profiles.
-RUNS = {"": 33, "kept": 60, "one shard": 15, "drops": 15}
-# What happens in some schedule of these.
-MET = (
-    "a named loss taken", "a new primary, named", "a new primary, sure", "acknowledged at several", "approved",
-    "carried over", "copied", "copies anew", "leave taken", "lost for good", "reopened", "reopening replaced",
-    "restored",
-)
+import forms
+from forms import Dice
 
 
 class Numbers(unittest.TestCase):
@@ -103,73 +90,34 @@ class Numbers(unittest.TestCase):
         self.assertEqual(play.reopening({1}, (ABSENT, ABSENT, ABSENT)).propose().lost, ())
 
 
-class Needed(unittest.TestCase):
+class Needed(forms.Needed, unittest.TestCase):
     """Each rule is needed."""
 
-    def test_each_rule_has_a_play(self):
-        self.assertEqual(sorted({it.rule for it in PLAYS}), sorted(data_rule_names(SMALL)))
-
-    def test_plays_break_without_their_rule_alone(self):
-        for worked in PLAYS:
-            with self.subTest(worked.name, rule=worked.rule):
-                self.assertIsNone(played(worked, True, SMALL))
-                self.assertIsNotNone(played(worked, False, SMALL), f"no law is broken without {worked.rule}")
-
-    def test_its_own_rules_keep_acknowledged_writes(self):
-        for worked in OWN_PLAYS:
-            if worked.rule not in ("wanted_within_floor", "views_below"):
-                with self.subTest(worked.name), mock.patch.object(laws, "STANDING", (laws.writes_stay,)):
-                    self.assertIn(played(worked, False, SMALL).law, ("writes_stay", "best_copy_wins"))
-
-    def test_the_full_form_has_the_rules_that_this_has_not(self):
-        self.assertEqual(sorted(NOT_SMALL), sorted(set(data_rule_names()) - set(data_rule_names(SMALL))))
-        for rule in data_rule_names(SMALL):
-            self.assertTrue(sentence_of(rule).endswith("."), rule)
-        with self.assertRaises(ValueError):
-            SMALL.without("down_lowers")
+    form, plays, own_plays = SMALL, PLAYS, OWN_PLAYS
+    of_other_laws = frozenset({"wanted_within_floor", "views_below"})
+    left_out, wider = NOT_SMALL, data_rule_names()
 
 
-@dataclass(frozen=True)
-class Dice:
-    """A random schedule, which breaks this law."""
+class Schedules(forms.Schedules, unittest.TestCase):
+    """Random schedules. If the model changes, `tools/data_model.py --small --mode RULE` finds other seeds."""
 
-    seed: int
-    law: str
-
-
-# If the model changes, so do the schedules of seeds: `tools/data_model.py --small --mode RULE` finds another one.
-DICE = {
-    "enough_acknowledge": Dice(4, "fewer_losses_lose_nothing"),
-    "copied_of_all": Dice(22, "enough_have_it"),
-    "kept_from_one": Dice(8, "enough_have_it"),
-    "kept_below_wanted": Dice(54, "enough_have_it"),
-    "loss_named": Dice(220, "writes_stay"),
-    "unknown_gone": Dice(259, "writes_stay"),
-    "goers_lower": Dice(288, "enough_have_it"),
-    "replaced_counted": Dice(343, "enough_have_it"),
-}
-
-
-class Schedules(unittest.TestCase):
-    """Random schedules, of a fixed set of seeds."""
-
-    def test_no_law_is_broken(self):
-        met: Counter[str] = Counter()
-        for profile, runs in RUNS.items():
-            for seed in range(1, runs + 1):
-                with self.subTest(profile=profile, seed=seed):
-                    run = run_schedule(seed, SMALL, STEPS, profile)
-                    self.assertIsNone(run.violation)
-                    met.update(run.schedule.world.coverage)
-        self.assertEqual([it for it in MET if not met[it]], [])
-
-    def test_a_law_is_broken_without_a_rule_alone(self):
-        for rule, dice in DICE.items():
-            with self.subTest(rule):
-                violation = run_schedule(dice.seed, SMALL.without(rule), STEPS, "kept").violation
-                self.assertIsNotNone(violation, f"no law is broken without {rule}")
-                self.assertEqual(violation.law, dice.law)
-                self.assertIsNone(run_schedule(dice.seed, SMALL, STEPS, "kept").violation)
+    form = SMALL
+    runs = {"": 33, "kept": 60, "one shard": 15, "drops": 15}
+    met = (
+        "a named loss taken", "a new primary, named", "a new primary, sure", "acknowledged at several", "approved",
+        "carried over", "copied", "copies anew", "leave taken", "lost for good", "reopened", "reopening replaced",
+        "restored",
+    )
+    dice = {
+        "enough_acknowledge": Dice(4, "fewer_losses_lose_nothing"),
+        "copied_of_all": Dice(22, "enough_have_it"),
+        "kept_from_one": Dice(8, "enough_have_it"),
+        "kept_below_wanted": Dice(54, "enough_have_it"),
+        "loss_named": Dice(220, "writes_stay"),
+        "unknown_gone": Dice(259, "writes_stay"),
+        "goers_lower": Dice(288, "enough_have_it"),
+        "replaced_counted": Dice(343, "enough_have_it"),
+    }
 
 
 if __name__ == "__main__":

@@ -1,12 +1,14 @@
 """Worked plays of the form that is built: what `copied` tells, what a reopening keeps of it, and what is named."""
 from __future__ import annotations
 
+from collections.abc import Callable
+
 from driving_model.cells import ABSENT, PRIMARY, SECONDARY
 from driving_model.messages import Order
 
 from . import plays_small as small
 from .commands import CopiedAt
-from .play import ALL, Play as FullPlay, Row, TWO
+from .play import Row, TWO
 from .rules import BUILT, Rules, rule_names
 from .worked import Worked, must
 
@@ -24,6 +26,11 @@ class Play(small.Play):
         super().__init__(rules, row, want, cap, copies, beside)
         if row[0] == PRIMARY:
             self.write(1, copies=tuple(it for it, cell in enumerate(row) if cell == SECONDARY))
+
+
+def here(play: Callable[[Rules], None]) -> Callable[[Rules], None]:
+    """A play of the small form, over plays of this one."""
+    return small.over(play, Play=Play)
 
 
 def may_not_be_named(play: Play) -> None:
@@ -73,25 +80,6 @@ def leave_by_an_old_message(rules: Rules) -> None:
 # What the record holds.
 
 
-def a_counted_replica_goes(rules: Rules) -> None:
-    """The primary and a secondary have 7. The secondary is lost, and then the primary; another secondary lags."""
-    play = Play(rules, ALL, want=3, copies=2)
-    play.write(7, copies=(1,))
-    play.fail_over(1, (PRIMARY, ABSENT, SECONDARY))
-    play.lose(0)
-    play.reopening({0, 1}, (ABSENT, ABSENT, SECONDARY))
-    play.settle()
-
-
-def fewer_are_asked_for(rules: Rules) -> None:
-    """Two copies were there, and from a reopening on servers ask for one. The primary acknowledges alone, and is
-    lost."""
-    play = Play(rules, TWO, want=2, copies=2)
-    play.reopen_settled(TWO, copies=1)
-    play.write(7, copies=())
-    play.fail_over(0, (ABSENT, SECONDARY, ABSENT))
-
-
 def copied_of_fewer(rules: Rules) -> None:
     """Two copies are there; an earlier word of one comes. The primary is lost."""
     play = Play(rules, TWO, want=2, copies=2)
@@ -105,22 +93,6 @@ def copied_of_fewer(rules: Rules) -> None:
 # What a reopening keeps.
 
 
-def order_not_recorded(rules: Rules) -> None:
-    """The primary and a secondary that was just added, which is not recorded yet, have a write. Both are lost; the
-    recorded secondary lags."""
-    play = Play(rules, TWO, want=2, copies=2)
-    play.add_secondary(2)
-    order = play.controller.orders()[0]
-    play.world.deliver(order)
-    play.copy(2, 0)
-    play.world.work(play.host(2), order)
-    play.write(7, copies=(2,))
-    play.lose(0)
-    play.lose(2)
-    play.reopening({0, 2}, (ABSENT, SECONDARY, ABSENT))
-    play.settle()
-
-
 def handed_in_view_0(rules: Rules) -> None:
     """A shard was handed over, and the map does not show it yet: no order is present. The new owner and a secondary
     have 7, the old owner, which follows, lags. The new one is lost: in view 0 the old one's claim comes first."""
@@ -130,33 +102,6 @@ def handed_in_view_0(rules: Rules) -> None:
         play.turn()
     play.write(7, copies=(1,), primary=2)
     play.fail_over(2, (ABSENT, SECONDARY, ABSENT))
-
-
-def replica_of_a_replaced_reopening(rules: Rules) -> None:
-    """A reopening brings another secondary, which has a write with the primary; the recorded one lags. Another
-    reopening replaces this one, and both are lost."""
-    play = Play(rules, TWO, want=2, copies=2)
-    play.world.lose(play.host(2))
-    play.reopening(set(), ALL)
-    play.take_settles(0, 2)
-    play.copy(2, 0)
-    play.write(7, copies=(2,))
-    play.lose(0)
-    play.lose(2)
-    play.reopening({0, 2}, (ABSENT, SECONDARY, ABSENT))
-    play.settle()
-
-
-def fewer_by_a_replaced_reopening(rules: Rules) -> None:
-    """Two copies are there. From a reopening on servers ask for one, and the primary acknowledges alone. Another one
-    replaces it, and the primary is lost."""
-    play = Play(rules, TWO, want=2, copies=2)
-    play.want_copies(1)
-    play.reopening(set(), TWO)
-    play.take_settles(0)
-    play.write(7, copies=())
-    play.want_copies(2)
-    play.fail_over(0, (ABSENT, SECONDARY, ABSENT))
 
 
 # What is named.
@@ -175,13 +120,13 @@ def restored_with_an_empty_disk(rules: Rules) -> None:
 OWN_PLAYS = (
     Worked(fenced_primary_asks_for_less, "number_until_slots"),
     Worked(leave_by_an_old_message, "leave_of_settled_view"),
-    Worked(a_counted_replica_goes, "kept_begins_anew"),
-    Worked(fewer_are_asked_for, "kept_begins_anew"),
+    Worked(here(small.a_counted_replica_goes), "kept_begins_anew"),
+    Worked(here(small.fewer_are_wanted), "kept_begins_anew"),
     Worked(copied_of_fewer, "copied_only_rises"),
-    Worked(order_not_recorded, "ordered_keeps_one"),
+    Worked(here(small.order_not_recorded), "ordered_keeps_one"),
     Worked(handed_in_view_0, "handed_keeps_one"),
-    Worked(replica_of_a_replaced_reopening, "replaced_keeps_one"),
-    Worked(fewer_by_a_replaced_reopening, "replaced_keeps_one"),
+    Worked(here(small.replica_of_a_replaced_reopening), "replaced_keeps_one"),
+    Worked(here(small.fewer_by_a_replaced_reopening), "replaced_keeps_one"),
     Worked(restored_with_an_empty_disk, "part_gone"),
 )
 
@@ -197,7 +142,7 @@ OTHERWISE = frozenset({"told_before_the_primary_was_dropped", "counted_by_an_old
 
 def carried(worked: Worked) -> Worked:
     """A play of the small form, in the built one."""
-    play = worked.play if worked.name in PUT else small.over(worked.play, Play=Play)
+    play = worked.play if worked.name in PUT else here(worked.play)
     return Worked(play, worked.rule, tuple(it for it in worked.beside if it in NAMES))
 
 
