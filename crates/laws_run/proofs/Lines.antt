@@ -47,7 +47,7 @@ module _ (answers : AnswersHaveEntries) (text : List ℕ) (value : Data) (is : d
     after = refl;
     says = (value, driver.Begin plan name, is, says, h.2);
     callable = h.3;
-    written = (free_steps h.4.advanced.streams ++ Made (Begin h.0) ∷ [], (h.1, h.4, refl));
+    written = (free_steps h.5.advanced.streams ++ Made (Begin h.0) ∷ [], (h.1, h.5, refl));
   }
   of_driver (driver.Answered plan stream number) says old new h =
       let id : StreamId = record { plan = plan; stream = stream } in record {

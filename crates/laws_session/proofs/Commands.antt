@@ -42,7 +42,7 @@ one_plan s t v w plan other rows values x y =
 begin_alike : EachAlike GoAlike → (v w : Data) (d e new next : DriverModel) → w ≡ v → AreAlike d e → BeginsPlanOf v d new → BeginsPlanOf w e next → AreAlike new next
 begin_alike go v w d e new next values is x y =
     let plans = one_plan d.machine.placement.setup e.machine.placement.setup v w x.0 y.0 is.setup values x.2 y.2 in
-    ((go d e is).begun x.0 x.1 y.1 new next x.4 (subst (λ (plan : PlanModel). HasBegunPlan plan y.1 e next) plans y.4)).1
+    ((go d e is).begun x.0 x.1 y.1 new next x.5 (subst (λ (plan : PlanModel). HasBegunPlan plan y.1 e next) plans y.5)).1
 
 one_server : (s t : Setup) (name other : List ℕ) (u v : ℕ) → t ≡ s → other ≡ name → server_named s name ≡ Some u → server_named t other ≡ Some v → v ≡ u
 one_server s t name other u v rows names x y =

@@ -17,7 +17,7 @@ use Rattle.smpland_state.specs.Begun.{begun_again_members}
 use Rattle.smpland_session.specs.Asked.{SaysPlan}
 use Rattle.smpland_session.specs.Begins.{IsNotSaid, SaysOther, TellsUnder, kept_plan, other_plan}
 use Rattle.smpland_session.specs.Checks.{SaysNoPlan}
-use Rattle.smpland_session.specs.Outcomes.{TellsDecline}
+use Rattle.smpland_session.specs.Outcomes.{IsNotBegunUnder, TellsDecline}
 use Rattle.smpland_session.specs.declared.decline.Decline.{Decline}
 use Rattle.smpland_session.specs.declared.decline.Decline.TheVariants as decline
 
@@ -97,8 +97,8 @@ module _ (d : DriverModel) (goes_on : Bool) (value : Data) (name : List ℕ) whe
   not_said setup begun _ before after is told = absurd (none_for (kept_plan d begun) is)
 
   -- so it is with the plan that has begun under the name, if one has
-  pub told_not_said : (setup : Setup) (why : Decline) (before after : List Token) (found : Option BegunPlan) →
-      IfSome found (λ begun. IsSomeAnd (kept_plan d begun) (λ kept. IsNotSaid d.machine.placement.setup value name kept why)) → TellsDecline setup why before after →
+  pub told_not_said : (is_reopening : Bool) (setup : Setup) (why : Decline) (before after : List Token) (found : Option BegunPlan) →
+      IsNotBegunUnder found name value is_reopening d why → TellsDecline setup why before after →
       IfSome found (λ begun. TellsUnder d goes_on value name begun before after)
-  told_not_said setup why before after None is told = tt
-  told_not_said setup why before after (Some begun) is told = not_said setup begun why before after is told
+  told_not_said is_reopening setup why before after None is told = tt
+  told_not_said is_reopening setup why before after (Some begun) is told = not_said setup begun why before after is told

@@ -5,8 +5,9 @@ use Rattle.std.proofs.lemmas.List.{append-nil, append_assoc}
 use Rattle.json.specs.Token.{Token}
 use Rattle.sm_placement.specs.Setup.{Setup}
 use Rattle.sm_driver.specs.Copies.{shard_want}
-use Rattle.smpland_lines.specs.Members.{number_member, shard_text, text_member}
+use Rattle.smpland_lines.specs.Members.{number_member, server_text, shard_text, text_member}
 use Rattle.smpland_lines.specs.Refusals.{RefusedLine, refused_member}
+use Rattle.smpland_session.specs.Checks.{unknown_refusal}
 use Rattle.smpland_session.specs.Outcomes.{above_want}
 
 -- a refusal of a name under a label, whose words end so
@@ -29,6 +30,15 @@ pub told_of_name : {A E : Type 0} (r : Result A E) (kind label name : List ℕ) 
 told_of_name (Err _) kind label name before after told = tt
 told_of_name (Ok _) kind label name before after told =
     told ∙ ap (λ words. before ++ refused_member (refusal_of_name kind label name words)) (append-nil (name_words label name))
+
+-- they are the name of a server that is not known
+pub told_unknown : {A E : Type 0} (r : Result A E) (name : List ℕ) (setup : Setup) (v : ℕ) (before after : List Token) → name ≡ server_text setup v →
+    OnOk r (after ≡ before ++ refused_member (refusal_of_name (codes "Unknown") (codes "server") name (name_words (codes "server") name ++ []))) →
+    OnOk r (after ≡ before ++ refused_member (unknown_refusal setup v))
+told_unknown (Err _) name setup v before after named told = tt
+told_unknown (Ok _) name setup v before after named told =
+    told ∙ ap (λ words. before ++ refused_member (refusal_of_name (codes "Unknown") (codes "server") name words)) (append-nil (name_words (codes "server") name))
+    ∙ ap (λ (n : List ℕ). before ++ refused_member (refusal_of_name (codes "Unknown") (codes "server") n (name_words (codes "server") n))) named
 
 -- a refusal of copies that a shard with this name does not want, whose words end so
 abbrev pub refusal_of_copies : List ℕ → ℕ → List ℕ → RefusedLine

@@ -37,6 +37,7 @@ use Rattle.smpland_state.specs.Given.{given_at}
 use Rattle.smpland_state.specs.Permits.{approved_member, given_member, opened_member}
 use Rattle.smpland_state.specs.Replies.{gone_on, moved_members, sinces_of}
 use Rattle.smpland_state.specs.Restores.{TellsAgain, TellsKept, is_told, restore_object, told_again}
+use Rattle.smpland_state.specs.Known.{unknown_called}
 use Rattle.smpland_session.specs.declared.decline.Decline.{Decline}
 use Rattle.smpland_session.specs.declared.decline.Decline.TheVariants as decline
 use Rattle.smpland_session.specs.declared.decline.Ignored.TheVariants as ignored
@@ -45,9 +46,10 @@ use Rattle.smpland_session.specs.declared.driver_outcome.DriverOutcome.TheVarian
 use Rattle.smpland_session.specs.ToldAgain.{AnswersAgain, TellsGiven, TellsNotNoted}
 use Rattle.smpland_session.specs.Asked.{DoesToDriver, SaysPlan}
 use Rattle.smpland_session.specs.Begins.{other_plan}
+use Rattle.smpland_session.specs.Checks.{IsUnready, unknown_refusal}
 use Rattle.smpland_session.specs.Changes.{Approves, Begins, Changes, Ends, Notes, OpensEpoch, Restores, Takes}
 use Rattle.smpland_session.specs.Declines.{Bad, Declines, DriverDeclines, Ignored, Refused}
-use Rattle.smpland_session.specs.Outcomes.{AnsweredOutcome, BeginOutcome, HasMovedWith, HasOutcome, IsNotNoted, KnowsServers, StartOutcome, TellsDecline, TellsOutcome, above_want, copies_effect_now, has_changed, ignored_word}
+use Rattle.smpland_session.specs.Outcomes.{AnsweredOutcome, BeginOutcome, HasMovedWith, HasOutcome, IsNotBegun, IsNotBegunUnder, IsNotNoted, IsKeptFromStarting, KnowsServers, StartOutcome, TellsDecline, TellsOutcome, above_want, copies_effect_now, has_changed, ignored_word}
 use Rattle.smpland_session.specs.Replies.{TellsChange}
 use Rattle.smpland_session.proofs.Begins.{told_not_said, told_same}
 
@@ -122,6 +124,7 @@ declines_by : (setup : Setup) (why : Decline) (before after : List Token) → Te
 declines_by setup (decline.Ignored why) before after told = Ignored (ignored_word why, told)
 declines_by setup (decline.NoPlan fault) before after told = Bad (bad.Within PlanMember fault, told)
 declines_by setup (decline.Unchecked fault) before after told = Refused (shared_refusal (check_refusal fault), told)
+declines_by setup (decline.Unknown server) before after told = Refused (unknown_refusal setup server, told)
 declines_by setup (decline.OtherPlan name) before after told = Refused (other_plan (string_bytes name), told)
 declines_by setup (decline.OtherServer at) before after told = Refused told
 declines_by setup (decline.AboveWant shard) before after told = Refused (above_want setup shard, told)
@@ -184,9 +187,9 @@ did command r old new (outcome.RestoredBefore server nonce) h is = absurd (let z
 did command r old new (outcome.Declined why) h is = absurd (let z = is in cc)
 did (driver.Begin plan name) r old new (outcome.Begun begun) h is = let it = h.2 in (
   h.0,
-  (it.0, begun.number, it.1, it.2, it.3),
-  Begins (it.0, begun.number, it.2, it.3),
-  λ before after told. (it.0, it.1, (begun.number, it.3, told ∙ ap (λ k. before ++ begun_members new.driver k) it.4)),
+  (it.0, begun.number, it.1, it.2, it.3, it.4),
+  Begins (it.0, begun.number, it.2, it.4),
+  λ before after told. (it.0, it.1, (begun.number, it.4, told ∙ ap (λ k. before ++ begun_members new.driver k) it.5)),
 )
 did (driver.Answered plan stream number) r old new (outcome.Moved id gone) h is =
     let asked : StreamId = record { plan = plan; stream = stream } in
@@ -263,7 +266,7 @@ module _ (before after : List Token) where
       (told ∙ ap (λ g. before ++ begun_again_members new.driver begun g) h.1
       ∙ ap (λ (o : JournalState). before ++ begun_again_members o.driver begun (not r)) h.2))
   again (driver.Begin plan name) r old new (outcome.Declined why) h told =
-      told_not_said old.driver (not r) (view plan.now) name.now new.driver.machine.placement.setup why before after (value_of old.plans name.now) h.1 told
+      told_not_said old.driver (not r) (view plan.now) name.now r new.driver.machine.placement.setup why before after (value_of old.plans name.now) h.1 told
   again (driver.Answered plan stream number) r old new (outcome.Moved id gone) h told = λ none. absurd (let a = h.0 in let b = none in cc)
   again (driver.Answered plan stream number) r old new (outcome.Declined why) h told =
       λ none. subst (λ (w : Decline). TellsDecline new.driver.machine.placement.setup w before after) h.1 told
@@ -357,11 +360,29 @@ starts_as plan number begun old new mid has same is =
       is ∙ ap (λ k. begun_plan new.driver k) under,
     )
 
+-- a plan that is ready is not begun only by what is in its way
+not_started : (d : DriverModel) (plan : PlanModel) (value : Data) (why : Decline) → SaysPlan d.machine.placement.setup value plan → unknown_called d plan ≡ None →
+    IsKeptFromStarting d plan why → IsNotBegun d value why
+not_started d plan value (decline.NotBegun fault) says known is = (plan, says, known, is)
+not_started d plan value _ says known is = absurd is
+
+-- one that is not ready is not begun
+not_ready : (d : DriverModel) (value : Data) (why : Decline) → IsUnready d value why → IsNotBegun d value why
+not_ready d value (decline.NotBegun fault) is = absurd is
+not_ready d value _ is = is
+
+-- so it is under a new name, as long as no reopening is under way
+pub not_ready_under : (found : Option BegunPlan) (name : List ℕ) (value : Data) (is_reopening : Bool) (d : DriverModel) (why : Decline) → found ≡ None →
+    is_reopening ≡ false → IsUnready d value why → IsNotBegunUnder found name value is_reopening d why
+not_ready_under found name value is_reopening d why none free is = rw (none, free) (not_ready d value why is)
+
 -- the plan that a value says was ready
 pub begins_as_said : {E : Type 0} (r : Result DriverOutcome E) (plan : PlanModel) (value : Data) (name : List ℕ) (is_reopening : Bool) (old new : JournalState) →
     is_reopening ≡ false → value_of old.plans name ≡ None → SaysPlan old.driver.machine.placement.setup value plan → IsCheckedPlan (record_of old.driver).sizes plan →
-    IfOk r (λ o. StartOutcome plan old o new) → IfOk r (λ o. BeginOutcome value name is_reopening old o new)
-begins_as_said (Ok (outcome.Begun begun)) plan value name is_reopening old new free none says checked h = (free, none, (plan, says, checked, h.0, h.1))
-begins_as_said (Ok (outcome.Declined why)) plan value name is_reopening old new free none says checked h = (h, rw none tt)
-begins_as_said (Ok _) plan value name is_reopening old new free none says checked h = absurd h
-begins_as_said (Err _) plan value name is_reopening old new free none says checked h = tt
+    unknown_called old.driver plan ≡ None → IfOk r (λ o. StartOutcome plan old o new) → IfOk r (λ o. BeginOutcome value name is_reopening old o new)
+begins_as_said (Ok (outcome.Begun begun)) plan value name is_reopening old new free none says checked known h =
+    (free, none, (plan, says, checked, known, h.0, h.1))
+begins_as_said (Ok (outcome.Declined why)) plan value name is_reopening old new free none says checked known h =
+    (h.0, rw (none, free) (not_started old.driver plan value why says known h.1))
+begins_as_said (Ok _) plan value name is_reopening old new free none says checked known h = absurd h
+begins_as_said (Err _) plan value name is_reopening old new free none says checked known h = tt

@@ -1,5 +1,5 @@
 -- Replies to `check`.
-use Rattle.std.proofs.Common.{◌≡◌, ◌++◌, List, Result, Ok, Err, IfOk, OnOk, length, subst}
+use Rattle.std.proofs.Common.{◌≡◌, ◌++◌, List, None, Result, Ok, Err, IfOk, OnOk, length, subst}
 use Rattle.std.specs.Prelude.{IfErr}
 use Rattle.json.specs.Token.{Token}
 use Rattle.serde_json.specs.Data.{Data}
@@ -12,10 +12,12 @@ use Rattle.sm_protocol.specs.Happens.{Begin, happens}
 use Rattle.sm_protocol.specs.Steps.{Answered}
 use Rattle.sm_machine.specs.Machine.{MachineModel}
 use Rattle.sm_machine.specs.State.{state_of}
+use Rattle.sm_driver.specs.Driver.{DriverModel}
 use Rattle.sm_refusals.specs.Plans.{begin_refusal}
 use Rattle.smpland_lines.specs.Refusals.{refused_member, shared_refusal}
+use Rattle.smpland_state.specs.Known.{unknown_called}
 use Rattle.smpland_session.specs.Asked.{SaysPlan}
-use Rattle.smpland_session.specs.Checks.{IsUnchecked, NoPlan, Sound, TellsCheck, TellsVerdict, Unsound, WouldBegin, WouldNot, accepted_member}
+use Rattle.smpland_session.specs.Checks.{IsUnchecked, IsUnready, NoPlan, Sound, TellsCheck, TellsVerdict, Unknown, Unsound, WouldBegin, WouldNot, accepted_member}
 use Rattle.smpland_session.specs.Outcomes.{TellsDecline}
 use Rattle.smpland_session.specs.declared.decline.Decline.{Decline}
 use Rattle.smpland_session.specs.declared.decline.Decline.TheVariants as decline
@@ -37,22 +39,28 @@ would_begin (Err x) m plan shown before after is same told = tt
 -- ---- values
 
 -- a sound plan is told as it would begin
-pub tells_sound : {A E : Type 0} (r : Result A E) (m n : MachineModel) (value : Data) (plan : PlanModel) (before after : List Token) →
-    SaysPlan m.placement.setup value plan → IsSound (sizes_of m.placement.setup) plan → n ≡ m → OnOk r (TellsVerdict n plan before after) →
-    OnOk r (TellsCheck m value before after)
-tells_sound (Ok x) m n value plan before after says sound same told =
-    Sound plan says sound (subst (λ (k : MachineModel). TellsVerdict k plan before after) same told)
-tells_sound (Err x) m n value plan before after says sound same told = tt
+pub tells_sound : {A E : Type 0} (r : Result A E) (d : DriverModel) (m : MachineModel) (value : Data) (plan : PlanModel) (before after : List Token) →
+    SaysPlan d.machine.placement.setup value plan → IsSound (sizes_of d.machine.placement.setup) plan → unknown_called d plan ≡ None → m ≡ d.machine →
+    OnOk r (TellsVerdict m plan before after) → OnOk r (TellsCheck d value before after)
+tells_sound (Ok x) d m value plan before after says sound known same told =
+    Sound plan says sound known (subst (λ (k : MachineModel). TellsVerdict k plan before after) same told)
+tells_sound (Err x) d m value plan before after says sound known same told = tt
 
 -- any other value is declined
-tells_why : (m : MachineModel) (value : Data) (why : Decline) (before after : List Token) →
-    IsUnchecked m.placement.setup value why → TellsDecline m.placement.setup why before after → TellsCheck m value before after
-tells_why m value (decline.NoPlan fault) before after is told = NoPlan fault is told
-tells_why m value (decline.Unchecked fault) before after is told = Unsound fault is told
-tells_why m value _ before after is told = absurd is
+tells_why : (d : DriverModel) (value : Data) (why : Decline) (before after : List Token) →
+    IsUnready d value why → TellsDecline d.machine.placement.setup why before after → TellsCheck d value before after
+tells_why d value (decline.NoPlan fault) before after is told = NoPlan fault is told
+tells_why d value (decline.Unchecked fault) before after is told = Unsound fault is told
+tells_why d value (decline.Unknown server) before after is told = Unknown server is told
+tells_why d value _ before after is told = absurd is
 
 -- so it is as long as memory is not short
-pub tells_unchecked : {A E : Type 0} (r : Result A E) (m : MachineModel) (value : Data) (why : Decline) (before after : List Token) →
-    IsUnchecked m.placement.setup value why → OnOk r (TellsDecline m.placement.setup why before after) → OnOk r (TellsCheck m value before after)
-tells_unchecked (Ok x) m value why before after is told = tells_why m value why before after is told
-tells_unchecked (Err x) m value why before after is told = tt
+pub tells_unready : {A E : Type 0} (r : Result A E) (d : DriverModel) (value : Data) (why : Decline) (before after : List Token) →
+    IsUnready d value why → OnOk r (TellsDecline d.machine.placement.setup why before after) → OnOk r (TellsCheck d value before after)
+tells_unready (Ok x) d value why before after is told = tells_why d value why before after is told
+tells_unready (Err x) d value why before after is told = tt
+
+-- a value that says no sound plan is not ready
+pub unready : (d : DriverModel) (value : Data) (why : Decline) → IsUnchecked d.machine.placement.setup value why → IsUnready d value why
+unready d value (decline.Unknown server) is = absurd is
+unready d value _ is = is

@@ -31,6 +31,7 @@ use Rattle.laws_network.specs.ReopeningLaws.{AllTook}
 use Rattle.sm_reopening.specs.Ongoing.{net_reopening}
 use Rattle.smpland_reopening.specs.Reopening.{ReopeningModel}
 use Rattle.smpland_reopening_lines.specs.Taken.{ConfirmsAt, TakesFenced, TakesSettledBy}
+use Rattle.smpland_state.specs.Known.{unknown_called}
 use Rattle.smpland_session.specs.Changes.{ComesInForceBy, EndsRestart, NotesTold, OpensNext, ReopensWithout}
 use Rattle.smpland_session.specs.declared.under_way.UnderWay.{UnderWay}
 use Rattle.smpland_session.specs.declared.session.Session.{Session}
@@ -39,11 +40,11 @@ use Rattle.smpland_session.specs.declared.session.Session.{Session}
 abbrev pub SaysPlan : Setup → Data → PlanModel → Type 0
 SaysPlan setup value plan = read_plan_data (names_of_shards setup) (names_of_servers setup) (Some value) ≡ Ok plan
 
--- the plan of a value, which was checked, has begun
+-- the plan of a value, which was checked, and calls no server that is not known, has begun
 abbrev pub BeginsPlanOf : Data → DriverModel → DriverModel → Type 0
 BeginsPlanOf value old new =
     (plan : PlanModel) × (number : ℕ) × SaysPlan old.machine.placement.setup value plan × IsCheckedPlan (record_of old).sizes plan
-    × HasBegunPlan plan number old new
+    × (unknown_called old plan ≡ None) × HasBegunPlan plan number old new
 
 -- this stream has made the step whose answer came under this number
 abbrev pub TakesAnswerOf : StreamId → ℕ → DriverModel → DriverModel → Type 0

@@ -1,6 +1,6 @@
 -- The outcomes of commands on an open journal, and the replies that tell them.
--- `TellsDecline`, `TellsOutcome`, `KnowsServers`, `StartOutcome`, `HasMovedWith`, `is_down_under` and `why_not_ended` are internal: you need not
--- read them for the public contracts.
+-- `TellsDecline`, `TellsOutcome`, `KnowsServers`, `StartOutcome`, `IsKeptFromStarting`, `HasMovedWith`, `is_down_under`
+-- and `why_not_ended` are internal: you need not read them for the public contracts.
 use Rattle.std.specs.Prelude.{◌≡◌, ◌<◌, ℕ, ◌&&◌, ◌||◌, Bool, true, false, List, ◌++◌, Option, Some, None, IfSome, bytes_eq, codes, decimal, if◌then◌else◌, not, string_bytes}
 use Rattle.std.specs.List.{list_any}
 use Rattle.std.specs.Option.{IsSomeAnd}
@@ -12,6 +12,10 @@ use Rattle.sm_reservation.specs.declared.stream_id.StreamId.{StreamId}
 use Rattle.sm_plan_code.specs.Plan.{PlanModel}
 use Rattle.sm_verifier.specs.Plan.{IsCheckedPlan}
 use Rattle.smpland_state.specs.Names.{value_of}
+use Rattle.sm_protocol.specs.declared.event.BeginFault.{BeginFault}
+use Rattle.sm_protocol.specs.declared.event.Played.TheVariants as played
+use Rattle.sm_protocol.specs.Happens.{Begin, happens}
+use Rattle.sm_protocol.specs.Steps.{Answered}
 use Rattle.laws_network.specs.Controller.{is_permitted}
 use Rattle.sm_driver.specs.Copies.{copies_effect, shard_want}
 use Rattle.sm_driver.specs.Driver.{DriverModel, HasApproved, HasBegunPlan, HasEndedRestart, HasRestored, HasTakenStep, is_due, is_past, record_of}
@@ -36,9 +40,11 @@ use Rattle.smpland_state.specs.Given.{given_at}
 use Rattle.smpland_state.specs.Permits.{approved_member, given_member, opened_member}
 use Rattle.smpland_state.specs.Replies.{gone_on, moved_members, sinces_of}
 use Rattle.smpland_state.specs.Restores.{TellsAgain, TellsKept, is_told}
+use Rattle.smpland_state.specs.Known.{unknown_called}
 use Rattle.smpland_session.specs.Asked.{SaysPlan}
 use Rattle.smpland_session.specs.Begins.{IsNotSaid, kept_plan, other_plan}
 use Rattle.smpland_session.specs.Changes.{NotesTold, OpensNext}
+use Rattle.smpland_session.specs.Checks.{IsUnready, unknown_refusal}
 use Rattle.smpland_session.specs.Declines.{Declines}
 use Rattle.smpland_session.specs.declared.decline.Decline.{Decline}
 use Rattle.smpland_session.specs.declared.decline.Decline.TheVariants as decline
@@ -69,6 +75,7 @@ TellsDecline setup (decline.Ignored why) before after = after ≡ before ++ text
 TellsDecline setup (decline.NoPlan fault) before after = after ≡ before ++ told_bad (bad.Within PlanMember fault)
 TellsDecline setup (decline.Unchecked fault) before after = after ≡ before ++ refused_member (shared_refusal (check_refusal fault))
 TellsDecline setup (decline.OtherPlan name) before after = after ≡ before ++ refused_member (other_plan (string_bytes name))
+TellsDecline setup (decline.Unknown server) before after = after ≡ before ++ refused_member (unknown_refusal setup server)
 TellsDecline setup (decline.OtherServer at) before after = TellsRefused before after
 TellsDecline setup (decline.AboveWant shard) before after = after ≡ before ++ refused_member (above_want setup shard)
 TellsDecline setup _ before after = Declines before after
@@ -112,18 +119,49 @@ has_changed (outcome.Declined _) = false
 
 -- ---- begins
 
+-- this is in the way of a plan now
+abbrev pub IsInTheWay : DriverModel → PlanModel → BeginFault → Type 0
+IsInTheWay d plan fault = (happens (record_of d) (Begin plan)).0 ≡ Answered (played.NotBegun fault)
+
+-- why a plan that is ready does not begin: what is in its way
+abbrev pub IsKeptFromStarting : DriverModel → PlanModel → Decline → Type 0
+IsKeptFromStarting d plan (decline.NotBegun fault) = IsInTheWay d plan fault
+IsKeptFromStarting d plan why = ⊥
+
 -- the plan has begun, or all is as it was
 abbrev pub StartOutcome : PlanModel → JournalState → DriverOutcome → JournalState → Type 0
 StartOutcome plan old (outcome.Begun begun) new =
     HasBegunPlan plan begun.number old.driver new.driver × (begun ≡ begun_plan new.driver begun.number)
-StartOutcome plan old (outcome.Declined why) new = new ≡ old
+StartOutcome plan old (outcome.Declined why) new = (new ≡ old) × IsKeptFromStarting old.driver plan why
 StartOutcome plan old _ new = ⊥
 
--- the plan that a value says has begun, and is this one
+-- the plan that a value says has begun, and is this one: it calls no server that is not known
 abbrev pub BeginsPlanAs : Data → BegunPlan → JournalState → JournalState → Type 0
 BeginsPlanAs value begun old new =
     (plan : PlanModel) × SaysPlan old.driver.machine.placement.setup value plan × IsCheckedPlan (record_of old.driver).sizes plan
-    × HasBegunPlan plan begun.number old.driver new.driver × (begun ≡ begun_plan new.driver begun.number)
+    × (unknown_called old.driver plan ≡ None) × HasBegunPlan plan begun.number old.driver new.driver
+    × (begun ≡ begun_plan new.driver begun.number)
+
+-- the plan that a value says calls no server that is not known, and this is in its way
+abbrev pub SaysHindered : DriverModel → Data → BeginFault → Type 0
+SaysHindered d value fault =
+    (plan : PlanModel) × SaysPlan d.machine.placement.setup value plan × (unknown_called d plan ≡ None) × IsInTheWay d plan fault
+
+-- why the plan that a value says is not begun: it is not ready, or something is in its way
+abbrev pub IsNotBegun : DriverModel → Data → Decline → Type 0
+IsNotBegun d value (decline.NotBegun fault) = SaysHindered d value fault
+IsNotBegun d value why = IsUnready d value why
+
+-- the same, or a reopening is under way
+abbrev pub IsNotBegunNow : Bool → DriverModel → Data → Decline → Type 0
+IsNotBegunNow true d value why = why ≡ decline.Reopening
+IsNotBegunNow false d value why = IsNotBegun d value why
+
+-- why nothing comes of a begin, by the plan that has begun under its name, if one has
+abbrev pub IsNotBegunUnder : Option BegunPlan → List ℕ → Data → Bool → DriverModel → Decline → Type 0
+IsNotBegunUnder (Some begun) name value is_reopening d why =
+    IsSomeAnd (kept_plan d begun) (λ kept. IsNotSaid d.machine.placement.setup value name kept why)
+IsNotBegunUnder None name value is_reopening d why = IsNotBegunNow is_reopening d value why
 
 -- the plan that a value says has begun; it had begun under this name before, if it is kept; or neither
 abbrev pub BeginOutcome : Data → List ℕ → Bool → JournalState → DriverOutcome → JournalState → Type 0
@@ -133,8 +171,7 @@ BeginOutcome value name is_reopening old (outcome.BegunBefore plan goes_on) new 
     (value_of old.plans name ≡ Some plan) × (goes_on ≡ not is_reopening) × (new ≡ old)
     × IfSome (kept_plan old.driver plan) (SaysPlan old.driver.machine.placement.setup value)
 BeginOutcome value name is_reopening old (outcome.Declined why) new =
-    (new ≡ old) × IfSome (value_of old.plans name) (λ begun.
-    IsSomeAnd (kept_plan old.driver begun) (λ kept. IsNotSaid old.driver.machine.placement.setup value name kept why))
+    (new ≡ old) × IsNotBegunUnder (value_of old.plans name) name value is_reopening old.driver why
 BeginOutcome value name is_reopening old _ new = ⊥
 
 -- ---- answers to orders and publications

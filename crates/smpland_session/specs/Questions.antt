@@ -184,7 +184,7 @@ TellsAnswer (question.Since place) s before after =
 TellsAnswer (question.State of) s before after = TellsState of s before after
 TellsAnswer question.Document s before after = TellsOf s.opened (λ o before after. after ≡ before ++ document_member o) before after
 TellsAnswer (question.InForce (plans.Check plan)) s before after =
-    TellsOf (journal_in_force s) (λ o. TellsCheck o.driver.machine (view plan.now)) before after
+    TellsOf (journal_in_force s) (λ o. TellsCheck o.driver (view plan.now)) before after
 TellsAnswer (question.InForce (plans.Failed plan stream number answer)) s before after =
     TellsFailed (record { plan = plan; stream = stream }) number answer s.opened s.under_way before after
 TellsAnswer (question.InForce (plans.Moves _)) s before after = TellsOf (journal_in_force s) (λ o. TellsMoves o.driver.machine) before after

@@ -1,19 +1,21 @@
 //! The begin of a plan.
-ghost use Rattle.std.specs.Prelude.{◌≡◌, ◌↔◌, IfNone, IfOk, IfSome, IsTrue, None, Some, length, option_map};
+ghost use Rattle.std.specs.Prelude.{◌≡◌, ◌↔◌, IfErr, IfNone, IfOk, IfSome, IsTrue, None, Some, length, option_map};
 ghost use Rattle.json_tree.specs.View.{view};
 ghost use Rattle.sm_placement.specs.Setup.{sizes_of};
 ghost use Rattle.smpland_state.specs.Names.{value_of};
 ghost use Rattle.sm_plan_code.specs.Plan.{IsKnownPlan};
 ghost use Rattle.sm_verifier.specs.Plan.{IsCheckedPlan};
 ghost use Rattle.smpland_state.specs.Begun.{begun_plan};
+ghost use Rattle.smpland_state.specs.Known.{unknown_called};
 ghost use Rattle.smpland_session.specs.Asked.{SaysPlan};
 ghost use Rattle.smpland_session.specs.Begins.{IsNotSaid, kept_plan};
+ghost use Rattle.smpland_session.specs.Checks.{IsUnready};
 ghost use Rattle.smpland_session.specs.Outcomes.{BeginOutcome, StartOutcome};
 
 use crate::command_context::CommandContext;
 use crate::decline::Decline;
 use crate::driver_outcome::DriverOutcome;
-use crate::planning::check_plan;
+use crate::planning::known_plan;
 use json_tree::Tree;
 use sm_machine::{ReadyPlan, make_ready};
 use sm_placement::Config;
@@ -107,7 +109,7 @@ fn begun_before(
     }
 }
 
-/// The plan that a value says, ready to begin.
+/// The plan that a value says, ready to begin: it calls no server that is not known.
 fn ready(
     opened: &JournalState,
     alloc: Global,
@@ -118,8 +120,10 @@ fn ready(
     ensures checked { IfOk result (λ found. IfOk found (λ ready. IsCheckedPlan (sizes_of ready.setup) ready.plan)) }
     ensures said { IfOk result (λ found. IfOk found (λ ready.
         SaysPlan opened.now.driver.machine.placement.setup (view value.now) ready.plan)) }
+    ensures known { IfOk result (λ found. IfOk found (λ ready. unknown_called opened.now.driver ready.plan ≡ None)) }
+    ensures unready { IfOk result (λ found. IfErr found (IsUnready opened.now.driver (view value.now))) }
 {
-    match check_plan(opened, alloc, value)? {
+    match known_plan(opened, alloc, value)? {
         Ok(checked) => {
             let _count = checked.plan().streams().len();
             match make_ready(alloc, checked) {

@@ -3,6 +3,7 @@ ghost use Rattle.std.specs.Prelude.{◌≡◌, ◌++◌, OnOk};
 ghost use Rattle.sm_driver.specs.Copies.{shard_want};
 ghost use Rattle.smpland_lines.specs.Refusals.{TellsRefused, refused_member};
 ghost use Rattle.smpland_session.specs.Begins.{other_plan};
+ghost use Rattle.smpland_session.specs.Checks.{unknown_refusal};
 ghost use Rattle.smpland_session.specs.Declines.{Declines};
 ghost use Rattle.smpland_session.specs.Outcomes.{TellsDecline, above_want, ignored_word};
 
@@ -16,7 +17,7 @@ use sm_task_controller::Denied;
 use sm_verifier::Fault;
 use smpland_lines::{
     BadLine, CommandMember, Field, LinePart, Writer, refuse, refuse_begin, refuse_check,
-    shard_name, write_bad, write_text,
+    server_name, shard_name, write_bad, write_text,
 };
 use smpland_state::{GivenAt, JournalState};
 use std::alloc::{AllocError, Global};
@@ -51,6 +52,8 @@ pub enum Decline {
     Unchecked(Fault),
     /// The plan passed the check, and does not begin now.
     NotBegun(BeginFault),
+    /// The plan passed the check, and calls this server, which is not known.
+    Unknown(ServerId),
     /// Another plan has begun under this name.
     OtherPlan(String),
     /// No server has the name.
@@ -128,6 +131,20 @@ fn refuse_other_plan(writer: &mut Writer, alloc: Global, name: &str) -> Result<(
     refuse(writer, alloc, "OtherPlan", &[Field::Name("name", name)])
 }
 
+/// Writes that a plan calls a server that is not known.
+fn refuse_unknown(
+    writer: &mut Writer,
+    alloc: Global,
+    config: &Config,
+    server: ServerId,
+) -> Result<(), AllocError>
+    ensures { OnOk result (writer.new.tokens
+        ≡ writer.old.tokens ++ refused_member (unknown_refusal config.now server)) }
+{
+    let server = Field::Name("server", server_name(config, server));
+    refuse(writer, alloc, "Unknown", &[server])
+}
+
 /// The replicas that a shard wants, none if there is no such shard.
 fn wanted(config: &Config, shard: ShardId) -> u32
     ensures { result ≡ shard_want config.now shard }
@@ -188,6 +205,7 @@ impl Decline {
             }
             Decline::Unchecked(fault) => refuse_check(writer, alloc, fault),
             Decline::NotBegun(fault) => refuse_begin(writer, alloc, config, *fault),
+            Decline::Unknown(server) => refuse_unknown(writer, alloc, config, *server),
             Decline::OtherPlan(name) => refuse_other_plan(writer, alloc, name.as_str()),
             Decline::UnknownServer => tell_unknown(writer, alloc, CommandMember::Server),
             Decline::UnknownShard => tell_unknown(writer, alloc, CommandMember::Shard),

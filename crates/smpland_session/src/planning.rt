@@ -1,12 +1,13 @@
 //! Plans that are not begun: whether one would begin now, and plans that are made.
-ghost use Rattle.std.specs.Prelude.{◌≡◌, ◌++◌, IfErr, IfOk, OnOk, count_by, length, sum_by};
+ghost use Rattle.std.specs.Prelude.{◌≡◌, ◌++◌, IfErr, IfOk, None, OnOk, count_by, length, sum_by};
 ghost use Rattle.json_tree.specs.View.{view};
 ghost use Rattle.sm_placement.specs.Setup.{server_named, sizes_of};
 ghost use Rattle.sm_plan_code.specs.Instr.{is_call};
 ghost use Rattle.sm_plan_code.specs.Plan.{IsKnownPlan};
 ghost use Rattle.sm_verifier.specs.Plan.{IsSound};
+ghost use Rattle.smpland_state.specs.Known.{unknown_called};
 ghost use Rattle.smpland_session.specs.Asked.{SaysPlan};
-ghost use Rattle.smpland_session.specs.Checks.{IsUnchecked, TellsCheck, TellsVerdict, accepted_member};
+ghost use Rattle.smpland_session.specs.Checks.{IsUnchecked, IsUnready, TellsCheck, TellsVerdict, accepted_member};
 ghost use Rattle.smpland_session.specs.Checks.{accepted_members};
 ghost use Rattle.smpland_session.specs.Planned.{TellsDrain, TellsMade, TellsMoves, plan_member};
 
@@ -22,11 +23,11 @@ use smpland_lines::{
     BadLine, CommandMember, LinePart, Writer, read_moves_in, refuse_begin, write_bad, write_number,
     write_refusal,
 };
-use smpland_state::{JournalState, calls_of, copy_text};
+use smpland_state::{JournalState, calls_of, copy_text, unknown_called};
 use std::alloc::{AllocError, Global};
 
 /// The plan that a value says over the names of a journal's servers and shards, if it passes the check.
-pub fn check_plan(
+fn check_plan(
     opened: &JournalState,
     alloc: Global,
     value: &Tree<'_>,
@@ -50,6 +51,32 @@ pub fn check_plan(
         Ok(checked) => Ok(Ok(checked)),
         Err((_, Fault::NoMemory)) => Err(AllocError),
         Err((_, fault)) => Ok(Err(Decline::Unchecked(fault))),
+    }
+}
+
+/// The same, if it calls no server that is not known.
+pub fn known_plan(
+    opened: &JournalState,
+    alloc: Global,
+    value: &Tree<'_>,
+) -> Result<Result<Checked, Decline>, AllocError>
+    ensures setup { IfOk result (λ found. IfOk found (λ checked.
+        checked.setup ≡ opened.now.driver.machine.placement.setup)) }
+    ensures said { IfOk result (λ found. IfOk found (λ checked.
+        SaysPlan opened.now.driver.machine.placement.setup (view value.now) checked.plan)) }
+    ensures sound { IfOk result (λ found. IfOk found (λ checked.
+        IsSound (sizes_of opened.now.driver.machine.placement.setup) checked.plan)) }
+    ensures known { IfOk result (λ found. IfOk found (λ checked.
+        unknown_called opened.now.driver checked.plan ≡ None)) }
+    ensures unready { IfOk result (λ found. IfErr found (IsUnready opened.now.driver (view value.now))) }
+{
+    let checked = match check_plan(opened, alloc, value)? {
+        Ok(checked) => checked,
+        Err(why) => return Ok(Err(why)),
+    };
+    match unknown_called(&opened.driver, checked.plan()) {
+        Some(server) => Ok(Err(Decline::Unknown(server))),
+        None => Ok(Ok(checked)),
     }
 }
 
@@ -185,9 +212,9 @@ pub fn write_check(
     writer: &mut Writer,
     value: &Tree<'_>,
 ) -> Result<(), AllocError>
-    ensures { OnOk result (TellsCheck opened.now.driver.machine (view value.now) writer.old.tokens writer.new.tokens) }
+    ensures { OnOk result (TellsCheck opened.now.driver (view value.now) writer.old.tokens writer.new.tokens) }
 {
-    match check_plan(opened, alloc, value)? {
+    match known_plan(opened, alloc, value)? {
         Ok(checked) => write_verdict(opened.driver.machine(), alloc, writer, &checked),
         Err(why) => why.write(opened, alloc, writer),
     }

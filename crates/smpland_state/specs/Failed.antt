@@ -1,16 +1,17 @@
 -- Replies to `failed`: what an order that its server did not take points to, and what is to be done then.
-use Rattle.std.specs.Prelude.{ℕ, List, [], ◌++◌, Option, Some, None, codes, nat_le, nat_lt, if◌then◌else◌}
+use Rattle.std.specs.Prelude.{ℕ, List, [], ◌++◌, Option, Some, None, codes, nat_le, if◌then◌else◌}
 use Rattle.json.specs.Token.{Token}
 use Rattle.sm_reservation.specs.declared.stream_id.StreamId.{StreamId}
 use Rattle.sm_driver.specs.Driver.{DriverModel, answer_effect, base, record_of}
 use Rattle.sm_driver.specs.Orders.{NetMessage, OfOrder, OfPublication, message_of}
-use Rattle.sm_driver.specs.Restores.{RestoreModel, restore_at}
+use Rattle.sm_driver.specs.Restores.{RestoreModel}
 use Rattle.sm_driver.specs.declared.driver.AnswerEffect.{AnswerEffect}
 use Rattle.sm_driver.specs.declared.driver.AnswerEffect.TheVariants as effect
 use Rattle.smpland_lines.specs.Members.{object_member, text_member}
 use Rattle.smpland_lines.specs.declared.command.FailedAnswer.{FailedAnswer}
 use Rattle.smpland_lines.specs.declared.command.FailedAnswer.TheVariants as answer
 use Rattle.smpland_state.specs.Bits.{bits_member}
+use Rattle.smpland_state.specs.Known.{kept_restore}
 
 -- the nonce of a restore, if it was in the epoch of this base
 abbrev pub nonce_above : ℕ → Option RestoreModel → Option ℕ
@@ -19,7 +20,7 @@ nonce_above base (Some restore) = if nat_le base restore.number then Some restor
 
 -- under which nonce a server was restored in the present epoch, if it was
 abbrev pub nonce_now : DriverModel → ℕ → Option ℕ
-nonce_now d v = if nat_lt v (record_of d).sizes.servers then nonce_above (base d) (restore_at d.restores v) else None
+nonce_now d v = nonce_above (base d) (kept_restore d v)
 
 -- the same of the server of an order
 abbrev pub nonce_for : DriverModel → Option NetMessage → Option ℕ

@@ -14,6 +14,7 @@ pub mod Document
 pub mod Failed
 pub mod Given
 pub mod History
+pub mod Known
 pub mod Messages
 pub mod Notes
 pub mod Notices

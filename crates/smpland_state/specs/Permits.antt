@@ -1,4 +1,4 @@
--- Permits of restarts in replies, and the reply to an opening, which has those of the servers that are down.
+-- Permits of restarts in replies, and the reply to an opening, which has those of the servers that are down, and names those that are not known.
 use Rattle.std.specs.Prelude.{ℕ, List, [], ◌++◌, Option, Some, None, codes, length, option_and_then, if◌then◌else◌}
 use Rattle.std.specs.List.{flat_map, range_with_len}
 use Rattle.std.specs.Option.{option_map_or}
@@ -9,6 +9,7 @@ use Rattle.sm_driver.specs.Driver.{DriverModel, record_of}
 use Rattle.sm_driver.specs.Permits.{permit_of}
 use Rattle.smpland_lines.specs.Members.{list_member, number_member, object, object_member, server_text, text_member}
 use Rattle.smpland_state.specs.Bits.{bits_member}
+use Rattle.smpland_state.specs.Known.{unknown_member}
 use Rattle.smpland_state.specs.Unserved.{unserved_member}
 
 -- a permit of a server
@@ -50,9 +51,10 @@ permit_text d v =
 abbrev pub permits_member : DriverModel → List Token
 permits_member d = list_member (codes "permits") (flat_map (permit_text d) (range_with_len 0 (length d.machine.placement.setup.servers)))
 
--- the journal is open in an epoch, with these permits
+-- the journal is open in an epoch, with these permits, and with these servers to restore
 abbrev pub opened_members : DriverModel → List Token
-opened_members d = bits_member (codes "journal") d.journal ++ number_member (codes "epoch") d.epoch ++ permits_member d
+opened_members d =
+    bits_member (codes "journal") d.journal ++ number_member (codes "epoch") d.epoch ++ permits_member d ++ unknown_member d
 
 -- the same as a member
 abbrev pub opened_member : DriverModel → List Token

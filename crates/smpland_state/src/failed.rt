@@ -1,14 +1,14 @@
 //! Advice about a present order that its server did not take.
-ghost use Rattle.std.specs.Prelude.{◌≡◌, ◌++◌, OnOk, codes, nat_lt, option_map};
+ghost use Rattle.std.specs.Prelude.{◌≡◌, ◌++◌, OnOk, codes, option_map};
 ghost use Rattle.std.specs.Option.{option_copied};
 ghost use Rattle.smpland_lines.specs.Members.{object_member};
-ghost use Rattle.sm_driver.specs.Driver.{record_of};
 ghost use Rattle.sm_driver.specs.Orders.{net_message};
 ghost use Rattle.smpland_state.specs.Failed.{cause_members, failed_member, failure_members, nonce_above, nonce_for};
 ghost use Rattle.smpland_state.specs.Failed.{nonce_members, nonce_now, unknown_members};
 
 use crate::bits::write_bits;
 use crate::journal_state::JournalState;
+use crate::known::kept_restore;
 use sm_driver::{AnswerEffect, Driver, ServerRestore, StreamMessage};
 use sm_reservation::StreamId;
 use sm_server::ServerId;
@@ -21,13 +21,6 @@ pub struct FailedOrder {
     pub stream: StreamId,
     pub number: u64,
     pub answer: FailedAnswer,
-}
-
-/// Whether a server is one of the journal's.
-fn is_known(driver: &Driver, server: ServerId) -> bool
-    ensures { result ≡ nat_lt server (record_of driver.now).sizes.servers }
-{
-    server.number() < driver.machine().config().server_count()
 }
 
 /// The nonce of a restore, if it was in the epoch of this base.
@@ -46,10 +39,7 @@ fn nonce_above(base: u64, restore: Option<&ServerRestore>) -> Option<u64>
 fn nonce_now(driver: &Driver, server: ServerId) -> Option<u64>
     ensures { result ≡ nonce_now driver.now server }
 {
-    if !is_known(driver, server) {
-        return None;
-    }
-    nonce_above(driver.base(), driver.restored(server))
+    nonce_above(driver.base(), kept_restore(driver, server))
 }
 
 /// The same of the server of an order.

@@ -159,6 +159,7 @@ impl JournalState {
         write_bits(writer, alloc, "journal", self.driver.journal())?;
         write_number(writer, "epoch", u64::from(self.driver.epoch()))?;
         self.write_permits(writer)?;
+        self.write_unknown_servers(writer)?;
         Ok(())
     }
 

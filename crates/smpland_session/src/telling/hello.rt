@@ -10,7 +10,7 @@ use smpland_state::write_bits;
 use std::alloc::{AllocError, Global};
 
 /// The number of the form of lines and replies, which rises if lines that were right no longer are.
-const FORMAT: u64 = 2;
+const FORMAT: u64 = 3;
 
 impl Session {
     /// The journal, if there is one.

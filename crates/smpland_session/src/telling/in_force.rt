@@ -35,7 +35,7 @@ impl Session {
         plan: &Tree<'_>,
         writer: &mut Writer,
     ) -> Result<(), AllocError>
-        ensures { OnOk result (TellsOf (journal_in_force self.now) (λ o. TellsCheck o.driver.machine (view plan.now))
+        ensures { OnOk result (TellsOf (journal_in_force self.now) (λ o. TellsCheck o.driver (view plan.now))
             writer.old.tokens writer.new.tokens) }
     {
         match self.in_force() {

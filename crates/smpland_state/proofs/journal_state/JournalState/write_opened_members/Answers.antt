@@ -6,4 +6,5 @@ returns c =
     let o = c.args.writer.now.tokens in
     let journal = rw c.journal.ensures at c.in_ok-write_bits.ensures in
     let epoch = rw c.epoch.ensures at (rw c.from.ensures at c.in_ok-write_number.ensures) in
-    next o _ _ (next o _ _ journal epoch) c.in_ok-write_permits.ensures
+    let permits = next o _ _ (next o _ _ journal epoch) c.in_ok-write_permits.ensures in
+    next o _ _ permits c.in_ok-write_unknown_servers.ensures
