@@ -17,7 +17,7 @@ from .words import counted
 
 Line = Dict[str, Any]
 
-HEAD = '{"journal":"smpland","format":1}'
+HEAD = '{"journal":"smpland","format":2}'
 NO_SUM = "0" * 64
 # The most plans in a document of `smplan play`.
 MOST_PLANS = 16

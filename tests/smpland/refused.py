@@ -16,7 +16,7 @@ from random_client import Client
 from smpland_model.session import Session
 
 Json = dict[str, Any]
-HEAD = b'{"journal":"smpland","format":1}\n'
+HEAD = b'{"journal":"smpland","format":2}\n'
 QUESTIONS = [b'{"do":"%s"}' % it for it in (b"hello", b"orders", b"map", b"state")]
 # A random client's session that has all kinds of lines that change something within its first lines.
 SEED, LINES = 1334, 40

@@ -51,7 +51,7 @@ cut_recovers content batches most one long =
 -- A journal ends with a line.
 ends_with_line : (batches : List (List (List ℕ))) → (front : List ℕ) × (journal_of batches ≡ front ++ 10 ∷ [])
 unfolding head
-ends_with_line batches = ended no_sum (map listed batches) head (codes "{\"journal\":\"smpland\",\"format\":1}") refl
+ends_with_line batches = ended no_sum (map listed batches) head (codes "{\"journal\":\"smpland\",\"format\":2}") refl
   where
     regroup : (a b c d : List ℕ) → a ++ (b ++ (c ++ d)) ≡ a ++ b ++ c ++ d
     regroup a b c d = simp append_assoc

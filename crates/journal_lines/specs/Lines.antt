@@ -6,7 +6,7 @@ use Rattle.journal_lines.specs.Objects.{listed, IsBatch}
 
 -- the first line of a journal, with its line feed
 unfoldable pub head : List ℕ
-head = codes "{\"journal\":\"smpland\",\"format\":1}\n"
+head = codes "{\"journal\":\"smpland\",\"format\":2}\n"
 
 -- the part of a line that its sum is of
 unfoldable pub summed : List ℕ → List ℕ → List ℕ

@@ -25,7 +25,7 @@ const FROM_QUOTE: usize = 75;
 pub fn journal_head() -> &'static [u8]
     ensures { result.now ≡ head }
 {
-    b"{\"journal\":\"smpland\",\"format\":1}\n"
+    b"{\"journal\":\"smpland\",\"format\":2}\n"
 }
 
 /// The sum of a line, in hex.

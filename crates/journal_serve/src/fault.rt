@@ -16,7 +16,7 @@ pub enum RecoverFault {
     NoMemory,
     #[error("{0}")]
     Failed(StoreFailure),
-    #[error("this is no journal")]
+    #[error("this is no journal of format 2")]
     Foreign,
     /// This line does not go on from those before it, and a whole line stands there or behind it: no crash leaves that.
     #[error("line {0} of the journal is damaged")]

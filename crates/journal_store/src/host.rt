@@ -14,7 +14,7 @@ use thiserror::Error;
 pub enum OpenFailure {
     #[error("another process has the journal")]
     InUse,
-    #[error("this is no journal")]
+    #[error("this is no journal of format 2")]
     Foreign,
     #[error("the journal was not read: {cause}")]
     Read { cause: io::Error },
