@@ -213,7 +213,7 @@ class Campaign:
         except Refused as why:
             if why.kind == "Taken" and "shard" in why.reply["refused"]:
                 return str(why.reply["refused"]["shard"])
-            if why.kind not in PASSING:
+            if why.kind not in PASSING and why.kind != "Unknown":
                 raise
             self.let_pass(str(why))
             return ""

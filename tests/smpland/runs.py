@@ -166,7 +166,13 @@ class Run:
             self.is_over = True
             return []
         self.plan += 1
-        return [self.line("begin", plan=plan_of(self.plan), name=f"plan-{self.plan}")]
+        return [*self.restores(), self.line("begin", plan=plan_of(self.plan), name=f"plan-{self.plan}")]
+
+    def restores(self) -> list[bytes]:
+        """Restores all servers that plans call, before the first: it is not begun otherwise. Under new nonces, so that each line changes something."""
+        if self.plan > 0 or "restore" not in self.does:
+            return []
+        return [self.line("restore", server=it, nonce=f"{len(self.sent) + 1:x}") for it in SERVERS]
 
     def answer(self) -> list[bytes]:
         """Answers a present order, or one that was answered."""

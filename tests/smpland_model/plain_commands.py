@@ -280,7 +280,8 @@ def line_form(told: Json) -> Json:
     value = told[word]
     match word:
         case "opened":
-            return {"opened": value | {"permits": [it["server"] for it in value["permits"]]}}
+            # (the session also tells whom to restore)
+            return {"opened": without(value, "restore") | {"permits": [it["server"] for it in value["permits"]]}}
         case "begun":
             return {"begun": value} | ({"again": True} if told.get("again") else {})
         case "fence":

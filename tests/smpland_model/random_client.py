@@ -108,6 +108,8 @@ class Client:
             return self.opening()
         if controller.reopening and self.chance(0.8):
             return self.reopenings.line()
+        if controller.is_open and controller.unknown() and self.chance(0.6):
+            return self.restore_unknown()
         kinds = ("begin", "answered", "approve", "restarted", "restore", "new_epoch", "copied", "reopen", "ask")
         kind = self.dice.choices(kinds, [getattr(self.profile, it) for it in kinds])[0]
         return getattr(self, kind)()
@@ -200,6 +202,13 @@ class Client:
         permit = self.dice.choice(permits if permits and self.chance(0.7) else self.permits)
         base = self.dice.choice([controller.base, controller.fence, controller.fence, max(0, controller.fence - 1), None])
         return {"do": "restarted", "permit": permit, "base": base}
+
+    def restore_unknown(self) -> Json:
+        """Asks for the slots of a server that is not known yet, as each does at first."""
+        controller = self.session.controller
+        server = controller.server_name(self.dice.choice(controller.unknown()))
+        self.nonces[server] = f"{self.dice.randrange(1, 2**64):x}"
+        return {"do": "restore", "server": server, "nonce": self.nonces[server]}
 
     def restore(self) -> Json:
         """Asks for slots, under a new nonce or the last one."""

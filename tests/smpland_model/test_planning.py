@@ -39,7 +39,9 @@ class Planning(unittest.TestCase):
 
     def setUp(self) -> None:
         self.session = Session(PROGRAM)
-        reply(self.session, do="open", document=service(), journal="1", epoch=0)
+        opened = reply(self.session, do="open", document=service(), journal="1", epoch=0)["opened"]
+        for server in opened["restore"]:
+            reply(self.session, do="restore", server=server, nonce="1")
 
     def test_at_rest_plans_and_refusals_are_those_of_smplan(self) -> None:
         """Whatever is asked for of the examples and of a service."""

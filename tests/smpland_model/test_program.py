@@ -42,6 +42,9 @@ def planning_lines() -> Iterator[Json]:
     asked += [{"do": "moves", "moves": [it]} for it in moves] + [{"do": "moves", "moves": moves[2:]}]
     yield {"do": "open", "document": service(), "journal": "1", "epoch": 0}
     yield from asked
+    for server in ("v0", "v2"):
+        yield {"do": "begin", "plan": handover("s0", "v0", "v2"), "name": "p"}
+        yield {"do": "restore", "server": server, "nonce": "1"}
     yield {"do": "begin", "plan": handover("s0", "v0", "v2"), "name": "p"}
     for number in range(1, 6):
         yield from asked

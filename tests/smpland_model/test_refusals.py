@@ -38,6 +38,7 @@ class Refusals(unittest.TestCase):
         """A seventeenth begins once one has ended."""
         session = Session()
         reply(session, do="open", document=many_shards(17), journal="1", epoch=0)
+        reply(session, do="restore", server="b", nonce="1")
         for number in range(16):
             told = reply(session, do="begin", plan=adding(f"s{number}"), name=f"p{number}")
             self.assertEqual(told["begun"]["plan"], number)
@@ -50,6 +51,7 @@ class Refusals(unittest.TestCase):
         """No epoch follows at rest once an entry of the map has changed as often as a log has places."""
         session = Session()
         reply(session, do="open", document=many_shards(2), journal="1", epoch=0)
+        reply(session, do="restore", server="b", nonce="1")
         reply(session, do="begin", plan=adding("s0"), name="p")
         session.controller.record.versions[1] = (1 << 20) - 1
         self.assertEqual(reply(session, do="new_epoch")["refused"]["kind"], "Running")

@@ -47,7 +47,7 @@ class Asking:
         controller = self.controller
         epoch = None if controller.record is None else controller.epoch
         return {"hello": {
-            "program": "smpland", "format": 2, "journal": hexadecimal(controller.journal), "epoch": epoch,
+            "program": "smpland", "format": 3, "journal": hexadecimal(controller.journal), "epoch": epoch,
             "place": self.history.place,
         }}
 

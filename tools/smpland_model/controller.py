@@ -156,11 +156,26 @@ class NamedController(Controller):
         record = self.need_open()
         refuse_first(plan_findings(plan, self.start))
         numbered = self.numbering.plan(plan)
+        self.check_known(numbered)
         held = record.held()
         self.check_rights(record, numbered, held)
         self.check_amounts(record, numbered, held)
         self.check_places(record, numbered)
         return numbered
+
+    def is_known(self, server: int) -> bool:
+        """Returns whether a server is known: a reopening has settled the journal, or a restore of the server is kept."""
+        return self.fence > 0 or server in self.restores
+
+    def unknown(self) -> list[int]:
+        """Returns the servers that are not known."""
+        return [it for it in range(len(self.record.document.rooms)) if not self.is_known(it)]
+
+    def check_known(self, plan: Plan) -> None:
+        """Refuses a plan that calls a server that is not known, for the first such call."""
+        for call in (it for stream in plan.streams for it in stream.code if it.server is not None):
+            if not self.is_known(call.server):
+                raise refuse("Unknown", server=self.server_name(call.server))
 
     def right_words(self, key: Key) -> str:
         """Returns the words of a right to a cell or a crown."""

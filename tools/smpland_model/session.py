@@ -107,7 +107,8 @@ class Session:
     def opened(self, opened: replies.Opened) -> Json:
         """Returns what is told of an opening."""
         permits = [{"server": self.writer.server(server), "permit": permit} for server, permit in opened.permits]
-        return {"journal": hexadecimal(opened.journal), "epoch": opened.epoch, "permits": permits}
+        unknown = [self.writer.server(server) for server in self.controller.unknown()]
+        return {"journal": hexadecimal(opened.journal), "epoch": opened.epoch, "permits": permits, "restore": unknown}
 
     def begun(self, begun: replies.Begun, outcome: Outcome) -> Json:
         """Returns what is told of a plan that has begun."""
