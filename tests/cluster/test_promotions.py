@@ -17,6 +17,8 @@ class SessionOperator:
         self.session, self.patience, self.replies, self.orders = Session(), 360.0, {}, []
         servers = [{"name": it, "region": "r", "room": 10} for it in "abc"]
         self.send({"do": "open", "document": {"limit": 1, "servers": servers, "shards": shards}, "journal": "1", "epoch": 1})
+        for server in "abc":
+            self.send({"do": "restore", "server": server, "nonce": "1"})
 
     def send(self, line):
         """Feeds a line, and keeps the orders that it brings."""

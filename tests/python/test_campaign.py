@@ -30,7 +30,8 @@ class Service:
     def __init__(self, document):
         self.process = subprocess.Popen(MODEL, stdin=subprocess.PIPE, stdout=subprocess.PIPE)
         self.is_slow, self.rests, self.begun, self.led = False, [], [], []
-        self.do({"do": "open", "document": document, "journal": "9f2c", "epoch": 0})
+        for server in self.do({"do": "open", "document": document, "journal": "9f2c", "epoch": 0})["opened"]["restore"]:
+            self.do({"do": "restore", "server": server, "nonce": "1"})
 
     def ask(self, line):
         self.process.stdin.write(json.dumps(line).encode() + b"\n")
