@@ -248,6 +248,17 @@ class GoTest(Case):
                 Records(tx).put_members("s", {})
         self.assertEqual((self.ask("r1", 5), self.sum("a")), (5, 5))
 
+    def test_a_server_that_stands_still(self):
+        self.ask("r1", 5)
+        begun = time.monotonic()
+        with POST.still():
+            self.assertIn("not served", self.ask("r2", 5))
+        self.assertLess(time.monotonic() - begun, 30.0)
+        self.assertEqual([self.ask(it, 5, patience=20.0) for it in ("r2", "r2", "r3")], [10, 10, 15])
+
+    def test_work_that_takes_longer_than_the_patience(self):
+        self.assertEqual(self.ask("r1", 3, "SELECT 1 FROM pg_sleep($1)", patience=0.5), 1)
+
     def test_what_the_work_raises_comes_back_and_changes_nothing(self):
         self.assertIn("duplicate key", self.ask("r1", 1, "INSERT INTO sums VALUES ($1, 0) RETURNING n"))
         self.assertEqual(self.ask("r1", 5), 5)

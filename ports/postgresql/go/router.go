@@ -31,10 +31,17 @@ const (
 	handover     = time.Second
 )
 
+// A server that answers nothing for so long stands still; who waits for it looks again after this rest.
+const (
+	silent  = 3 * time.Second
+	resting = time.Second
+)
+
 // ErrNotServed is the answer if a request could not be executed within its patience. It may have been: send it again under its identity.
 var ErrNotServed = errors.New("the shard is not served")
 
-// Work is called once for each try, in a transaction whose search_path is the schema. What it returns is kept as JSON beside the request's identity.
+// Work is called once for each try, in a transaction whose search_path is the schema. What it returns is kept as JSON beside the request's identity. If a try is
+// given up, as its server stands still, its context is done.
 type Work func(ctx context.Context, tx *sql.Tx) (any, error)
 
 // Router sends requests to shards. Goroutines may share it.
@@ -93,7 +100,7 @@ func (it *Router) send(ctx context.Context, shard string, identity sql.NullStrin
 		got := told{answer: notHere}
 		if place != nil {
 			var err error
-			if got, err = it.once(ctx, *place, shard, identity, work); err != nil {
+			if got, err = it.try(ctx, *place, shard, identity, work); err != nil {
 				if !errors.As(err, &passing{}) || ctx.Err() != nil {
 					return nil, err
 				}
@@ -163,6 +170,47 @@ func (it *Router) name(ctx context.Context, tx *sql.Tx, number int64) (string, e
 	return name, nil
 }
 
+// errStill is told of a try that is given up.
+var errStill = errors.New("the server stands still")
+
+// try is one try at one server. If the server stands still, the try is given up behind the router's patience: it begins nothing more.
+func (it *Router) try(ctx context.Context, place onward, shard string, identity sql.NullString, work Work) (told, error) {
+	type result struct {
+		got told
+		err error
+	}
+	ctx, end := context.WithCancel(ctx)
+	defer end()
+	done := make(chan result, 1)
+	go func() {
+		got, err := it.once(ctx, place, shard, identity, work)
+		done <- result{got, err}
+	}()
+	for late := time.NewTimer(it.Patience); ; late.Reset(resting) {
+		select {
+		case what := <-done:
+			late.Stop()
+			return what.got, what.err
+		case <-late.C:
+			if !it.answers(ctx, place.server) {
+				return told{}, passing{errStill}
+			}
+		}
+	}
+}
+
+// answers tells whether a server answers. Who asks waits no longer, whatever the driver does.
+func (it *Router) answers(ctx context.Context, server string) bool {
+	told := make(chan bool, 1)
+	go func() { told <- it.servers[server].PingContext(ctx) == nil }()
+	select {
+	case is := <-told:
+		return is
+	case <-time.After(silent):
+		return false
+	}
+}
+
 // once is one try at one server, over one connection.
 func (it *Router) once(ctx context.Context, place onward, shard string, identity sql.NullString, work Work) (told, error) {
 	c, err := it.servers[place.server].Conn(ctx)
@@ -213,6 +261,9 @@ func (it *Router) enter(ctx context.Context, tx *sql.Tx, place onward, shard str
 		return got, own(err)
 	case notHere, notYet:
 		return got, nil
+	}
+	if err := ctx.Err(); err != nil {
+		return told{}, passing{err}
 	}
 	value, err := work(ctx, tx)
 	if err != nil {
