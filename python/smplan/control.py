@@ -33,6 +33,9 @@ WORDS = frozenset(["working", "no answer", "cancelled", *(it.name.lower() for it
 # The commands that change nothing, which need not be stored.
 ASKING = frozenset(["hello", "orders", "map", "state", "document", "moves", "drain", "check", "since", "audit", "failed"])
 
+# The commands that are refused if the log is full.
+FILLING = frozenset(["begin", "approve"])
+
 # Stores lines behind all that were fed, and returns the lines to feed: those of others that came between, then these. StoreRefused says that it
 # stored none of these; any other exception ends this controller's leading.
 Store = Callable[[Sequence[str]], Awaitable[Sequence[str]]]
@@ -240,6 +243,18 @@ class Controller:
         return await self.session.ask(line)
 
     async def do(self, command: Line) -> Line:
+        """Stores a command and feeds it, and returns the reply once it is acted on. If the log is full and nothing runs, it is emptied before."""
+        reply = await self.say(command)
+        if reply.get("refused", {}).get("kind") == "LogFull" and command.get("do") in FILLING and await self.has_emptied_log():
+            return await self.say(command)
+        return reply
+
+    async def has_emptied_log(self) -> bool:
+        """Opens the next epoch, unless a plan runs or the log is empty already. Tells whether it did."""
+        log = (await self.session.ask({"do": "state"})).get("state", {}).get("log", {})
+        return log.get("used", 0) > 0 and "opened" in await self.say({"do": "new_epoch"})
+
+    async def say(self, command: Line) -> Line:
         """Stores a command and feeds it, and returns the reply once it is acted on."""
         if not self.leads or self.lost is not None:
             raise StoreLost("this controller does not lead")

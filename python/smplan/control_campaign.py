@@ -19,6 +19,7 @@ from .blocks import CHANGE_ROLES, copies_in
 from .control_document import ROLES
 from .control_drain import PASSING, at_least
 from .control_leader import Controllers, Line, Refused, add_options, controllers_of
+from .control_plans import Begun, begun_as
 from .failure import Failure
 from .files import document_from, read_value
 from .fleet import Cells, Fleet
@@ -175,7 +176,7 @@ class Campaign:
                 self.let_pass(f"others' plans have {named(sorted(self.wishes))}")
                 taken = set()
                 continue
-            more = self.make(leg, reach.size, state["epoch"])
+            more = self.make(leg, reach.size)
             if more is None:
                 return False
             taken = taken | {more} if more else set()
@@ -204,7 +205,7 @@ class Campaign:
         load = max(sum(fleet.used) // 100, LARGE * max(fleet.load, default=0), 1)
         return Reach(fleet, target, replace(self.limits, load=load))
 
-    def make(self, leg: Leg, rest: int, epoch: int) -> Optional[str]:
+    def make(self, leg: Leg, rest: int) -> Optional[str]:
         """Begins a plan, and waits until it has ended. Tells which shard a running plan has, if that is in its way: '' if none; none at all if the campaign
         ends here."""
         name = f"{self.name}-{secrets.token_hex(4)}"
@@ -220,7 +221,7 @@ class Campaign:
         self.waited = 0.0
         self.plans += 1
         self.tell(f"plan {name}: {in_words(leg)}; then {counted(rest, 'step')} more")
-        if not self.has_ended(begun["plan"], epoch):
+        if not self.has_ended(begun_as(self.controllers.ask, begun)):
             return None
         for shard in {it.shard for it in leg.blocks}:
             self.wishes[leg.before.shards[shard]].now = standing(leg.before, leg.after.cells[shard], leg.after.is_listed[shard])
@@ -228,17 +229,15 @@ class Campaign:
             self.controllers.sleep(self.pause)
         return ""
 
-    def has_ended(self, plan: int, epoch: int) -> bool:
+    def has_ended(self, plan: Begun) -> bool:
         """Waits until a plan has ended. Tells whether it has."""
         begun = time.monotonic()
         while True:
-            state = self.controllers.ask({"do": "state", "plan": plan}).get("state", {})
-            told = state.get("plan")
-            if state.get("epoch", epoch) != epoch or (told is not None and told["is"] == "broken_off"):
+            has_ended = plan.has_ended(self.controllers.ask)
+            if has_ended is False:
                 self.tell("a reopening has broken the plan off")
-                return False
-            if told is not None and told["is"] == "ended":
-                return True
+            if has_ended is not None:
+                return has_ended
             if self.patience is not None and time.monotonic() - begun > self.patience:
                 self.tell(f"the plan takes longer than {self.patience:g} s; it goes on, and no other one begins: see `watch`")
                 return False

@@ -11,6 +11,7 @@ from dataclasses import dataclass
 from typing import Any, Callable, Dict, List, Optional
 
 from .control_leader import Refused, add_options, controllers_of
+from .control_plans import Begun, begun_as
 from .failure import Failure
 from .reading import did_you_mean
 
@@ -19,7 +20,7 @@ Post = Callable[[str, Line], Line]
 
 # Refusals that may be over once a running plan has ended; and those that may be over at once: a plan is untrue if another one ended since it was made,
 # and a server is unknown until it has got its slots.
-PASSING = frozenset(["Held", "Taken", "ShortRoom", "ShortSpare", "TooManyPlans"])
+PASSING = frozenset(["Held", "Taken", "ShortRoom", "ShortSpare", "TooManyPlans", "LogFull"])
 SHORT = frozenset(["Untrue", "Unknown"])
 
 
@@ -106,18 +107,21 @@ class Campaign:
         if "begun" not in begun:
             raise Refused(begun)
         self.tell(f"{', '.join(it['shard'] + ' to ' + it['to'] for it in moves)}")
-        return self.wait(begun["begun"]["plan"], state["epoch"])
+        return self.wait(begun_as(self.ask, begun["begun"]))
 
-    def wait(self, plan: int, epoch: int) -> bool:
+    def ask(self, line: Line) -> Line:
+        """Asks the session."""
+        return self.post("/ask", line)
+
+    def wait(self, plan: Begun) -> bool:
         """Waits until a plan has ended."""
         waited, step = 0.0, 0.2
         while True:
-            told = self.post("/ask", {"do": "state", "plan": plan}).get("state", {}).get("plan")
-            if told is None or told["is"] == "broken_off" or self.post("/ask", {"do": "hello"})["hello"]["epoch"] != epoch:
+            has_ended = plan.has_ended(self.ask)
+            if has_ended is False:
                 self.tell("a reopening has broken the plan off")
-                return False
-            if told["is"] == "ended":
-                return True
+            if has_ended is not None:
+                return has_ended
             if self.patience is not None and waited > self.patience:
                 self.tell(f"the plan takes longer than {self.patience:g} s; it goes on, and no other one begins: see `watch`")
                 return False

@@ -9,6 +9,7 @@ from typing import Any, Dict, List, Optional
 from .control_drain import at_least
 from .control_http import NotThere, fetch
 from .control_leader import Controllers, Line, Refused, add_options, controllers_of, token_of, urls_of
+from .control_plans import begun_as
 from .control_watch import screen
 from .failure import Failure
 from .files import is_plan, read_value
@@ -37,15 +38,13 @@ def read_plan(path: str) -> Line:
 
 
 def wait_for_plan(controllers: Controllers, begun: Line, patience: Optional[float] = None) -> bool:
-    """Waits until a plan has ended; false if a reopening has broken it off. Fails once it takes too long."""
+    """Waits until a plan that has begun has ended; false if a reopening has broken it off. Fails once it takes too long."""
     until = None if patience is None else time.monotonic() + patience
+    plan = begun_as(controllers.ask, begun)
     while True:
-        state = controllers.state()
-        plan = next((it for it in state.get("plans", []) if it["plan"] == begun["plan"]), None)
-        if state.get("epoch") != begun["epoch"] or (plan is not None and plan["is"] == "broken_off"):
-            return False
-        if plan is None or plan["is"] == "ended":
-            return True
+        has_ended = plan.has_ended(controllers.ask)
+        if has_ended is not None:
+            return has_ended
         if until is not None and time.monotonic() > until:
             raise Failure("the plan takes longer than that, and goes on: see `smplan-control watch`", 1)
         controllers.sleep(0.2)

@@ -23,7 +23,7 @@ from .reading import did_you_mean
 from .targets import Wanted, demote
 
 # Refusals that may be over later.
-PASSING = frozenset(["Engaged", "GlobalCap", "ShardCap", "Reopening"])
+PASSING = frozenset(["Engaged", "GlobalCap", "ShardCap", "Reopening", "LogFull"])
 
 
 def unserved(state: Line, server: str) -> List[str]:

@@ -197,6 +197,39 @@ class Campaigns(unittest.TestCase):
         with self.assertRaisesRegex(Failure, "a reopening is under way"):
             self.campaign(service, lambda fleet: drain(fleet, {0}), patience=1.0).run()
 
+    def test_the_next_epoch_does_not_end_it(self):
+        service = self.service(fleet_document())
+        answer, epochs = service.sleep, []
+
+        def open_next(seconds):
+            answer(seconds)
+            if "opened" in service.ask({"do": "new_epoch"}):
+                epochs.append(service.state()["epoch"])
+        service.sleep = open_next
+        self.assertEqual(0, self.campaign(service, lambda fleet: drain(fleet, {0, 1})).run(), self.told)
+        self.assertIn(1, epochs)
+
+    def test_a_reopening_that_has_ended_ends_it(self):
+        document = fleet_document()
+        service = self.service(document)
+
+        def reopen(_):
+            if service.rests:
+                return
+            service.rests.append(0)
+            base = service.do({"do": "reopen", "document": {**document, "shards": [{**it, "cells": []} for it in document["shards"]]}, "lost": []})["fence"][0]["base"]
+            for server in (None, *(it["name"] for it in document["servers"])):
+                cells = [(it["name"], cell["state"]) for it in document["shards"] for cell in it["cells"] if cell["server"] == server]
+                slots = [{"shard": shard, "cell": cell, "last": 0, "load": 10, "view": 0, "position": 1} for shard, cell in cells]
+                service.do({"do": "fenced", "server": server, "base": base, **({} if server is None else {"slots": slots})})
+            service.do({"do": "confirm", "base": base})
+            for server in (None, *(it["name"] for it in document["servers"])):
+                service.do({"do": "settled", "server": server, "base": base})
+        service.sleep = reopen
+        self.assertEqual(1, self.campaign(service, lambda fleet: drain(fleet, {0}), patience=1.0).run())
+        self.assertIn("a reopening has broken the plan off", self.told)
+        self.assertEqual("open", service.state()["is"])
+
     def test_patience_ends_it(self):
         service = self.service(fleet_document())
         service.is_slow = True

@@ -5,6 +5,7 @@ import logging
 import sys
 import unittest
 
+from fixtures import ROOT
 from smplan.control import DONE, Controller, Pace, Session, SessionEnded, StoreLost, text_of
 
 QUICK = Pace(timeout=0.05, again=0.01)
@@ -214,3 +215,63 @@ class ControlTest(unittest.IsolatedAsyncioTestCase):
         with self.assertRaises(SessionEnded):
             await controller.do({"do": "stop"})
         await controller.rest()
+
+
+class FullLogTest(unittest.IsolatedAsyncioTestCase):
+    """A controller over the reference, with a log in which one plan of four calls fits."""
+
+    SERVERS = [{"name": it, "region": it, "room": 10} for it in "ab"]
+    SHARDS = [{"name": it, "load": 4, "want": 1, "cap": 0, "spread": 1, "listed": "a", "cells": [{"server": "a", "state": "primary"}]} for it in "st"]
+
+    async def asyncSetUp(self):
+        self.session = await Session.start([sys.executable, str(ROOT / "tools/smpland_model.py"), "-"])
+        self.addAsyncCleanup(self.session.close)
+        self.is_slow = asyncio.Event()
+
+        async def store(lines):
+            return lines
+        self.controller = Controller(self.session, self, store, QUICK)
+        await self.controller.lead()
+        self.addAsyncCleanup(self.controller.rest)
+        await self.controller.do({"do": "open", "document": {"limit": 1, "log": 8, "servers": self.SERVERS, "shards": self.SHARDS}, "journal": "9f2c", "epoch": 0})
+        for it in "ab":
+            await self.controller.do({"do": "restore", "server": it, "nonce": "1f"})
+        await self.until_idle()
+
+    async def restore(self, _):
+        return DONE
+
+    async def order(self, _):
+        return "working" if self.is_slow.is_set() else DONE
+
+    async def publish(self, _):
+        return DONE
+
+    def move(self, shard, budget=4):
+        """A plan that hands a shard over from a to b."""
+        code = [{"do": "prepare_add", "server": "b", "other": "a"}, {"do": "prepare_drop", "server": "a", "other": "b"}, {"do": "add", "server": "b", "role": "primary"},
+                {"do": "publish"}, {"do": "drop", "server": "a"}]
+        holds = {"cells": [{"shard": shard, "server": "b", "state": "absent"}], "crowns": [{"shard": shard, "lead": "at", "server": "a", "listed": "a"}],
+                 "room": [{"server": "b", "amount": 4}]}
+        return {"budget": budget, "streams": [{"budget": budget, "holds": holds, "code": [{**it, "shard": shard} for it in code]}]}
+
+    async def begin(self, shard, budget=4):
+        return await self.controller.do({"do": "begin", "plan": self.move(shard, budget), "name": f"move-{shard}"})
+
+    async def until_idle(self):
+        async with asyncio.timeout(60):
+            while self.controller.outgoing:
+                await asyncio.sleep(0.005)
+
+    async def test_the_log_is_emptied_once_nothing_runs(self):
+        self.is_slow.set()
+        self.assertEqual(0, (await self.begin("s"))["begun"]["epoch"])
+        self.assertEqual("LogFull", (await self.begin("t"))["refused"]["kind"])
+        self.is_slow.clear()
+        await self.until_idle()
+        self.assertEqual(1, (await self.begin("t"))["begun"]["epoch"])
+        await self.until_idle()
+
+    async def test_no_epoch_opens_for_a_plan_that_never_fits(self):
+        self.assertEqual("LogFull", (await self.begin("s", 9))["refused"]["kind"])
+        self.assertEqual(0, (await self.controller.ask({"do": "hello"}))["hello"]["epoch"])

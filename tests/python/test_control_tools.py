@@ -68,7 +68,7 @@ class FakeController:
             assert path == "/do"
             self.begun.append(line["name"])
             self.shards = [it for it in self.shards if it not in self.batches[-1]]
-            return {"begun": {"plan": len(self.begun) - 1}}
+            return {"begun": {"plan": len(self.begun) - 1, "epoch": 1}}
         if do == "hello":
             return {"hello": {"epoch": 1}}
         if "plan" in line:
