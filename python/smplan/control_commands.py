@@ -1,6 +1,7 @@
 """`python3 -m smplan.control_commands`: what an operator does with a running controller."""
 from __future__ import annotations
 
+import argparse
 import importlib
 import os
 import sys
@@ -11,7 +12,10 @@ from .command_line import Parser
 from .failure import Failure
 
 # Each module adds its commands with `add_parser(subparsers)`.
-MODULES = ["control_run", "control_operate", "control_restart", "control_reopen", "control_servers", "control_repair", "control_drain", "control_watch", "control_audit", "gate_command", "control_campaign", "control_rolling"]
+MODULES = [
+    "control_run", "control_operate", "control_restart", "control_reopen", "control_servers", "control_resize", "control_repair", "control_drain",
+    "control_watch", "control_audit", "gate_command", "control_campaign", "control_rolling",
+]
 
 
 def parser() -> argparse.ArgumentParser:

@@ -1,7 +1,8 @@
 """The service as a document: what is recorded, and what only a document says of it (want, cap and spread)."""
 from __future__ import annotations
 
-from typing import Any, Dict
+import copy
+from typing import Any, Dict, Optional, Tuple
 
 Line = Dict[str, Any]
 
@@ -43,3 +44,27 @@ def without_servers(document: Line, gone: "list[str]") -> Line:
         cells = [it for it in shard["cells"] if it["server"] not in gone]
         shards.append({**shard, "cells": cells, "listed": next((it["server"] for it in cells if it["state"] == "primary"), None)})
     return {**document, "servers": servers, "shards": shards}
+
+
+# A number of a document: `shards` or `servers`, the name of one of them, and the member; or none, no name, and `limit` or `log`.
+Place = Tuple[Optional[str], str, str]
+
+
+def rows_of(document: Line, table: Optional[str]) -> Dict[str, Line]:
+    """The shards or servers of a document by their names; without a table the document itself under no name."""
+    return {"": document} if table is None else {it["name"]: it for it in document[table]}
+
+
+def with_numbers(document: Line, numbers: Dict[Place, int]) -> Line:
+    """Returns a document with other numbers."""
+    changed = copy.deepcopy(document)
+    rows = {it: rows_of(changed, it) for it in (None, "servers", "shards")}
+    for (table, name, member), number in numbers.items():
+        rows[table][name][member] = number
+    return changed
+
+
+def number_at(document: Line, place: Place) -> Optional[int]:
+    """Returns a number of a document, if it is there."""
+    table, name, member = place
+    return rows_of(document, table).get(name, {}).get(member)

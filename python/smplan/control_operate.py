@@ -3,6 +3,7 @@ from __future__ import annotations
 
 import argparse
 import json
+import sys
 import time
 from typing import Any, Dict, List, Optional
 
@@ -19,6 +20,12 @@ from .words import counted
 def printed(arguments: argparse.Namespace, value: Any, text: str) -> None:
     """Prints a reply as JSON, if that is asked for, or in words."""
     print(json.dumps(value) if arguments.json else text, flush=True)
+
+
+def tell(arguments: argparse.Namespace, lines: List[str]) -> None:
+    """Tells in words; for a program on standard error."""
+    for it in lines:
+        print(it, file=sys.stderr if arguments.json else sys.stdout, flush=True)
 
 
 def add_json(parser: argparse.ArgumentParser) -> None:

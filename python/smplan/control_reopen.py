@@ -5,7 +5,7 @@ import argparse
 import json
 import sys
 import time
-from typing import Any, Dict, List, Optional
+from typing import Any, Collection, Dict, List, Optional
 
 from .control_document import without_servers
 from .control_drain import at_least
@@ -18,6 +18,15 @@ from .words import counted
 
 CLOSED = ("Nothing is confirmed. Primaries serve on, and shards in a handover wait; nothing moves or restarts until a reopening is confirmed. "
           "`reopen --go-on` shows this proposal again, `reopen --lost ..` takes its place.")
+
+OTHER_NUMBERS = " So does `reopen --document FILE` with other numbers: `curl CONTROLLER/document` has those that are recorded."
+
+# Up to how many shards a proposal tells also of those that stay as they are recorded.
+MOST_SHARDS = 20
+
+NOTHING_OPENED = "nothing is opened yet: `smplan-control run --open DOCUMENT`"
+
+SEE = "`smplan-control reopen --go-on` shows what it proposes"
 
 
 def listed(names: List[str]) -> str:
@@ -66,13 +75,15 @@ def primary_of(cells: List[Line]) -> Optional[str]:
 
 
 def proposal_lines(proposal: Line, before: Dict[str, List[Line]]) -> List[str]:
-    """Returns a proposal in words: what is lost, what is below its floor, who did not answer."""
-    lines = []
-    for it in proposal["cells"]:
+    """Returns a proposal in words: what is lost, what is below its floor, who did not answer. Of many shards those that change are told alone."""
+    shards, lines = proposal["cells"], []
+    told = [it for it in shards if len(shards) <= MOST_SHARDS or it["cells"] != before.get(it["shard"])]
+    for it in told:
         old, new = primary_of(before.get(it["shard"], [])), primary_of(it["cells"])
         cells = ", ".join(f"{cell['server']} {cell['state']}" for cell in it["cells"]) or "nobody has it"
         lines.append(f"  {it['shard']:<16} {cells}" + (f"  (primary before: {old or 'none'})" if old != new else ""))
-    bare = [it["shard"] for it in proposal["cells"] if it["cells"] and primary_of(it["cells"]) is None]
+    lines += [f"  {counted(len(shards) - len(told), 'shard')} as recorded"] if len(told) < len(shards) else []
+    bare = [it["shard"] for it in shards if it["cells"] and primary_of(it["cells"]) is None]
     found = ["proposed:", *lines, f"lost, or without writes that a server which is gone acknowledged alone: {listed(proposal['lost'])}"]
     if bare:
         found.append(f"without a primary, secondaries alone: {', '.join(bare)}; promote the one that has most writes by a plan")
@@ -90,13 +101,16 @@ def up_by_now(controllers: Controllers, proposal: Line) -> List[str]:
     return [it for it in proposal["carried"] if controllers.post("/base", {"server": it}).get("answers")]
 
 
-def wait_for_proposal(controllers: Controllers, base: int, patience: float) -> Line:
-    """Waits until enough servers have told what they have, and all that answer, and returns the proposal."""
+def wait_for_proposal(controllers: Controllers, base: int, patience: float) -> Optional[Line]:
+    """Waits until enough servers have told what they have, and all that answer, and returns the proposal; none if one is confirmed already."""
     until, told_waiting = time.monotonic() + patience, None
     while True:
-        reopening = controllers.state().get("reopening") or {}
+        state = controllers.state()
+        reopening = state.get("reopening") or {}
         if reopening.get("base", base) != base:
             raise Failure(f"another reopening has taken the place of this one: base {reopening['base']}", 1)
+        if state.get("is") == "open" or reopening.get("is") == "settle":
+            return None
         proposal = reopening.get("proposal")
         late = [] if proposal is None else up_by_now(controllers, proposal)
         if proposal is not None and (not late or time.monotonic() >= until):
@@ -125,9 +139,21 @@ def wait_until_open(controllers: Controllers, patience: float) -> Line:
 
 # ---- the command
 
-def confirm(controllers: Controllers, arguments: argparse.Namespace, base: int, before: Line) -> int:
-    """Shows the proposal, confirms it if that is agreed to, and waits until the service is open."""
+def confirm(controllers: Controllers, arguments: argparse.Namespace, base: int, before: Line, filled: Collection[str] = ()) -> int:
+    """Shows the proposal, confirms it if that is agreed to, and waits until the service is open. `filled` are shards that get their replicas only then."""
     proposal = wait_for_proposal(controllers, base, arguments.wait)
+    if proposal is not None and not is_confirmed(controllers, arguments, base, proposal, before):
+        print(CLOSED)
+        return 1
+    state = wait_until_open(controllers, arguments.wait)
+    short = [it["shard"] for it in state["shards"] if it["live"] <= it["floor"] and it["shard"] not in filled]
+    printed(arguments, {"opened": {"epoch": state["epoch"]}, "proposal": proposal},
+            f"open: epoch {state['epoch']}" + (f"; at their floor: {', '.join(short)}: `smplan-control repair` brings replicas back" if short else ""))
+    return 0
+
+
+def is_confirmed(controllers: Controllers, arguments: argparse.Namespace, base: int, proposal: Line, before: Line) -> bool:
+    """Shows a proposal, and confirms it if that is agreed to."""
     cells = {it["shard"]: it["cells"] for it in before.get("shards", [])}
     text = "\n".join(proposal_lines(proposal, cells))
     print(text, file=sys.stderr if arguments.json else sys.stdout, flush=True)
@@ -135,20 +161,14 @@ def confirm(controllers: Controllers, arguments: argparse.Namespace, base: int, 
         raise Failure(f"{', '.join(proposal['lost'])} may be lost: only --accept-loss says yes to that. {CLOSED}", 1)
     doubt = f", though {', '.join(proposal['lost'])} may be lost" if proposal["lost"] else ""
     try:
-        is_agreed = agrees(f"Confirm this{doubt}?", arguments.yes)
+        if not agrees(f"Confirm this{doubt}?", arguments.yes):
+            return False
     except Failure as why:
         raise Failure(f"{why}. {CLOSED}", 1) from None
-    if not is_agreed:
-        print(CLOSED)
-        return 1
     reply = controllers.post("/do", {"do": "confirm", "base": base, "lost": proposal["lost"]})
     if "refused" in reply or "bad" in reply:
-        raise Failure(f"{Refused(reply)}. {CLOSED}", 1)
-    state = wait_until_open(controllers, arguments.wait)
-    short = [it["shard"] for it in state["shards"] if it["live"] <= it["floor"]]
-    printed(arguments, {"opened": {"epoch": state["epoch"]}, "proposal": proposal},
-            f"open: epoch {state['epoch']}" + (f"; at their floor: {', '.join(short)}: `smplan-control repair` brings replicas back" if short else ""))
-    return 0
+        raise Failure(f"{Refused(reply)}. {CLOSED}{OTHER_NUMBERS if Refused(reply).kind == 'OverRoom' else ''}", 1)
+    return True
 
 
 def reopen(arguments: argparse.Namespace) -> int:
@@ -170,7 +190,7 @@ def reopen(arguments: argparse.Namespace) -> int:
     return begin(controllers, arguments, document, before)
 
 
-def begin(controllers: Controllers, arguments: argparse.Namespace, document: Line, before: Line, first: str = "") -> int:
+def begin(controllers: Controllers, arguments: argparse.Namespace, document: Line, before: Line, first: str = "", filled: Collection[str] = ()) -> int:
     """Tells what a reopening by a document does, begins it if that is agreed to, and goes on to what it proposes."""
     line, words = {"do": "reopen", "document": document, "lost": arguments.lost, "why": arguments.why}, first + needs(document, arguments.lost, before)
     if arguments.dry_run:
@@ -181,7 +201,58 @@ def begin(controllers: Controllers, arguments: argparse.Namespace, document: Lin
     reply = controllers.once("/do", line)
     if "fence" not in reply:
         raise Refused(reply)
-    return confirm(controllers, arguments, reply["fence"][0]["base"], before)
+    return confirm(controllers, arguments, reply["fence"][0]["base"], before, filled)
+
+
+# ---- commands that open another document, in which no server is lost
+
+def state_in_force(controllers: Controllers, arguments: argparse.Namespace, filled: Collection[str] = ()) -> Line:
+    """What is recorded. A reopening that is under way, as one of a command that was interrupted, ends first; with --yes only if each primary stays."""
+    state = controllers.state()
+    if state.get("is") == "new":
+        raise Failure(NOTHING_OPENED, 1)
+    if state.get("is") != "reopening":
+        return state
+    if arguments.dry_run:
+        raise Failure(f"a reopening is under way: {SEE}", 1)
+    base = state["reopening"]["base"]
+    print(f"a reopening is under way (base {base}): it ends first", file=sys.stderr, flush=True)
+    proposal = wait_for_proposal(controllers, base, arguments.wait)
+    moved = moved_by(proposal, state) if proposal is not None else []
+    if moved and arguments.yes:
+        raise Failure(f"the reopening that is under way gives {', '.join(moved)} another primary, or none, and may be somebody else's: {SEE}", 1)
+    if confirm(controllers, arguments, base, state, filled) != 0:
+        raise Failure("nothing was changed", 1)
+    return controllers.state()
+
+
+def moved_by(proposal: Line, state: Line) -> List[str]:
+    """The shards that have a primary, and another one or none by a proposal."""
+    then = {it["shard"]: primary_of(it["cells"]) for it in proposal["cells"]}
+    return [it["shard"] for it in state.get("shards", []) if primary_of(it["cells"]) not in (None, then.get(it["shard"]))]
+
+
+def silent(controllers: Controllers, names: List[str]) -> List[str]:
+    """Those of the servers that do not answer."""
+    return [it for it in names if not controllers.post("/base", {"server": it}).get("answers")]
+
+
+def refuse_silent(controllers: Controllers, document: Line, state: Line) -> str:
+    """Fails if a server does not answer that a reopening would wait for. Tells of those that it would not wait for, since they are recorded as down."""
+    down = [it["server"] for it in state.get("servers", []) if it["permit"] is not None]
+    found = silent(controllers, [it["name"] for it in document["servers"]])
+    awaited = [it for it in found if it not in down]
+    if awaited:
+        raise Failure(f"{', '.join(awaited)} {'do' if len(awaited) > 1 else 'does'} not answer, and nothing could move until then: start what is off, or, if it is off "
+                      f"for good, `smplan-control reopen --lost {awaited[0]}`", 1)
+    return f"Down, silent, and left as recorded: {', '.join(found)}. " if found else ""
+
+
+def reopen_by(controllers: Controllers, arguments: argparse.Namespace, document: Line, first: str, why: str, filled: Collection[str] = ()) -> int:
+    """Reopens by a document in which no server is lost, once all answer that it would wait for."""
+    state = controllers.state()
+    arguments.lost, arguments.why = [], why
+    return begin(controllers, arguments, document, state, first + refuse_silent(controllers, document, state), filled)
 
 
 def add_parser(subparsers: Any) -> None:

@@ -8,19 +8,11 @@ from .control_document import without_servers
 from .control_drain import at_least
 from .control_http import NotThere, fetch
 from .control_leader import Controllers, Line, controllers_of
-from .control_reopen import add_agreement, begin
+from .control_reopen import add_agreement, reopen_by, silent, state_in_force
 from .failure import Failure
 from .reading import did_you_mean
 
 BY_REOPENING = "Servers come and go by a reopening: every server is asked what it has, and serves meanwhile. "
-
-
-def state_in_force(controllers: Controllers) -> Line:
-    """What is recorded, unless a reopening is under way already."""
-    state = controllers.state()
-    if state.get("is") == "reopening":
-        raise Failure("a reopening is under way: `smplan-control reopen --go-on` shows what it proposes", 1)
-    return state
 
 
 def refuse_unreached(controllers: Controllers, server: str) -> None:
@@ -32,14 +24,14 @@ def refuse_unreached(controllers: Controllers, server: str) -> None:
             continue
         if not known:
             raise Failure(f"{url} does not know where {server} is: give it a number and its URL in fleet.json there, and send the controller SIGHUP", 1)
-    if not controllers.post("/base", {"server": server}).get("answers"):
+    if silent(controllers, [server]):
         raise Failure(f"{server} does not answer: start it first", 1)
 
 
 def add(arguments: argparse.Namespace) -> int:
     """Adds servers, without replicas."""
     controllers = controllers_of(arguments)
-    state = state_in_force(controllers)
+    state = state_in_force(controllers, arguments)
     there = [it["server"] for it in state.get("servers", []) if it["server"] in arguments.server]
     if there:
         raise Failure(f"{', '.join(there)} is there already", 1)
@@ -47,7 +39,7 @@ def add(arguments: argparse.Namespace) -> int:
         refuse_unreached(controllers, server)
     document = without_servers(controllers.post("/document"), [])
     document["servers"] += [{"name": it, "region": arguments.region, "room": arguments.room} for it in arguments.server]
-    return reopen(controllers, arguments, document, state, "add " + " ".join(arguments.server))
+    return reopen_by(controllers, arguments, document, BY_REOPENING, "add " + " ".join(arguments.server))
 
 
 def shards_at(state: Line, server: str) -> List[str]:
@@ -66,27 +58,21 @@ def refuse_in_use(controllers: Controllers, state: Line, server: str) -> None:
         raise Failure(f"{server} still has {', '.join(shards[:5])}{more}: `smplan-control drain {server}` empties it", 1)
     if recorded[server]["held"]:
         raise Failure(f"a running plan brings {server} replicas: wait for its end, then `smplan-control drain {server}`", 1)
-    if not controllers.post("/base", {"server": server}).get("answers"):
+    if silent(controllers, [server]):
         raise Failure(f"{server} does not answer: if it is off for good, `smplan-control reopen --lost {server}`", 1)
 
 
 def remove(arguments: argparse.Namespace) -> int:
     """Takes servers out that have nothing."""
     controllers = controllers_of(arguments)
-    state = state_in_force(controllers)
+    state = state_in_force(controllers, arguments)
     for server in arguments.server:
         refuse_in_use(controllers, state, server)
     document = without_servers(controllers.post("/document"), arguments.server)
-    status = reopen(controllers, arguments, document, state, "remove " + " ".join(arguments.server))
+    status = reopen_by(controllers, arguments, document, BY_REOPENING, "remove " + " ".join(arguments.server))
     if status == 0 and not arguments.json and not arguments.dry_run:
         print(f"stop {', '.join(arguments.server)}, and take it out of fleet.json; its number is never another's")
     return status
-
-
-def reopen(controllers: Controllers, arguments: argparse.Namespace, document: Line, state: Line, why: str) -> int:
-    """Reopens by a document in which no server is lost."""
-    arguments.lost, arguments.why = [], why
-    return begin(controllers, arguments, document, state, BY_REOPENING)
 
 
 def add_parser(subparsers: Any) -> None:

@@ -5,19 +5,17 @@ import gc
 import io
 import json
 import logging
-import os
 import pathlib
 import signal
 import socket
-import subprocess
 import sys
 import tempfile
-import time
 import unittest
 from http.client import HTTPConnection
 from types import SimpleNamespace
 from urllib.request import Request, urlopen
 
+from control_story import ROOT, Story, free_ports
 from smplan import control_commands
 from smplan.control import DONE, Controller, Session, SessionEnded
 from smplan.control_document import Unknown, document_of_state, without_servers
@@ -31,9 +29,7 @@ from smplan.control_restart import unserved
 from smplan.control_run import Running, Settings
 from smplan.failure import Failure
 
-ROOT = pathlib.Path(__file__).resolve().parents[2]
 REFERENCE = (sys.executable, str(ROOT / "tools/smpland_model.py"), "-")
-ENVIRONMENT = {**os.environ, "PYTHONPATH": str(ROOT / "python")}
 OPEN = {"journal": "9f2c", "fence": 0, "is": "open"}
 
 # (asyncio tells in its debug mode of each step that a busy machine made slow)
@@ -404,14 +400,6 @@ class ProposalTest(unittest.TestCase):
         self.assertEqual(self.waited(2, 0.0), ([], 0, ""))
 
 
-def free_ports(count):
-    sockets = [socket.create_server(("127.0.0.1", 0)) for _ in range(count)]
-    ports = [it.getsockname()[1] for it in sockets]
-    for it in sockets:
-        it.close()
-    return ports
-
-
 class RunningTest(unittest.IsolatedAsyncioTestCase):
     """A controller in this process, over a session that is written here."""
 
@@ -500,68 +488,15 @@ class RunningTest(unittest.IsolatedAsyncioTestCase):
         running.fleet.close()
 
 
-class StoryTest(unittest.TestCase):
-    """Three servers and a controller, by the commands of docs/CONTROLLER.md. The session is the reference, which keeps no journal."""
+class StoryTest(Story):
+    """Three servers of examples/kv_http.py, by the commands of docs/CONTROLLER.md."""
 
     def setUp(self):
-        self.folder = tempfile.TemporaryDirectory()
-        self.addCleanup(self.folder.cleanup)
-        self.path, self.running = pathlib.Path(self.folder.name), {}
-        self.addCleanup(self.end)
-        port, *ports = free_ports(4)
-        self.controller, self.urls = f"http://127.0.0.1:{port}", dict(zip("abc", ports))
-        (self.path / "fleet.json").write_text(json.dumps({
-            "servers": {it: {"number": at + 1, "url": f"http://127.0.0.1:{self.urls[it]}"} for at, it in enumerate("abc")}, "map": {"file": "map.json"}}))
-        (self.path / "service.json").write_text(json.dumps({
-            "limit": 1, "servers": [{"name": it, "region": "r", "room": 10} for it in "abc"],
-            "shards": [{"name": "s", "load": 4, "want": 2, "cap": 1, "spread": 1, "listed": "a", "cells": [
-                {"server": "a", "state": "primary"}, {"server": "b", "state": "secondary"}]}]}))
-        session = f"{sys.executable} {ROOT}/tools/smpland_model.py -"
-        self.start("run", "-m", "smplan.control_commands", "run", "fleet.json", "--session", session, "--http", f"127.0.0.1:{port}", "--open", "service.json")
-        self.until(lambda: self.ask("/healthz")["leads"])
+        self.begin_with(dict(zip("abc", free_ports(3))))
         for it in "abc":
             self.start(it, str(ROOT / "examples/kv_http.py"), it, self.controller, f"{it}.sqlite", "--new")
         for it in "abc":
             self.until(lambda it=it: self.base(it) is not None)
-
-    def start(self, name, *words):
-        with open(self.path / f"{name}.log", "a", encoding="utf-8") as log:
-            self.running[name] = subprocess.Popen([sys.executable, *words], stdout=log, stderr=log, cwd=self.path, env=ENVIRONMENT)
-
-    def end(self):
-        for it in self.running.values():
-            it.kill()
-            it.wait()
-
-    def ask(self, path):
-        with urlopen(self.controller + path, timeout=10) as answer:
-            return json.load(answer)
-
-    def base(self, name):
-        with urlopen(f"http://127.0.0.1:{self.urls[name]}/base", timeout=10) as answer:
-            return json.load(answer)["base"]
-
-    def until(self, condition, seconds=60):
-        until = time.monotonic() + seconds
-        while True:
-            with contextlib.suppress(OSError):
-                if condition():
-                    return
-            self.assertLess(time.monotonic(), until, (self.path / "run.log").read_text())
-            time.sleep(0.1)
-
-    def request(self, server, number):
-        line = {"shard": "s", "request": f"r{number}", "command": ["append", "k", str(number)]}
-        with urlopen(f"http://127.0.0.1:{self.urls[server]}/request", json.dumps(line).encode(), timeout=10) as answer:
-            return json.load(answer)
-
-    def control(self, *words):
-        told = subprocess.run([sys.executable, "-m", "smplan.control_commands", *words], capture_output=True, text=True, check=False, cwd=self.path, stdin=subprocess.DEVNULL,
-                              env={**ENVIRONMENT, "SMPLAN_CONTROLLER": self.controller})
-        return told.returncode, told.stdout + told.stderr
-
-    def listed(self):
-        return json.loads((self.path / "map.json").read_text())["entries"]["s"]["to"]
 
     def test_from_the_opening_to_the_repair(self):
         self.assertEqual((self.listed(), self.request("a", 1), self.request("b", 2)), ("a", {"reply": "1"}, {"said": "not_here"}))
@@ -601,10 +536,6 @@ class StoryTest(unittest.TestCase):
         self.assertEqual(self.running["run"].wait(20), 0)
         self.assertRegex((self.path / "run.log").read_text(), r"INFO stops\n$")
 
-    def check(self, words, status, text):
-        found = self.control(*words)
-        self.assertEqual((found[0], text in found[1]), (status, True), (words, found))
-
     def test_a_server_goes_and_another_one_comes(self):
         self.assertEqual(self.request("a", 1), {"reply": "1"})
         add = ("add-server", "d", "--region", "r", "--room", "9")
@@ -640,4 +571,5 @@ class StoryTest(unittest.TestCase):
         self.check(("remove-server", "a", "--yes"), 1, "a does not answer: if it is off for good, `smplan-control reopen --lost a`")
         reopening = {"do": "reopen", "document": self.ask("/document"), "lost": [], "why": "it"}
         urlopen(f"{self.controller}/do", json.dumps(reopening).encode(), timeout=10).close()
-        self.check(("remove-server", "b", "--yes"), 1, "a reopening is under way")
+        self.check(("remove-server", "b", "--dry-run"), 1, "a reopening is under way: `smplan-control reopen --go-on` shows what it proposes")
+        self.check(("remove-server", "b", "--yes", "--wait", "1"), 1, "a did not answer within 1 s")
