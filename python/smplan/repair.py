@@ -150,10 +150,14 @@ class Planner:
             return None
         is_spread = len(regions) >= row.spread
         server = max(may, key=lambda it: (not is_spread and self.document.servers[it].region not in regions, self.room[it]))
-        self.room[server] -= row.load
-        self.primaries[server] += role == "primary"
-        self.repair.additions.append(Addition(shard, server, role))
+        self.take(Addition(shard, server, role))
         return server
+
+    def take(self, addition: Addition) -> None:
+        """Adds a replica at a server that has been chosen."""
+        self.room[addition.server] -= self.document.shards[addition.shard].load
+        self.primaries[addition.server] += addition.role == "primary"
+        self.repair.additions.append(addition)
 
 
 # ---- the plan
