@@ -3,6 +3,7 @@ from __future__ import annotations
 
 import argparse
 import json
+import secrets
 import sys
 import time
 from typing import Any, Collection, Dict, List, Optional
@@ -180,6 +181,7 @@ def reopen(arguments: argparse.Namespace) -> int:
         if present is None:
             raise Failure("no reopening is under way", 1)
         return confirm(controllers, arguments, present["base"], before)
+    refuse_new(before, arguments)
     if not arguments.lost and not arguments.document:
         raise Failure("name the servers that are lost for good with --lost, or a --document to open")
     document = document_to_open(controllers, arguments.document, arguments.lost)
@@ -190,9 +192,25 @@ def reopen(arguments: argparse.Namespace) -> int:
     return begin(controllers, arguments, document, before)
 
 
+def refuse_new(before: Line, arguments: argparse.Namespace) -> None:
+    """Fails unless a service is adopted by a controller that has opened nothing, and by no other one."""
+    is_new = before.get("is") == "new"
+    if is_new and (arguments.epoch is None or not arguments.document):
+        raise Failure(f"{NOTHING_OPENED}, or adopt a service by --document and --epoch", 1)
+    if arguments.epoch is not None and not is_new:
+        raise Failure("a journal is open already: --epoch is of a controller that has opened nothing", 1)
+
+
+def line_of(arguments: argparse.Namespace, document: Line) -> Line:
+    """The line of a reopening. One that adopts a service has a new journal."""
+    line = {"do": "reopen", "document": document, "lost": arguments.lost, "why": arguments.why}
+    epoch = getattr(arguments, "epoch", None)
+    return line if epoch is None else {**line, "journal": secrets.token_hex(8), "epoch": epoch}
+
+
 def begin(controllers: Controllers, arguments: argparse.Namespace, document: Line, before: Line, first: str = "", filled: Collection[str] = ()) -> int:
     """Tells what a reopening by a document does, begins it if that is agreed to, and goes on to what it proposes."""
-    line, words = {"do": "reopen", "document": document, "lost": arguments.lost, "why": arguments.why}, first + needs(document, arguments.lost, before)
+    line, words = line_of(arguments, document), first + needs(document, arguments.lost, before)
     if arguments.dry_run:
         printed(arguments, line, f"{words}\n{json.dumps(document, indent=2)}")
         return 0
@@ -266,6 +284,8 @@ def add_parser(subparsers: Any) -> None:
     )
     parser.add_argument("--lost", action="append", default=[], metavar="SERVER", help="a server that is off for good; may be given again")
     parser.add_argument("--document", metavar="DOCUMENT", help="what to open, with other servers, rooms or shards; without it what the controller has recorded")
+    parser.add_argument("--epoch", type=at_least(1, int), metavar="N", help="adopt the service of --document under the new journal of this controller, which has opened nothing: "
+                        "an epoch above all of the old journal")
     parser.add_argument("--why", default="reopen", metavar="TEXT", help="kept in the journal")
     parser.add_argument("--go-on", action="store_true", help="show the proposal of the reopening that is under way")
     add_agreement(parser)

@@ -128,6 +128,20 @@ class ResizeStory(ScriptedStory):
         self.assertEqual((self.recorded("s")[1:3], self.ask("/document")["limit"]), ((3, 1), 2))
         self.assertEqual(self.epoch(), 2)
 
+    def test_a_service_is_adopted_under_a_new_journal(self):
+        (self.path / "now.json").write_text(json.dumps(self.ask("/document")))
+        self.check(("reopen", "--document", "now.json", "--epoch", "9", "--yes"), 1, "a journal is open already: --epoch is of a controller that has opened nothing")
+        journal = json.loads(self.control("state", "--json")[1])["journal"]
+        self.running["run"].terminate()
+        self.running["run"].wait()
+        self.run_controller()
+        self.check(("resize", "--load", "s=5", "--yes"), 1, "nothing is opened yet")
+        self.check(("reopen", "--lost", "c", "--yes"), 1, "nothing is opened yet: `smplan-control run --open DOCUMENT`, or adopt a service by --document and --epoch")
+        self.check(("reopen", "--document", "now.json", "--epoch", "9", "--yes"), 0, "s                a primary, b secondary")
+        state = json.loads(self.control("state", "--json")[1])
+        self.assertEqual((state["epoch"], state["journal"] == journal, self.recorded("s"), self.listed()), (9, False, ({"a": "primary", "b": "secondary"}, 2, 1, 4), "a"))
+        self.check(("resize", "--load", "s=5", "--yes"), 0, "1 number changed")
+
     def test_servers_that_do_not_answer(self):
         self.servers["b"].is_silent = True
         self.check(("resize", "--load", "s=5", "--yes"), 1, "b does not answer, and nothing could move until then: start what is off, or, if it is off for good, `smplan-control reopen --lost b`")
