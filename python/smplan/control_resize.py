@@ -171,7 +171,7 @@ def unit(text: str) -> Decimal:
     return value
 
 
-EXAMPLE = """examples:
+EXAMPLE = """example:
   smplan-control resize --load orders=52 --room berlin-1=120
   smplan-control resize loads.csv --unit 1048576 --yes
 
