@@ -1,4 +1,10 @@
-"""A test of a store of your own for `smplan.control` (docs/CONTROLLER.md, A store of your own): `faults = await check(Trial(..))`."""
+"""A test of a store of your own for `smplan.control`: `faults = await check(Trial(..))`. A store adds lines behind all others, by these rules:
+
+- Lines of others that came between are handed on first, then these, each once.
+- If its answer is lost, look whether the lines are there: then they went through.
+- `StoreRefused`: these lines were not stored, nor will they be. The controller leads on.
+- `StoreLost`, or any other exception: it leads no longer. Before it leads again, `follow` all lines that are new.
+"""
 from __future__ import annotations
 
 from dataclasses import dataclass
