@@ -27,6 +27,9 @@ MOST_SHARDS = 20
 
 NOTHING_OPENED = "nothing is opened yet: `smplan-control run --open DOCUMENT`"
 
+# How long a server may be silent before a reopening is not begun, in seconds: it may just start anew.
+MOMENT = 10.0
+
 SEE = "`smplan-control reopen --go-on` shows what it proposes"
 
 
@@ -255,10 +258,14 @@ def silent(controllers: Controllers, names: List[str]) -> List[str]:
     return [it for it in names if not controllers.post("/base", {"server": it}).get("answers")]
 
 
-def refuse_silent(controllers: Controllers, document: Line, state: Line) -> str:
-    """Fails if a server does not answer that a reopening would wait for. Tells of those that it would not wait for, since they are recorded as down."""
+def refuse_silent(controllers: Controllers, arguments: argparse.Namespace, document: Line, state: Line) -> str:
+    """Fails if a server does not answer that a reopening would wait for, not even after a moment. Tells of those that it would not wait for, since they are
+    recorded as down."""
     down = [it["server"] for it in state.get("servers", []) if it["permit"] is not None]
-    found = silent(controllers, [it["name"] for it in document["servers"]])
+    until, found = time.monotonic() + min(MOMENT, arguments.wait), silent(controllers, [it["name"] for it in document["servers"]])
+    while not set(found) <= set(down) and time.monotonic() < until:
+        controllers.sleep(0.5)
+        found = silent(controllers, found)
     awaited = [it for it in found if it not in down]
     if awaited:
         raise Failure(f"{', '.join(awaited)} {'do' if len(awaited) > 1 else 'does'} not answer, and nothing could move until then: start what is off, or, if it is off "
@@ -270,7 +277,7 @@ def reopen_by(controllers: Controllers, arguments: argparse.Namespace, document:
     """Reopens by a document in which no server is lost, once all answer that it would wait for."""
     state = controllers.state()
     arguments.lost, arguments.why = [], why
-    return begin(controllers, arguments, document, state, first + refuse_silent(controllers, document, state), filled)
+    return begin(controllers, arguments, document, state, first + refuse_silent(controllers, arguments, document, state), filled)
 
 
 def add_parser(subparsers: Any) -> None:

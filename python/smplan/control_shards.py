@@ -150,7 +150,7 @@ def bring(controllers: Controllers, arguments: argparse.Namespace, recorded: Lin
         reopen_by(controllers, arguments, opened, first, why)
         return False
     state = controllers.state()
-    text = f"{first}{refuse_silent(controllers, opened, state)}{needs(opened, [], state)}"
+    text = f"{first}{refuse_silent(controllers, arguments, opened, state)}{needs(opened, [], state)}"
     return agree(arguments, f"{text} Begin?") and reopen_by(controllers, arguments, opened, "", why, missing) == 0
 
 
@@ -244,7 +244,7 @@ def may_go(controllers: Controllers, arguments: argparse.Namespace, recorded: Li
     """Asks whether all data of the shards may go. Tells whether to go on."""
     shards = rows(recorded, arguments.shard)
     has_floor = any(it["cells"] and it["cap"] < it["want"] for it in shards)
-    silent = refuse_silent(controllers, recorded, state)
+    silent = refuse_silent(controllers, arguments, recorded, state)
     kept = [it["shard"] for it in state["shards"] if it["shard"] in arguments.shard and it["copies"] > 1]
     copies = f"Servers that keep several copies of each write of {named(kept)} let none of the last go: start them with one copy first. " if kept else ""
     many = "two reopenings and a plan" if has_floor else "a plan and a reopening" if any(it["cells"] for it in shards) else "a reopening"

@@ -4,13 +4,14 @@ import pathlib
 import tempfile
 import unittest
 from decimal import Decimal
+from types import SimpleNamespace
 from urllib.request import urlopen
 
 from control_story import DOCUMENT, STATE, ScriptedStory, shard
 from smplan.control_document import with_numbers
 from smplan.control_numbers import numbers_of, told_by_file, told_by_words
 from smplan.control_resize import brought, changes_of, left_to_do, lines_of, refuse, too_few, too_full
-from smplan.control_reopen import moved_by, proposal_lines
+from smplan.control_reopen import moved_by, proposal_lines, refuse_silent
 from smplan.failure import Failure
 
 
@@ -100,6 +101,14 @@ class ResizeTest(unittest.TestCase):
         fewer = {**DOCUMENT, "shards": [shard("s", 4, "a*b", want=1, cap=0), shard("t", 5, "b*c", want=3)]}
         self.assertEqual(left_to_do(fewer), ["t wants more replicas: `smplan-control repair`", "some have more replicas than they want: `smplan-control scale s=1`"])
 
+    def test_a_server_that_just_starts_is_waited_for_and_one_that_is_down_is_not(self):
+        answers = {"a": [True], "b": [False, False, True], "c": [False], "s": [True]}
+        slept = []
+        controllers = SimpleNamespace(sleep=slept.append, post=lambda path, line: {"answers": answers[line["server"]].pop(0) if len(answers[line["server"]]) > 1 else answers[line["server"]][0]})
+        state = {"servers": [{"server": it, "permit": 7 if it == "c" else None} for it in "abcs"]}
+        self.assertEqual(refuse_silent(controllers, SimpleNamespace(wait=60.0), DOCUMENT, state), "Down, silent, and left as recorded: c. ")
+        self.assertEqual(slept, [0.5, 0.5])
+
     def test_a_proposal_of_many_shards_tells_of_those_that_change(self):
         before = {str(it): [{"server": "a", "state": "primary"}] for it in range(30)}
         cells = [{"shard": it, "cells": row} for it, row in {**before, "7": [{"server": "b", "state": "primary"}]}.items()]
@@ -144,7 +153,7 @@ class ResizeStory(ScriptedStory):
 
     def test_servers_that_do_not_answer(self):
         self.servers["b"].is_silent = True
-        self.check(("resize", "--load", "s=5", "--yes"), 1, "b does not answer, and nothing could move until then: start what is off, or, if it is off for good, `smplan-control reopen --lost b`")
+        self.check(("resize", "--load", "s=5", "--yes", "--wait", "1"), 1, "b does not answer, and nothing could move until then: start what is off, or, if it is off for good, `smplan-control reopen --lost b`")
         self.assertEqual(self.epoch(), 0)
 
     def test_an_interrupted_one_goes_on(self):
