@@ -54,6 +54,7 @@ RULE_OF = {
     "answer-before-done": MEMBERS, "any-reply-counts": MEMBERS,
     "copy-without-identities": ("hand_over_unheard",), "copy-counts-twice": COPIES, "copy-without-meanwhile": COPIES,
     "copy-without-values": COPIES, "joined-at-once": COPIES,
+    "leave-not-asked": ("drain", "crash_two", "stop_server", "isolate_server"),
     "heed-nothing": ("reopen_while_down",), "forgets-and-rests": ("reopen_while_down",),
     "map-names-prepared": MAP, "map-write-left-out": MAP, "map-settled-without-entries": ("reopen_behind_cut", "reopen_amid_passing"),
 }

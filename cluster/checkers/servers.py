@@ -100,6 +100,8 @@ class Checker:
         # (by its stream the last order that was done, and when; and when each order began first)
         self.turns: dict[tuple[int, int, int], tuple[int, int]] = {}
         self.first_begins: dict[tuple[int, int, int, int], int] = {}
+        # (by shard, the server that asked and its question: who gave leave)
+        self.leaves: dict[tuple[str, str, int], set[str]] = defaultdict(set)
         self.counts: Counter[str] = Counter()
         self.epoch = self.begun_epoch = 0
 
@@ -236,6 +238,7 @@ class Checker:
             self.fault(event, f"{event['call']} makes {at.state} {event['state']}")
         self.look_at_copy(host, event, at.state)
         self.look_at_turn(event)
+        self.look_at_leave(host, event)
         if event["state"] in ("absent", "forwarding", "secondary") or at.state in ("absent", "secondary"):
             at.tenure += 1
         at.state, at.last, at.position = event["state"], number, event["position"]
@@ -243,6 +246,17 @@ class Checker:
         self.look_at_primaries(event, [shard])
         if event["state"] == "absent":
             self.look_at_floor(event, shard)
+
+    def on_leave(self, host: Host, event: dict) -> None:
+        """It gives another server leave to drop a shard."""
+        self.leaves[event["shard"], event["to"], event["question"]].add(host.name)
+
+    def look_at_leave(self, host: Host, event: dict) -> None:
+        """Who drops a shard that others have as well has got leave for that."""
+        if event["call"] == "drop" and set(event.get("replicas") or ()) - {host.name}:
+            self.counts["drops with leave"] += 1
+            if not self.leaves[event["shard"], host.name, event["leave"]]:
+                self.fault(event, f"it drops {event['shard']} without leave")
 
     def look_at_room(self, host: Host, event: dict) -> None:
         """The loads of all that a server has fit into its room, and so does what it says that they are."""

@@ -16,6 +16,7 @@ chosen = Agent(Path(LIBRARY).resolve()) if LIBRARY else port
 judge, begin, abandon, commit, seal, has_reached_cut = (
     chosen.judge, chosen.begin, chosen.abandon, chosen.commit, chosen.seal, chosen.has_reached_cut)
 route, fence, take, heed = chosen.route, chosen.fence, chosen.take, chosen.heed
-forget, resumes = port.forget, port.resumes
+forget, resumes, compare = port.forget, port.resumes, port.compare
 
-__all__ = ["VACANT", "judge", "begin", "abandon", "commit", "seal", "has_reached_cut", "route", "fence", "take", "heed", "forget", "resumes"]
+__all__ = ["VACANT", "judge", "begin", "abandon", "commit", "seal", "has_reached_cut", "route", "fence", "take", "heed", "forget", "resumes",
+           "compare"]

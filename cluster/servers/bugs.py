@@ -31,5 +31,6 @@ BUGS = {
     "who-ends-leaves": "a member whose connection ends is one no longer",
     "lease-unheeded": "a server serves on when no controller has answered it for the time of its lease",
     "not-synced": "a write is acknowledged before the disk has it for certain",
+    "leave-not-asked": "a drop commits at once",
     "forgets-and-rests": "a server that was left behind a reopening forgets its slots, and asks for none",
 }

@@ -14,8 +14,9 @@ WAITING = 1.5
 PASSING = 4.0
 # One that was executed waits so long for those who are to have it; then its client has to ask again. (longer than for one who is silent)
 ACKNOWLEDGING = 6.0
-# One step between servers.
+# One step between servers, and one question for leave.
 STEP = 3.0
+LEAVING = 1.0
 # How often an Unknown server asks for its slots, and a source looks after followers that are gone.
 ASKING = 0.7
 PROBING = 2.0

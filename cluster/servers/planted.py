@@ -11,6 +11,7 @@ from smplan.agent import Answer, Base, Call, Cell, Order, Request, Restoration, 
 from ..wire import Message
 from . import agent
 from .following import Following
+from .leaves import Leaves
 from .reopenings import Reopenings
 from .requests import Requests
 from .server import Server
@@ -258,6 +259,16 @@ class WithoutMeanwhile(Following):
         return []
 
 
+# -- leave
+
+
+class LeavingUnasked(Leaves):
+    """Asks nobody."""
+
+    async def take(self, shard: Shard, work: Work) -> None:
+        pass
+
+
 # -- reopenings
 
 
@@ -343,7 +354,7 @@ PLANTED = {
     "copy-without-values": with_parts(sources=WithoutValues), "joined-at-once": with_parts(sources=JoiningAtOnce),
     "newcomers-not-waited-for": with_parts(sources=WithoutNewcomers), "old-owner-not-waited-for": NotWaitingForOldOwner,
     "dead-at-once": with_parts(sources=DeadAtOnce), "who-ends-leaves": with_parts(sources=LeavingAtEnd), "forgets-and-rests": Resting,
-    "lease-unheeded": with_parts(requests=Unleased), "not-synced": Server,
+    "leave-not-asked": with_parts(leaves=LeavingUnasked), "lease-unheeded": with_parts(requests=Unleased), "not-synced": Server,
 }
 
 

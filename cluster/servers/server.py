@@ -13,6 +13,7 @@ from smplan.agent import Base, Cell, Request, Slot
 from ..wire import Channel, Cluster, Failed, Message, read_message, line_of
 from . import agent, limits
 from .following import Following
+from .leaves import Leaves
 from .peers import Hearsay, Lease
 from .reopenings import Reopenings
 from .requests import Requests
@@ -27,6 +28,7 @@ class Server:
 
     # What it is made of. (A planted bug is another class in place of one of these: planted.py.)
     following_type, sources_type, orders_type, requests_type, reopenings_type = Following, Sources, Orders, Requests, Reopenings
+    leaves_type = Leaves
 
     def __init__(self, name: str, cluster: Cluster, store: Store, think: float = 0, lag: float = 0) -> None:
         self.name, self.cluster, self.store = name, cluster, store
@@ -36,6 +38,7 @@ class Server:
         self.peers: dict[str, Channel] = {}
         self.sources, self.orders, self.requests = self.sources_type(self), self.orders_type(self), self.requests_type(self)
         self.reopenings, self.hearsay, self.lease = self.reopenings_type(self), Hearsay(self), Lease(self, cluster.lease)
+        self.leaves = self.leaves_type(self)
         self.tasks: set[asyncio.Task[Any]] = set()
         self.asking: asyncio.Task[None] | None = None
 
@@ -167,6 +170,8 @@ class Server:
         try:
             if "pass" in message:
                 reply = await self.requests.take_passed(message["pass"])
+            elif "leave" in message:
+                reply = await self.leaves.give(message["leave"], message.get("heard"))
             elif "hello" in message:
                 reply = {"hello": {}}
             else:

@@ -95,6 +95,11 @@ class Shard:
     lacking: tuple[int, str, float] = (0, "", 0.0)
     # (at the source: the bytes of a value that was too large, and until when no copy is made)
     too_large: tuple[int, float] = (0, 0.0)
+    # (the number under which it asks for leave to drop the shard, or has it, 0 if it does neither; and whether it has it)
+    question: int = 0
+    has_leave: bool = False
+    # (at who gives leave: the question of each server that has got it)
+    left: dict[str, int] = field(default_factory=dict)
 
     def expect(self, members: set[str]) -> None:
         """Begins as a source: who was connected to the one before has yet to come; who was away is away."""

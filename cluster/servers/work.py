@@ -74,6 +74,8 @@ class Orders:
                 await self.begin(shard, order, told)
             work = shard.work
         if verdict == Answer.WORKING:
+            if work is not None:  # (what it names now may be otherwise)
+                work.told = told
             self.store.note("order-at-work", shard=shard.name, number=order.number, call=told["call"])
         if verdict in (Answer.BEGIN, Answer.WORKING):
             if work is None:
@@ -118,6 +120,7 @@ class Orders:
                 work.done.set_exception(Failed("GivenUp", why))
             if shard.following is not None and shard.slot.cell == Cell.ABSENT:
                 shard.following.stop(leaves=True)
+            self.server.leaves.end(shard)
 
     async def work(self, shard: Shard, work: Work) -> None:
         """Does the work, and commits it; if it takes too long it is given up, and the order comes again."""
@@ -144,6 +147,7 @@ class Orders:
                 shard.slot = slot
                 if shard.following is not None and slot.cell == Cell.ABSENT:
                     shard.following.stop(leaves=True)
+                self.server.leaves.end(shard)
         if not work.done.done():
             work.done.set_exception(Failed("GivenUp", why))
         shard.wake()
@@ -162,6 +166,8 @@ class Orders:
         elif order.call == Call.CHANGE and order.new_role == Role.SECONDARY:
             wanted = set(work.told.get("replicas") or shard.members) - {self.server.name}
             await self.wait(shard, work, limits.HOLDING, lambda: shard.running == 0 and self.have_all(shard, wanted))
+        if order.call == Call.DROP:
+            await self.server.leaves.take(shard, work)
 
     def have_all(self, shard: Shard, names: set[str]) -> bool:
         """These have all writes of the shard."""
@@ -225,8 +231,9 @@ class Orders:
                 self.slot_commands(shard, slot) + commands, "commit", shard=shard.name, number=order.number, call=told["call"],
                 plan=told["plan"], stream=told["stream"], epoch=told.get("epoch"), journal=told["journal"], before=STATES[Cell(before.cell)],
                 state=STATES[Cell(slot.cell)], position=shard.position, load=slot.load, room=order.room,
-                used=self.store.used() - before.load + slot.load)
-            shard.slot, shard.work, shard.views = slot, None, views
+                used=self.store.used() - before.load + slot.load,
+                **({"leave": shard.question, "replicas": told.get("replicas")} if order.call == Call.DROP else {}))
+            shard.slot, shard.work, shard.views, shard.question, shard.has_leave = slot, None, views, 0, False
             if empty:
                 shard.position, shard.chain, shard.members, shard.old_owner = 0, "", set(), None
             shard.is_marked = slot.cell == Cell.PRIMARY or (shard.is_marked and not empty)

@@ -191,7 +191,7 @@ class Scripted:
             self.order(new, "prepare_add", shard, **{"from": old}, handover=number, **more),
             self.order(old, "prepare_drop", shard, to=new, handover=number, **more),
             self.order(new, "add", shard, role="primary", **more),
-            self.order(old, "drop", shard, **more),
+            self.order(old, "drop", shard, primary=new, replicas=[*replicas, new]),
         ]
 
     async def move(self, shard: str, old: str, new: str, replicas: list[str], repeats: int = 0) -> None:

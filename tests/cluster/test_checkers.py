@@ -267,6 +267,16 @@ def inherited_back(it: History, joins: bool) -> History:
     return it
 
 
+def dropped(it: History, giver: str | None, question: int = 7) -> History:
+    """Server b drops its replica, for which another one has given leave."""
+    with_secondary(it)
+    if giver is not None:
+        it.add(giver, "leave", shard="s", to="b", question=question)
+    it.order("b", "drop", "absent")
+    it.lines[-1] |= {"leave": 7, "replicas": ["a", "b"]}
+    return it
+
+
 def untrue(it: History, line: dict, time: int, **reply: object) -> list[str]:
     """What is not true of a line that was seen at a moment."""
     truth = Truth(Past.of(it.lines), [order_line("b", 1)])
@@ -308,6 +318,7 @@ WRONG_TRUTHS = {
 }
 ANSWERED = [{"plan": 0, "stream": 0, "number": STEP + 1}]
 RIGHT_SERVERS = {
+    "a drop with leave": lambda it: dropped(it, "a").found(),
     "a handover": lambda it: it.write("a").handover().write("b").found(),
     "a handover and back": lambda it: it.write("a").handover().handover("b", "a").write("a").found(),
     "the data of the end": lambda it: it.write("a", identity="x").found(data=[{"server": "a", "state": "primary", "position": 1, "values": {"k": ["x"]}}]),
@@ -339,6 +350,8 @@ RIGHT_SERVERS = {
     "a new primary that lacks what was acknowledged without it, by name": lambda it: inherited_less(it).found(named={"s": [2 * STEP]}),
 }
 WRONG_SERVERS = {
+    "it drops s without leave": lambda it: dropped(it, None).found(),
+    "b s at 10: it drops s without leave": lambda it: dropped(it, "a", 6).found(),
     "b has told a greater copy": lambda it: settled(fenced(
         it.write("a").order("b", "prepare_add", "prepared").order("a", "prepare_drop", "forwarding").write("b", passed="a"),
         a=["forwarding", 1, 7], b=["prepared", 2, 7]), {"s": ["primary", 1]}, {}).found(),
