@@ -28,7 +28,7 @@ from cluster.launch.moving import Mover
 from cluster.launch.operator import NoLeader, Operator
 from cluster.launch.processes import NotReady
 from cluster.launch.report import SHOWN, listed, seconds_of, service_line, situations_line, trust_lines
-from cluster.launch.shape import Shape, document_of
+from cluster.launch.shape import Shape, fewest
 from cluster.launch.situations import situations_of
 from cluster.launch.verdict import Evidence, Verdict, judge
 from cluster.launch.watcher import Watcher
@@ -87,6 +87,11 @@ class Settings:
     # Primaries are moved without handovers.
     is_abrupt: bool = False
 
+    @property
+    def copies(self) -> int:
+        """How many servers have each write before it is acknowledged: the fewest replicas that a shard is to have."""
+        return max(1, fewest(self.shape))
+
 
 @dataclass
 class Result:
@@ -117,7 +122,7 @@ class Run:
         self.begun = time.monotonic()
         self.cluster = LocalCluster(settings.directory, settings.shape, settings.program, settings.rates, settings.bugs, pause=settings.pause,
                                     lease=settings.lease, store=settings.store, is_slow=settings.is_slow,
-                                    notes_syncs=any(name == "cut_to_last_sync" for _, name in settings.parts))
+                                    notes_syncs=any(name == "cut_to_last_sync" for _, name in settings.parts), copies=settings.copies)
         self.operator = Operator(self.cluster.pages, settings.patience or (240.0 if settings.is_busy else 90.0))
         self.mover = Mover(self.operator, settings.shape.seed, settings.swaps, settings.is_abrupt)
         self.story = HandoverStory(self.cluster, self.operator, self.mover, settings.shape.seed, self.tell)
@@ -163,7 +168,7 @@ class Run:
             self.kept = [(second, it) for second, it in (await self.cluster.tell_proxies(counts=True))["kept"]]
             self.tell("everything has come to rest; now the checkers look at it")
             program = shlex.split(self.cluster.program)
-            floors = {it["name"]: it["want"] - it["cap"] for it in document_of(self.settings.shape)["shards"]}
+            floors = dict.fromkeys(self.settings.shape.shard_names, fewest(self.settings.shape))
             reference = None if "smpland_model.py" in self.cluster.program else shlex.split(REFERENCE)
             is_whole = await self.story.wait_for_replicas(self.story.alive, 60.0 if self.settings.is_busy else 20.0)
             self.watcher.end()
@@ -345,12 +350,14 @@ def add_load(parser: argparse.ArgumentParser) -> None:
     parser.add_argument("--store", choices=("redis", "sqlite"), default="redis", help="what servers keep their data in (default %(default)s)")
     parser.add_argument("--lease", type=float, default=0.0, metavar="SECONDS",
                         help="have a server serve nobody once no controller has answered it for so long (default: it serves on)")
+    parser.add_argument("--copies", type=int, choices=(1, 2), help="how many servers have each write before it is acknowledged (default: two if the seed is even)")
     parser.add_argument("--busy", action="store_true", help="the machine has other work: waits are longer, and slow requests are no violations")
 
 
 def shape_of(told: argparse.Namespace, seed: int) -> Shape:
     """The cluster and its load as the command line says."""
-    return Shape(servers=told.servers, shards=told.shards, clients=told.clients, seed=seed, hot_clients=told.hot_clients,
+    copies = told.copies or 2 - seed % 2
+    return Shape(servers=told.servers, shards=told.shards, clients=told.clients, want=copies + 1, seed=seed, hot_clients=told.hot_clients,
                  open_clients=told.open_clients, largest=told.largest)
 
 

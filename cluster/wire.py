@@ -69,6 +69,8 @@ class Cluster:
     map_file: str | None = None
     # For how many seconds a server serves without a controller's answer; 0: for ever.
     lease: float = 0.0
+    # How many servers are to have each write before it is acknowledged.
+    copies: int = 1
 
     def name_of(self, number: int) -> str:
         """The server with this number."""
@@ -83,7 +85,8 @@ class Cluster:
             for name, it in told["servers"].items()
         }
         controllers = {name: Address.of(it) for name, it in told.get("controllers", {}).items()}
-        return Cluster(servers, controllers, tuple(told.get("etcd", ())), told.get("map_prefix", "/map/"), told.get("map_file"), told.get("lease", 0.0))
+        return Cluster(servers, controllers, tuple(told.get("etcd", ())), told.get("map_prefix", "/map/"), told.get("map_file"), told.get("lease", 0.0),
+                       told.get("copies", 1))
 
 
 # Writes JSON as short as it goes.

@@ -213,11 +213,13 @@ class Member:
             pass
 
     async def answer(self, message: Message) -> Message:
-        """Answers a server that asks for its slots, or whether it may serve."""
+        """Answers a server that asks for its slots, or whether it may serve, or that tells of copies."""
         if self.controller is None or not self.leads or not self.lease.is_leader:
             raise Failed("NotLeader")
         if "serve" in message:
             return await self.let_serve(message["serve"]["server"])
+        if "copied" in message:
+            return await self.take_copied(message["copied"])
         asked = message["restore"]
         if asked.get("lost"):
             text = f"it is to serve {', '.join(asked['lost'])}, and has no data of that: reopen, with a document in which it has nothing"
@@ -236,6 +238,20 @@ class Member:
         if not self.controller.given_up.may_serve(server, state) or not self.lease.is_leader:
             raise Failed("GivenUp")
         return {"serves": {}, "heard": {"journal": state["journal"], "base": state["fence"]}}
+
+    async def take_copied(self, told: Line) -> Message:
+        """Notes how many replicas have each acknowledged write of a shard, unless that is known."""
+        for _ in range(2):
+            state = (await self.ask({"do": "state"})).get("state", {})
+            row = next((it for it in state.get("shards", []) if it["shard"] == told["shard"]), None)
+            if state.get("is") != "open" or state["fence"] != told["fence"] or row is None:
+                raise Failed("NotYet", "another reopening")
+            if row["copies"] >= told["copies"]:
+                return {"copied": told}
+            reply = await self.command({"do": "copied", **told})
+            if "refused" in reply:
+                raise Failed("Refused", reply["refused"]["kind"])
+        raise Failed("NotYet")
 
     async def look_at_asker(self, server: str) -> None:
         """Gives the alarm if a server asks for slots that is not recorded: it was given up, and is there again."""

@@ -64,8 +64,9 @@ class LocalCluster:
     """All processes of a cluster but the clients, by their names: servers `a`, `b`, .., controllers `k0`, .., members `etcd-0`, ..."""
 
     def __init__(self, directory: Path, shape: Shape, program: str, rates: dict = CALM, bugs: tuple[str, ...] = (),
-                 servers: str = "cluster.servers", pause: float = 0.01, lease: float = 0.0, store: str = "redis", is_slow: bool = False, notes_syncs: bool = False) -> None:
-        self.store, self.is_slow = store, is_slow
+                 servers: str = "cluster.servers", pause: float = 0.01, lease: float = 0.0, store: str = "redis", is_slow: bool = False, notes_syncs: bool = False,
+                 copies: int = 1) -> None:
+        self.store, self.is_slow, self.copies = store, is_slow, copies
         # Whether it is noted how much of a log is synced.
         syncs = library(ROOT / "build") if notes_syncs and store == "redis" else None
         self.notes_syncs = syncs is not None
@@ -103,7 +104,8 @@ class LocalCluster:
         asks = {name: f"127.0.0.1:{port}" if direct else link(f"ask {who} {name}", "lines", port) for name, port in self.asks.items()}
         etcd = [f"http://127.0.0.1:{port}" if direct else "http://" + link(f"etcd {who} {name}", "http", port) for name, port in self.members]
         file = self.directory / f"cluster-{who}.json"
-        file.write_text(json.dumps({"servers": servers, "controllers": asks, "etcd": etcd, "map_prefix": "/map/", "map_file": None, "lease": self.lease}, indent=1))
+        file.write_text(json.dumps({"servers": servers, "controllers": asks, "etcd": etcd, "map_prefix": "/map/", "map_file": None, "lease": self.lease,
+                                    "copies": self.copies}, indent=1))
         return file
 
     def add_server(self, name: str) -> None:

@@ -40,6 +40,11 @@ class Shape:
         return [f"s{it:02}" for it in range(self.shards)]
 
 
+def fewest(shape: Shape) -> int:
+    """The fewest replicas that a shard is to have: one may be down."""
+    return shape.want - min(1, shape.want)
+
+
 def document_of(shape: Shape) -> dict[str, Any]:
     """Returns a placement with each shard's replicas at different servers, in different regions where there are enough."""
     dice = random.Random(shape.seed)

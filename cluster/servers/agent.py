@@ -16,7 +16,7 @@ chosen = Agent(Path(LIBRARY).resolve()) if LIBRARY else port
 judge, begin, abandon, commit, seal, has_reached_cut = (
     chosen.judge, chosen.begin, chosen.abandon, chosen.commit, chosen.seal, chosen.has_reached_cut)
 route, fence, take, heed = chosen.route, chosen.fence, chosen.take, chosen.heed
-forget, resumes, compare = port.forget, port.resumes, port.compare
+forget, resumes, compare, copied, acknowledged = port.forget, port.resumes, port.compare, port.copied, port.acknowledged
 
 __all__ = ["VACANT", "judge", "begin", "abandon", "commit", "seal", "has_reached_cut", "route", "fence", "take", "heed", "forget", "resumes",
-           "compare"]
+           "compare", "copied", "acknowledged"]

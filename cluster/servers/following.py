@@ -64,6 +64,15 @@ class Following:
         work = self.shard.work
         return self.shard.slot.cell == Cell.PREPARED or (work is not None and work.told["call"] == "prepare_add")
 
+    def holds(self) -> bool:
+        """The order is done that brought the copy: from then on it counts."""
+        return self.shard.slot.cell in (Cell.PREPARED, Cell.SECONDARY, Cell.FORWARDING)
+
+    def tell_hold(self) -> None:
+        """Tells the source that the order is done."""
+        if self.writer is not None and not self.writer.is_closing():
+            self.writer.write(line_of({"hold": {}}))
+
     def is_done(self) -> bool:
         """A new owner that has all writes up to the cut executes itself: the old one follows from then on."""
         return self.shard.slot.cell == Cell.PREPARED and self.shard.has_reached_cut
@@ -116,7 +125,7 @@ class Following:
         try:
             position, chain = (-1, "") if self.is_fresh else (self.shard.position, self.shard.chain)
             ask = {"shard": self.shard.name, "from": self.server.name, "position": position, "chain": chain, "view": self.shard.copy.view,
-                   "takes_over": self.takes_over()}
+                   "takes_over": self.takes_over(), "number": self.server.leaves.number(), "question": self.shard.question, "holds": self.holds()}
             self.writer.write(line_of({"follow": ask, **self.server.hearsay.told()}))
             first = await self.first_message(reader)
             await self.take_all([first or {"nothere": {}}], source)
@@ -187,7 +196,7 @@ class Following:
             await self.apply(writes)
             is_done = self.is_done()
         if self.copying is None:
-            self.writer.write(line_of({"ack": self.shard.position}))
+            self.writer.write(line_of({"ack": self.shard.position, "view": self.shard.copy.view}))
         self.shard.wake()
         if is_done:
             raise EOFError
@@ -270,5 +279,5 @@ class Following:
         commands += store.mark_commands(shard.name, position, chain) + store.trim_commands(shard.name, position)
         if views != shard.views:
             commands += store.view_commands(shard.name, views)
-        await store.save(commands)
+        await store.save(commands, "applied" if self.server.cluster.copies > 1 else None, shard=shard.name, position=position)
         shard.position, shard.chain, shard.views = position, chain, views

@@ -30,8 +30,8 @@ class Leaves:
     # -- who asks
 
     async def take(self, shard: Shard, work: "Work") -> None:
-        """Gets leave to drop a shard; raises Failed if nobody gives it in time."""
-        deadline = time.monotonic() + limits.HOLDING
+        """Gets leave to drop a shard; raises Failed if nobody gives it in time. (Requests wait for a primary that drops it.)"""
+        deadline = time.monotonic() + (limits.HOLDING if shard.slot.cell == Cell.PRIMARY else limits.COPYING)
         while shard.work is work and (why := await self.ask(shard, work)):
             if not await shard.look_again(deadline):
                 raise Failed("GivenUp", why)
@@ -45,6 +45,8 @@ class Leaves:
         is_beside = primary in (None, name)
         if is_beside and not shard.has_copy:
             return "it has lost its copy"
+        if is_beside and self.server.cluster.copies > 1 and shard.slot.cell != Cell.PRIMARY and shard.copy.view > self.store.opened:
+            return "nobody leads it, and this copy may have writes of a primary since the last reopening"
         question = shard.question = self.number()
         asked = {"shard": shard.name, "from": name, "question": question, "beside": is_beside, "chain": shard.chain, **shard.copy._asdict()}
         why = await self.asked(shard, asked, others if is_beside else [primary])
@@ -54,15 +56,17 @@ class Leaves:
         return why
 
     async def asked(self, shard: Shard, asked: Message, givers: list[str]) -> str:
-        """Asks one server after the other until one gives leave; returns why none does, if so."""
-        said = []
+        """Asks one server after the other until the primary gives leave, or as many as are to have each write; returns why they do not, if so."""
+        said, needed = [], self.server.cluster.copies if asked["beside"] else 1
         for giver in givers:
             try:
                 await self.server.peer(giver).ask(limits.LEAVING, leave=asked, **self.server.hearsay.told())
-                return ""
+                needed -= 1
             except Failed as failed:
                 said.append(f"no leave from {giver}: {failed}")
-        return "; ".join(said)
+            if not needed:
+                return ""
+        return "; ".join(said) or "too few others are named"
 
     def end(self, shard: Shard) -> None:
         """The question, or the leave, is over. Who was not counted for it is counted on a new connection."""
@@ -79,12 +83,12 @@ class Leaves:
         shard = self.store.shards.get(asked["shard"])
         if shard is None:
             raise Failed("Later", "it does not serve the shard")
-        async with shard.lock:
-            why = self.refusal(shard, asked, heard)
-            if why:
-                raise Failed("Later", why)
-            shard.left[asked["from"]] = asked["question"]
-            await self.store.save([], "leave", shard=shard.name, to=asked["from"], question=asked["question"])
+        why = self.refusal(shard, asked, heard)
+        if why:
+            raise Failed("Later", why)
+        shard.left[asked["from"]] = asked["question"]
+        self.server.sources.count_anew(shard)
+        await self.store.save([], "leave", shard=shard.name, to=asked["from"], question=asked["question"])
         return {"leave": True}
 
     def refusal(self, shard: Shard, asked: Message, heard: Message | None) -> str:
@@ -96,7 +100,9 @@ class Leaves:
             return "it leaves, too"
         if not (cell == Cell.PRIMARY or (cell == Cell.PREPARED and shard.has_reached_cut) or (cell == Cell.SECONDARY and asked["beside"])):
             return "it does not serve the shard"
-        return "" if self.has_all(shard, ToldCopy(asked["view"], asked["position"]), asked["chain"]) else "it lacks writes"
+        if not self.has_all(shard, ToldCopy(asked["view"], asked["position"]), asked["chain"]):
+            return "it lacks writes"
+        return "" if cell == Cell.SECONDARY or self.server.sources.have(shard, shard.lead.acknowledged, asked["from"]) else "too few others have all"
 
     def has_all(self, shard: Shard, theirs: ToldCopy, chain: str) -> bool:
         """Whether this server's copy is not less than another one; if nobody serves, that one is a beginning of it."""

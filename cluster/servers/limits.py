@@ -16,10 +16,12 @@ PASSING = 4.0
 ACKNOWLEDGING = 6.0
 # One step between servers, and one question for leave.
 STEP = 3.0
-LEAVING = 1.0
+LEAVING = 2.0
 # How often an Unknown server asks for its slots, and a source looks after followers that are gone.
 ASKING = 0.7
 PROBING = 2.0
+# How often a primary looks whether it is to tell controllers of its copies.
+COPIED = 0.3
 # For how long a source tells that a follower had more writes than it has.
 TELLING = 30.0
 # After a copy that broke off or was refused, a follower rests so long before it asks for another one, doubled each time up to the second.

@@ -174,6 +174,7 @@ class Reopenings:
         """Makes a slot what was brought, in memory. Its lock is held."""
         before, has_taken_over = shard.slot, shard.slot.cell == Cell.PREPARED and shard.has_reached_cut
         shard.slot, shard.old_owner, shard.views = slot, None, views
+        shard.begin_to_lead()
         shard.is_marked = slot.cell == Cell.PRIMARY or (shard.is_marked and slot.cell != Cell.ABSENT)
         if slot.cell == before.cell == Cell.PRIMARY:
             shard.wake()

@@ -12,6 +12,7 @@ from smplan.agent import Base, Cell, Request, Slot
 
 from ..wire import Channel, Cluster, Failed, Message, read_message, line_of
 from . import agent, limits
+from .copied import Copied
 from .following import Following
 from .leaves import Leaves
 from .peers import Hearsay, Lease
@@ -28,7 +29,7 @@ class Server:
 
     # What it is made of. (A planted bug is another class in place of one of these: planted.py.)
     following_type, sources_type, orders_type, requests_type, reopenings_type = Following, Sources, Orders, Requests, Reopenings
-    leaves_type = Leaves
+    leaves_type, copied_type = Leaves, Copied
 
     def __init__(self, name: str, cluster: Cluster, store: Store, think: float = 0, lag: float = 0) -> None:
         self.name, self.cluster, self.store = name, cluster, store
@@ -38,7 +39,7 @@ class Server:
         self.peers: dict[str, Channel] = {}
         self.sources, self.orders, self.requests = self.sources_type(self), self.orders_type(self), self.requests_type(self)
         self.reopenings, self.hearsay, self.lease = self.reopenings_type(self), Hearsay(self), Lease(self, cluster.lease)
-        self.leaves = self.leaves_type(self)
+        self.leaves, self.copied = self.leaves_type(self), self.copied_type(self)
         self.tasks: set[asyncio.Task[Any]] = set()
         self.asking: asyncio.Task[None] | None = None
 
@@ -61,10 +62,14 @@ class Server:
             shard.slot = agent.abandon(shard.slot)
             commands += self.store.slot_commands(shard.name, shard.slot)
         await self.store.save(commands, "start", server=self.name, loses_slots=loses_slots, known=bool(self.store.base.known),
-                              at_work=len(at_work), library=bool(agent.LIBRARY), nonce=hexadecimal(self.store.base.nonce))
+                              at_work=len(at_work), library=bool(agent.LIBRARY), nonce=hexadecimal(self.store.base.nonce),
+                              copies=[it.name for it in self.store.shards.values() if it.has_copy])
+        for shard in self.store.shards.values():
+            shard.begin_to_lead(max(shard.position, shard.slot.cut))
         self.begin(self.sources.probe())
         self.begin(self.hearsay.ask_around())
         self.begin(self.lease.keep())
+        self.begin(self.copied.tell())
         self.begin(self.keep_notes())
         self.resume()
 
@@ -145,6 +150,7 @@ class Server:
         commands.append(("HSET", "old_owner", shard.name, old_owner))
         await self.store.save(commands, "seal", shard=shard.name, handover=handover, cut=cut, position=shard.position)
         shard.slot, shard.members, shard.old_owner, shard.away = after, members, old_owner, away
+        shard.begin_to_lead(max(shard.position, cut))
         shard.expect(members)
 
     def waited_for(self, shard: Shard) -> str:
@@ -157,7 +163,7 @@ class Server:
             while (message := await read_message(reader)) is not None:
                 await self.hearsay.hear(message)
                 if "follow" in message:
-                    await self.sources.serve(reader, writer, message["follow"])
+                    await self.sources.serve(reader, writer, {**message["follow"], "heard": message.get("heard")})
                     return
                 self.begin(self.answer_peer(message, writer))
         except asyncio.CancelledError:

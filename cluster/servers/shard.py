@@ -58,6 +58,17 @@ def shortened(text: str) -> str:
 
 
 @dataclass
+class Lead:
+    """What a source knows since it began to lead: its position then, up to where enough servers had all at one moment, up to where writes are acknowledged, and the
+    last reopening under which a controller knows that enough servers have all that was here then."""
+
+    noted: int = 0
+    acknowledged: int = 0
+    enough: int = -1
+    told: int = -1
+
+
+@dataclass
 class Shard:
     """One shard at one server. Who changes anything of it holds its lock."""
 
@@ -100,6 +111,12 @@ class Shard:
     has_leave: bool = False
     # (at who gives leave: the question of each server that has got it)
     left: dict[str, int] = field(default_factory=dict)
+    lead: Lead = field(default_factory=Lead)
+
+    def begin_to_lead(self, position: int | None = None) -> None:
+        """Notes its position, or up to where it is to have all, before anything is acknowledged here."""
+        noted = self.position if position is None else position
+        self.lead = Lead(noted, noted)
 
     def expect(self, members: set[str]) -> None:
         """Begins as a source: who was connected to the one before has yet to come; who was away is away."""

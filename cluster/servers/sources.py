@@ -11,7 +11,7 @@ from smplan.agent import Cell, ToldCopy
 
 from ..resp import ErrorReply
 from ..wire import Message, line_of, read_message
-from . import limits
+from . import agent, limits
 from .shard import Entry, Shard
 from .store import TooLarge
 
@@ -23,9 +23,12 @@ class Stream:
     """A follower's connection for one shard. Once it has joined, writes wait for it, unless it is a new owner before
     the cut."""
 
-    def __init__(self, name: str, writer: asyncio.StreamWriter, start: int, takes_over: bool) -> None:
-        self.name, self.writer, self.start, self.takes_over = name, writer, start, takes_over
-        self.acked = -1
+    def __init__(self, writer: asyncio.StreamWriter, start: int, ask: Message) -> None:
+        self.name, self.writer, self.start, self.takes_over = ask["from"], writer, start, ask["takes_over"]
+        self.acked, self.view, self.begun = -1, 0, time.monotonic()
+        # Its number, the question that the follower asked by then, the reopening by which it had its slots, and whether its copy's order is done.
+        heard = ask.get("heard") or {"journal": "0", "base": -1}
+        self.number, self.question, self.opened, self.holds = ask["number"], ask["question"], (int(heard["journal"], 16), heard["base"]), ask["holds"]
         self.has_joined = False
         # When a piece of a copy was sent last, until all of it is.
         self.copied_at: float | None = None
@@ -69,8 +72,13 @@ class Sources:
             while (message := await read_message(reader)) is not None:
                 if "leave" in message:
                     await self.leave(shard, stream.name)
+                elif "hold" in message:
+                    stream.holds = True
+                    self.count(shard)
+                    shard.wake()
                 elif "ack" in message:
-                    stream.acked = max(stream.acked, message["ack"])
+                    stream.acked, stream.view = max(stream.acked, message["ack"]), message["view"]
+                    self.count(shard)
                     if not stream.has_joined and stream.acked >= stream.start:
                         await self.join(shard, stream)
                     shard.wake()
@@ -96,7 +104,7 @@ class Sources:
             if tail is None and time.monotonic() < shard.too_large[1]:
                 writer.write(line_of(self.too_large(shard)))
                 return None
-            stream = Stream(name, writer, shard.position, ask["takes_over"])
+            stream = Stream(writer, shard.position, ask)
             if tail is None:
                 stream.copied_at = time.monotonic()
                 stream.send({"copy": {"position": shard.position, "tail": await self.store.last_writes(shard.name)}, **self.server.hearsay.told()})
@@ -244,19 +252,52 @@ class Sources:
         missing = sorted(it for it in shard.members - {self.server.name} if it not in streams or streams[it].acked < position)
         return {it: now - shard.seen.get(it, self.start) for it in missing}
 
+    def counts(self, shard: Shard, stream: Stream) -> bool:
+        """Whether what a follower says on this connection counts: its copy's order is done, it was settled at the last reopening when it connected, and it has not
+        asked for leave by then, nor got it since."""
+        journal, opened = stream.opened
+        is_settled = journal == self.store.base.journal and opened >= self.store.opened
+        return stream.holds and is_settled and not stream.question and stream.number > shard.left.get(stream.name, 0)
+
+    def told(self, shard: Shard, without: str = "") -> list[ToldCopy]:
+        """The copies of followers that count. One that leaves does not."""
+        return [ToldCopy(it.view, it.acked) for it in shard.streams.values() if it.name != without and self.counts(shard, it)]
+
+    def count(self, shard: Shard) -> None:
+        """Notes up to where enough servers have all, this one among them: each write was there at one moment."""
+        copies, told = self.server.cluster.copies, self.told(shard)
+        position = agent.acknowledged(copies, shard.copy, told) if copies > 1 else -1
+        if agent.copied(copies, shard.copy, told, position):  # (there may be nobody else, even for nothing)
+            shard.lead.enough = max(shard.lead.enough, position)
+
+    def count_anew(self, shard: Shard) -> None:
+        """One that counted has got leave: what is not acknowledged yet is to be elsewhere."""
+        shard.lead.enough = -1
+        self.count(shard)
+
+    def have(self, shard: Shard, position: int, without: str) -> bool:
+        """Whether enough servers have the writes up to a position now, without one that leaves."""
+        return agent.copied(self.server.cluster.copies, shard.copy, self.told(shard, without), position)
+
+    def may_acknowledge(self, shard: Shard, position: int) -> bool:
+        """Whether enough servers have the writes up to a position."""
+        return self.server.cluster.copies < 2 or position <= shard.lead.enough
+
     async def replicated(self, shard: Shard, position: int, term: int) -> None:
-        """Waits until all who are alive have the writes up to a position, or the term has ended. A request that waits for too long is not acknowledged:
-        clients ask again in the meantime, and those that nobody hears any more would become ever more."""
+        """Waits until all who are alive, and enough servers, have the writes up to a position, or the term has ended. A request that waits for too long is not
+        acknowledged: clients ask again in the meantime, and those that nobody hears any more would become ever more."""
         begun = time.monotonic()
         silent_at = begun + limits.SILENT_AFTER
-        while shard.term == term and (lacking := self.lacking(shard, position)):
+        while shard.term == term and not (self.may_acknowledge(shard, position) and not self.lacking(shard, position)):
             if time.monotonic() > begun + limits.ACKNOWLEDGING:
-                self.store.note("unacknowledged", shard=shard.name, position=position, lacking=lacking)
+                self.store.note("unacknowledged", shard=shard.name, position=position, lacking=self.lacking(shard, position))
                 raise ErrorReply(f"LOST {shard.name}")
             if time.monotonic() > silent_at:
-                self.give_up(shard, lacking)
+                self.give_up(shard, self.lacking(shard, position))
                 silent_at += limits.SILENT_AFTER
             await shard.look_again(time.monotonic() + 1)
+        if shard.term == term:
+            shard.lead.acknowledged = max(shard.lead.acknowledged, position)
         await self.tell_alone(shard, position, term)
 
     async def tell_alone(self, shard: Shard, position: int, term: int) -> None:
@@ -268,7 +309,7 @@ class Sources:
     def give_up(self, shard: Shard, names: list[str]) -> None:
         """These are silent for too long: they have to come again. (An old owner is waited for all the same.)"""
         for name in names:
-            if name in shard.streams and shard.streams[name].is_copying:
+            if name in shard.streams and (shard.streams[name].is_copying or time.monotonic() - shard.streams[name].begun < limits.SILENT_AFTER):
                 continue
             stream = shard.streams.pop(name, None)
             if stream is not None:

@@ -260,6 +260,8 @@ class Orders:
         cell, server = shard.slot.cell, self.server
         if cell == Cell.PRIMARY:
             server.stop_following(shard)
+            if before != Cell.PREPARED:
+                shard.begin_to_lead()
             if before == Cell.SECONDARY:
                 shard.expect(shard.members)
         elif cell == Cell.FORWARDING:
@@ -273,3 +275,5 @@ class Orders:
             server.start_following(shard)
         elif shard.following is None:
             server.start_following(shard)
+        else:
+            shard.following.tell_hold()

@@ -48,7 +48,7 @@ class Scripted:
     """Some servers, and who tells them what to do."""
 
     def __init__(self, names: str, bug: str | None = None, think: float = 0.0, lag: float = 0.0, store: str = "redis",
-                 times: float = 1.0) -> None:
+                 times: float = 1.0, copies: int = 1) -> None:
         self.names, self.bug, self.think, self.lag, self.store = list(names), bug, think, lag, store
         # How many times as long servers wait for one that is gone or silent.
         self.times = times
@@ -62,7 +62,7 @@ class Scripted:
         self.desk = Address("127.0.0.1", next(ports))
         self.map_file, self.file = self.dir / "map.json", self.dir / "cluster.json"
         self.file.write_text(json.dumps(
-            {"servers": servers, "controllers": {"k": f"{self.desk.host}:{self.desk.port}"}, "map_file": str(self.map_file)}))
+            {"servers": servers, "controllers": {"k": f"{self.desk.host}:{self.desk.port}"}, "map_file": str(self.map_file), "copies": copies}))
         self.map: dict[str, str | None] = {}
         self.publish({})
         self.cluster = Cluster.read(self.file)
@@ -71,6 +71,7 @@ class Scripted:
         self.number, self.base, self.handovers = 0, 0, 0
         self.answered: list[dict] = []
         self.asked: dict[str, str] = {}
+        self.copied: list[dict] = []
         self.listener: asyncio.Server | None = None
         self.generator: Generator | None = None
 
@@ -112,7 +113,10 @@ class Scripted:
         return self.told_by(name).read_bytes() == b"ready\n"
 
     async def hear(self, message: dict) -> dict:
-        """A server asks for its slots."""
+        """A server asks for its slots, or tells of copies."""
+        if "copied" in message:
+            self.copied.append(message["copied"])
+            return {"copied": message["copied"]}
         self.asked[message["restore"]["server"]] = message["restore"]["nonce"]
         raise Failed("Refused", "not now")
 

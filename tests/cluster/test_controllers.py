@@ -3,6 +3,7 @@ import asyncio
 import json
 import logging
 import unittest
+from unittest.mock import AsyncMock
 
 from smplan.control import DONE, StoreLost
 
@@ -11,6 +12,8 @@ from cluster.controllers.fleet import from_wire
 from cluster.controllers.journal import LEADER, EtcdJournal, key_of
 from cluster.controllers.lease import Lease
 from cluster.controllers.map_owner import BASE, MapOwner
+from cluster.controllers.member import Member
+from cluster.wire import Failed
 
 
 # (asyncio tells in its debug mode of each step that a busy machine made slow)
@@ -220,3 +223,28 @@ class KeysTest(unittest.TestCase):
         keys = [key_of(it) for it in (1, 9, 10, 99, 100, 999_999_999)]
         self.assertEqual(keys, sorted(keys))
         self.assertTrue(all(it < end_of("smplan/journal/") for it in keys))
+
+
+class CopiesTest(unittest.IsolatedAsyncioTestCase):
+    """What a controller does whose server tells of copies."""
+
+    TOLD = {"journal": "7", "fence": 9, "shard": "s", "copies": 2}
+
+    def member(self, *copies, fence=9, word="open", reply=None):
+        """A controller that leads, and knows of so many copies each time it is asked."""
+        member = object.__new__(Member)
+        states = [{"state": {"is": word, "fence": fence, "shards": [{"shard": "s", "copies": it}]}} for it in copies]
+        member.ask, member.command = AsyncMock(side_effect=states), AsyncMock(return_value=reply or {"copied": {}})
+        return member
+
+    async def test_it_is_written_once(self):
+        for copies, written in (((1, 2), 1), ((2,), 0)):
+            member = self.member(*copies)
+            self.assertEqual(await member.take_copied(self.TOLD), {"copied": self.TOLD})
+            self.assertEqual(member.command.await_count, written)
+
+    async def test_it_is_told_again_unless_it_is_written(self):
+        refused = {"refused": {"kind": "AboveWant"}}
+        for member in (self.member(1, 1, reply={"ignored": "old"}), self.member(1, fence=8), self.member(1, word="reopening"), self.member(1, reply=refused)):
+            with self.assertRaises(Failed):
+                await member.take_copied(self.TOLD)

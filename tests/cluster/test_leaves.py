@@ -99,7 +99,7 @@ class Peers:
 
         store = SimpleNamespace(shards=shards, base=Base(journal=7, number=1, known=1), opened=1, save=save)
         server = SimpleNamespace(name=name, cluster=self.cluster, store=store, peer=lambda to: SimpleNamespace(ask=lambda seconds, **it: self.ask(to, **it)),
-                                 sources=SimpleNamespace(have=lambda shard, position, without: True))
+                                 sources=SimpleNamespace(have=lambda shard, position, without: True, count_anew=lambda shard: None))
         server.hearsay, server.leaves = Hearsay(server), Leaves(server)
         return server
 
