@@ -192,6 +192,8 @@ class Checker:
             if other.base == host.base and copy_of(other.told.get(name)) > copy_of(host.told.get(name)):
                 self.fault(event, f"it inherits {name}, of which {other.name} has told a greater copy")
         acknowledged = shard.alone.get(host.name, 0)
+        is_lost = shard.executor is not None and self.hosts[shard.executor[0]].is_lost
+        self.counts["primaries lost without a name"] += is_lost and event["base"] not in self.named.get(name, ())
         if event["base"] in self.named.get(name, ()):
             last = shard.data.length if host.name in shard.unjoined else acknowledged
             writes = shard.data.writes[position:last]

@@ -248,7 +248,7 @@ async def histories_of(cluster: LocalCluster) -> Path:
 
 def written_lines(journal: Journal, keys: list[str], seen: dict[str, int]) -> list[str]:
     """The lines of a journal, each with a moment at which it was there, and what it got as a reply that says something of servers."""
-    told = [{it: reply[it] for it in ("approved", "up") if it in reply} for reply in journal.told]
+    told = [{it: reply[it] for it in ("approved", "up", "copied") if it in reply} for reply in journal.told]
     return [json.dumps({"t": seen.get(key, NEVER), "line": json.loads(text), "reply": reply}) for key, text, reply in zip(keys, journal.lines, told)]
 
 
@@ -273,7 +273,7 @@ async def judge(cluster: LocalCluster, operator: Operator, program: list[str], r
 
 
 async def run_checkers(verdict: Verdict, cluster: LocalCluster, journal: Journal, keys: list[str], evidence: Evidence) -> None:
-    """Writes down what the checkers read, and runs both."""
+    """Writes down what the checkers read, and runs them."""
     where = cluster.directory
     write_lines(where / "journal.jsonl", journal.lines)
     write_lines(where / "replies.txt", [f"{count} {what}" for what, count in journal.replies.items()])
@@ -288,3 +288,6 @@ async def run_checkers(verdict: Verdict, cluster: LocalCluster, journal: Journal
     gone = write_lines(where / "gone.jsonl", [])
     await run_checker(verdict, "cluster.checkers.servers", where, *words, f"--gone={gone}")
     await run_checker(verdict, "cluster.checkers.clients", where, str(where / "clients.jsonl"), f"--gone={gone}")
+    if cluster.copies > 1:
+        files = {"history": "histories", "clients": "clients", "written": "written", "permits": "permits"}
+        await run_checker(verdict, "cluster.checkers.copies", where, f"--copies={cluster.copies}", *(f"--{it}={where / f'{name}.jsonl'}" for it, name in files.items()))
