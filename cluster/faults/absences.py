@@ -74,6 +74,22 @@ class AbsenceStory(ServerStory, LossStory):
                 await asyncio.sleep(0.3)
             self.counts["stores stopped"] += 1
 
+    async def stop_two(self) -> None:
+        """Stops two servers for longer than others wait for them, both secondaries of one shard if there is one."""
+        async with self.restarting:
+            rows = [[cell["server"] for cell in it["cells"] if cell["state"] == "secondary"] for it in (await self.state()).get("shards", [])]
+            pairs = sorted({tuple(it[:2]) for it in rows if len(it) > 1 and not self.lost & set(it)})
+            names = self.dice.choice(pairs) if pairs else self.dice.sample(self.alive, min(2, len(self.alive)))
+            self.tell(f"stop {' and '.join(sorted(names))} for {STOPS[-1]:g} s")
+            for name in names:
+                self.cluster.processes[name].signal_group(signal.SIGSTOP)
+            try:
+                await asyncio.sleep(STOPS[-1])
+            finally:
+                for name in names:
+                    self.cluster.processes[name].signal_group(signal.SIGCONT)
+            self.counts["stops of two servers at once"] += 1
+
     def signal_store(self, name: str, number: int) -> None:
         """Sends a signal to a server's store alone."""
         for pid in self.stores(name):

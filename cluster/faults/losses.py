@@ -9,8 +9,12 @@ from contextlib import contextmanager
 
 from smplan.control import Line
 
+from cluster.launch.shape import fewest
+
 from .reopenings import ReopeningStory, without
 
+# For how many seconds a secondary does not hear its primary, so that writes go on without it.
+ABSENT = 4.5
 # A shard that a server has, its state and its last write.
 Replica = tuple[str, str, int]
 
@@ -62,10 +66,11 @@ class LossStory(ReopeningStory):
         return [(it["shard"], it["state"], it["position"]) for audit in audits for it in audit.get("slots", [])]
 
     async def may_lose(self) -> bool:
-        """Waits until a server may be given up: each shard has as many replicas as it is to have, and they have all writes. Tells whether it may."""
-        if await self.wait_until_whole() and await self.wait_until_caught_up():
+        """Waits until a server may be given up: each shard has as many replicas as it is to have, and all of them have all writes, if each write is not at two servers
+        anyway. Tells whether it may."""
+        if await self.wait_until_whole() and (fewest(self.cluster.shape) > 1 or await self.wait_until_caught_up()):
             return True
-        self.tell("no server is given up: some shard lacks a replica that has all writes")
+        self.tell("no server is given up: some shard lacks a replica, or one that has all writes")
         self.counts["losses left out"] += 1
         return False
 
@@ -124,14 +129,25 @@ class LossStory(ReopeningStory):
             await self.lose(server, "which others follow late")
 
     @contextmanager
-    def left_alone(self, server: str, state: Line) -> Iterator[None]:
-        """Has the shards whose primary a server has stay there while something is done. Clients use them as if they were moved."""
+    def left_alone(self, server: str, state: Line, are_used: bool = True) -> Iterator[None]:
+        """Has the shards whose primary a server has stay there while something is done. Clients use them as if they were moved, unless they are not to."""
         shards = {it["shard"] for it in state["shards"] if any(cell["server"] == server and cell["state"] == "primary" for cell in it["cells"])} - self.mover.busy
         self.mover.busy |= shards
+        self.mover.passed |= set() if are_used else shards
         try:
             yield
         finally:
             self.mover.busy -= shards
+            self.mover.passed -= shards
+
+    @contextmanager
+    def avoided(self, server: str) -> Iterator[None]:
+        """Has nothing moved to a server while something is done."""
+        self.mover.avoided.add(server)
+        try:
+            yield
+        finally:
+            self.mover.avoided.discard(server)
 
     async def lose_beside_restart(self) -> None:
         """Gives a server up for good, under load, while a secondary of its shards that was restarted a moment ago has yet to catch up."""
@@ -155,6 +171,33 @@ class LossStory(ReopeningStory):
             self.counts["primaries lost while a restarted replica catches up"] += 1
             await self.reopen(without(await self.state(), self.document, self.lost), [server], f"{server} died")
 
+    async def lose_beside_absent(self) -> None:
+        """Gives a secondary up for good, under load, while writes go on without another one of the shard."""
+        await self.lose_while_absent(False)
+
+    async def lose_primary_beside_absent(self) -> None:
+        """Gives a primary up for good, under load, while writes go on without one of its two secondaries: the other one has all."""
+        await self.lose_while_absent(True)
+
+    async def lose_while_absent(self, is_primary: bool) -> None:
+        """Gives a server up while a secondary has been away for so long that writes go on without it, and reopens. That one hears of other servers a second later."""
+        async with self.restarting, self.reopening:
+            if not await self.may_lose():
+                return
+            state = await self.state()
+            server = self.most_primaries(state)
+            followers = self.followers(state, server)
+            if server is None or len(followers) < 2:
+                return
+            absent, lost = followers[0], server if is_primary else followers[1]
+            with self.left_alone(server, state, are_used=False), self.avoided(absent):
+                async with self.cut(f"peer {absent} "):
+                    await asyncio.sleep(ABSENT)
+                    await self.lose(lost, f"while {absent} hears no server")
+                    await self.reopen(without(await self.state(), self.document, self.lost), [lost], f"{lost} died")
+                    await asyncio.sleep(1.0)
+            self.counts["servers lost while another replica was away"] += 1
+
     async def lose(self, server: str, how: str) -> None:
         """Kills a server for good as it is."""
         self.tell(f"kill -9 {server} for good, {how}")
@@ -171,6 +214,10 @@ class LossStory(ReopeningStory):
 
     def first_follower(self, state: Line, server: str | None) -> str | None:
         """A server that has a secondary of a shard whose primary a server has."""
+        return next(iter(self.followers(state, server)), None)
+
+    def followers(self, state: Line, server: str | None) -> list[str]:
+        """The servers that have secondaries of the first shard whose primary a server has."""
         rows = [{cell["server"]: cell["state"] for cell in shard["cells"]} for shard in state.get("shards", [])]
-        found = [name for row in rows if row.get(server) == "primary" for name, word in row.items() if word == "secondary"]
-        return found[0] if found else None
+        found = [[name for name, word in row.items() if word == "secondary"] for row in rows if row.get(server) == "primary"]
+        return next((it for it in found if it), [])

@@ -10,7 +10,7 @@ Parts = tuple[tuple[float, str], ...]
 USUAL = (("kill_leader", 1), ("freeze_leader", 1), ("kill_member", 1), ("crash_server", 2), ("restart_server", 4), ("drain", 1))
 # What is drawn beside that: servers, controllers and members of etcd that are away, all at once or in part.
 AWAY = (
-    "crash_two", "crash_all", "stop_server", "stop_store", "lose_answers", "isolate_server", "black_hole", "fill_disk", "cut_to_last_sync",
+    "crash_two", "crash_all", "stop_server", "stop_two", "stop_store", "lose_answers", "isolate_server", "black_hole", "fill_disk", "cut_to_last_sync",
     "kill_controllers", "lose_answers_of_etcd", "kill_members",
     "lose_quorum", "kill_first_member", "stop_first_member", "compact", "ask_too_much",
 )
@@ -18,11 +18,14 @@ AWAY = (
 REOPENINGS = ("reopen_behind_leader", "reopen_before_write", "reopen_behind_cut", "reopen_amid_passing", "reopen_while_down")
 # What is done with handovers, and with servers that lose their slots twice.
 OTHERS = ("break_following", "hand_over_unheard", "forget_twice")
-# A server, or its disk, is given up. Before that each shard has all its replicas, with all writes: the rules keep what was acknowledged.
+# A server, or its disk, is given up. Before that each shard has all its replicas, with all writes unless each is at two servers: the rules keep what was acknowledged.
 LOSSES = ("lose_server", "lose_lagging", "lose_behind_cut", "lose_beside_restart", "replace_disk", "replace_disk_under_permit")
+# Those that need three replicas, and what the last part of a run is then, whose seed is even: its shards have so many.
+OF_THREE = ("lose_beside_absent", "lose_primary_beside_absent")
+LAST_OF_THREE = ("lose_lagging", "lose_behind_cut", *OF_THREE)
 # What the rules as they stand do not survive: never drawn. A run has them if they are named.
 OUTSIDE = ("return_given_up", "give_up_isolated", "roll_back", "restore_etcd", "restore_etcd_alone")
-EVERY = (*(name for name, _ in USUAL), *AWAY, *REOPENINGS, *OTHERS, *LOSSES)
+EVERY = (*(name for name, _ in USUAL), *AWAY, *REOPENINGS, *OTHERS, *LOSSES, *OF_THREE)
 
 
 # The parts that are about copies, about members that are away or late, and about the map.
@@ -41,7 +44,7 @@ MAP = ("drain", "kill_leader", "freeze_leader", "restart_server", "lose_answers_
 def of_rule(names: tuple[str, ...], seed: int) -> Parts:
     """Parts drawn by a seed from those that a rule names: four, or two if a server is given up."""
     dice = random.Random(f"rule {seed}")
-    return evenly(dice.choices(names, k=2 if set(names) & {*LOSSES, *LEASED} else 4))
+    return evenly(dice.choices(names, k=2 if set(names) & {*LOSSES, *OF_THREE, *LEASED} else 4))
 
 
 def storm_of(seed: int) -> Parts:
@@ -56,14 +59,14 @@ def storm_of(seed: int) -> Parts:
         names.remove("freeze_leader")
     if dice.random() < 0.5:
         names.append(dice.choice(LOSSES))
-    last = "reopen_amid_passing" if dice.random() < 0.25 else dice.choice(LOSSES)
+    last = "reopen_amid_passing" if dice.random() < 0.25 else dice.choice(LOSSES if seed % 2 else LAST_OF_THREE)
     return tuple(sorted([*((dice.uniform(0.05, 0.75), name) for name in names), (0.8, last)]))
 
 
 def drawn(seed: int, count: int) -> Parts:
     """Some different parts, drawn by a seed. The last one gives a server or its disk up, and no other does."""
     dice = random.Random(f"drawn {seed}")
-    names = dice.sample([it for it in EVERY if it not in LOSSES], count - 1)
+    names = dice.sample([it for it in EVERY if it not in (*LOSSES, *OF_THREE)], count - 1)
     return evenly([*names, dice.choice(LOSSES)])
 
 

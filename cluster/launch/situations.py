@@ -18,17 +18,20 @@ SITUATIONS = (
     "a late settle", "a second reopening in place of one under way", "a server lost between fence and settle",
     "a late publication after a reopening", "a failover",
     "a restart amid a reopening", "a server carried over a reopening", "a server left behind a reopening", "a primary lost while replicas lag",
-    "a primary lost while a restarted replica catches up", "a new owner lost behind the cut", "a disk replaced", "a disk replaced under a permit",
-    "a full disk", "a slow disk", "a log cut to its last sync", "a server stopped",
+    "a primary lost while a restarted replica catches up", "a new owner lost behind the cut",
+    "a server lost while another replica was away", "a disk replaced", "a disk replaced under a permit",
+    "a full disk", "a slow disk", "a log cut to its last sync", "a server stopped", "two servers stopped",
     "answers of a server lost", "a server cut off from all but clients", "a server in a black hole", "two servers at once", "all servers at once",
     "all controllers at once", "all of etcd at once",
     "no quorum of etcd", "etcd's leader killed", "etcd's leader stopped", "etcd's answers to a leader lost", "etcd's history compacted",
     "a line that is too large", "a handover that clients did not hear of", "a write acknowledged while a member was away",
+    "a primary was lost and its shard was not named",
 )
 # What the story itself counts.
 TOLD = {
     "a server carried over a reopening": "servers carried over a reopening", "a primary lost while replicas lag": "primaries lost while replicas lag",
     "a primary lost while a restarted replica catches up": "primaries lost while a restarted replica catches up", "a disk replaced": "disks replaced",
+    "a server lost while another replica was away": "servers lost while another replica was away", "two servers stopped": "stops of two servers at once",
     "a full disk": "servers whose disk was full", "a slow disk": "stores stopped", "a server stopped": "servers stopped",
     "answers of a server lost": "servers whose answers were lost", "a server cut off from all but clients": "servers cut off from all but clients",
     "a server in a black hole": "servers in a black hole",
@@ -175,5 +178,6 @@ def situations_of(events: list[dict], replies: Counter[str], counts: Counter[str
     found["a server left behind a reopening"] = kinds["forget"]
     found["a new owner lost behind the cut"] = lost_behind_cut(ordered)
     found["a write acknowledged while a member was away"] = kinds["alone"]
+    found["a primary was lost and its shard was not named"] = counts["servers: primaries lost without a name"]
     found.update({what: counts[told] for what, told in TOLD.items()})
     return +found
