@@ -151,7 +151,7 @@ class Reopenings:
             slot = after[shard.name]
             commands += self.store.slot_commands(shard.name, slot)
             if slot.cell == Cell.ABSENT:
-                commands += await self.store.delete_commands(shard.name)
+                commands += await self.store.aside_commands(shard)
             elif slot.cell == Cell.PRIMARY:
                 commands += self.store.mark_commands(shard.name, shard.position, shard.chain) + self.store.view_commands(shard.name, views[shard.name])
         positions = {it.name: it.position for it in shards}

@@ -5,6 +5,7 @@
     keys:S        the keys of shard S          d:S:key                 their values
     done:S        by identity, the reply       tail:S                  the last writes, which who follows may lack
     copied:S, new:S:key, answered:S            a copy that is on its way: its keys, their values, and the replies by identity
+    aside:S:view:position, ..:key              a copy that was taken away: its keys, and their values, until an operator deletes them
     history       what happened, as JSON lines
 """
 from __future__ import annotations
@@ -187,6 +188,13 @@ class Store:
         keys = [data_key(shard, it) for it in await self.data_keys(shard)]
         own = [f"{it}:{shard}" for it in ("keys", "done", "tail")]
         return [("UNLINK", *own, *keys), *(("HDEL", it, shard) for it in ("mark", "views", "members", "old_owner"))]
+
+    async def aside_commands(self, shard: Shard) -> list[Command]:
+        """Takes a shard's copy away. Others may not have all of its writes, so its values are set aside under its view and position."""
+        keys, place = await self.data_keys(shard.name), f"aside:{shard.name}:{shard.copy.view}:{shard.position}"
+        commands = [("RENAME", data_key(shard.name, it), f"{place}:{it}".encode("latin-1")) for it in keys]
+        commands += [("RENAME", f"keys:{shard.name}", place)] if keys else []
+        return commands + await self.delete_commands(shard.name)
 
     # -- copies: at the source
 

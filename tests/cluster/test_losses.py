@@ -8,6 +8,7 @@ from scripted import PATIENCE, Scripted, ServersTest
 
 from cluster.checkers.servers import Checker
 from cluster.resp import Redis
+from cluster.servers.engines import open_redis, start_redis
 from cluster.servers.history import history_of
 
 CELLS = {"s": {"a": "primary", "c": "secondary"}}
@@ -73,8 +74,37 @@ async def named() -> dict[str, bool]:
         it.close()
 
 
+async def set_aside() -> dict[str, bool]:
+    """What a server has of a copy that a settle takes away."""
+    it = Scripted("ac")
+    try:
+        await it.start()
+        await it.open(CELLS)
+        view = it.base
+        await push(it, "a", "one")
+        await has(it, "c", 1)
+        await it.settle(await it.fence(), {"s": {"a": "primary"}})
+        await it.channels["c"].ask(PATIENCE, audit={})
+        it.kill("c")
+        child = start_redis(it.dir / "c")
+        engine = await open_redis(it.dir / "c")
+        try:
+            values = await engine.call("LRANGE", f"aside:s:{view}:1:k", 0, -1)
+            return {"its values are there": values == [b"one"], "its keys, too": await engine.call("SMEMBERS", f"aside:s:{view}:1") == [b"k"],
+                    "the shard has none": await engine.call("SMEMBERS", "keys:s") == []}
+        finally:
+            engine.close()
+            child.kill()
+            child.wait()
+    finally:
+        it.close()
+
+
 class LossesTest(ServersTest):
     """Writes that are gone with a reopening."""
 
     def test_what_was_acknowledged_while_its_new_primary_was_away(self):
         self.finds(named)
+
+    def test_what_a_settle_takes_away(self):
+        self.finds(set_aside)
