@@ -6,6 +6,7 @@ import asyncio
 import shutil
 import sys
 import time
+from dataclasses import replace
 
 from cluster.controllers.bugs import BUGS as CONTROLLER_BUGS
 from cluster.faults.parts import COPIES, HANDOVERS, LATE, LEADERS, LEASED, MAP, MEMBERS, REOPENING_AT_WORK, of_rule, storm_of
@@ -36,6 +37,8 @@ PARTS_OF = {
     "commit-after-fence": REOPENINGS,
     "settle-twice": REOPENINGS,
     "cut-unheeded": tuple((share, "break_following") for share in OFTEN),
+    "acknowledges-alone": tuple((share, "stop_two") for share in OFTEN[::2]),
+    "copied-too-early": ((0.1, "lose_beside_absent"), (0.6, "lose_beside_absent")),
 }
 # For a bug that breaks a rule, the parts that this rule is about. A run draws from them, and nothing else is made for the bug.
 RULE_OF = {
@@ -54,7 +57,7 @@ RULE_OF = {
     "answer-before-done": MEMBERS, "any-reply-counts": MEMBERS,
     "copy-without-identities": ("hand_over_unheard",), "copy-counts-twice": COPIES, "copy-without-meanwhile": COPIES,
     "copy-without-values": COPIES, "joined-at-once": COPIES,
-    "leave-not-asked": ("drain", "crash_two", "stop_server", "isolate_server"),
+    "acknowledges-alone": ("stop_two",), "copied-too-early": ("lose_beside_absent",), "leave-not-asked": ("drain", "crash_two", "stop_server", "isolate_server"),
     "heed-nothing": ("reopen_while_down",), "forgets-and-rests": ("reopen_while_down",),
     "map-names-prepared": MAP, "map-write-left-out": MAP, "map-settled-without-entries": ("reopen_behind_cut", "reopen_amid_passing"),
 }
@@ -77,6 +80,10 @@ MOVES_OF = {"commit-after-fence": 1}
 LEASE_OF = {"lease-unheeded": 2.0, "confirm-before-lease-ends": 2.0}
 
 
+# How many servers have each write before it is acknowledged, if a bug is about that.
+COPIES_OF = {"leave-not-asked": 2, "copied-too-early": 2, "acknowledges-alone": 2}
+
+
 # The words for a run that gave no verdict, and for one that did not come to what is harmful.
 NO_END, LEFT_OUT = "the run did not come to its end", "nothing, and a loss was left out"
 
@@ -89,7 +96,7 @@ def most_telling(faults: list[str]) -> str | None:
 async def first_violation(bug: str, seed: int, told: argparse.Namespace) -> str | None:
     """Runs once with a bug, or as it would be with the bug, and returns the first violation."""
     directory = new_directory(f"catch-{bug}-", told.dir)
-    shape = shape_of(told, seed)
+    shape = replace(shape_of(told, seed), want=(told.copies or COPIES_OF.get(bug, 1)) + 1)
     recipe = "a storm" if told.storm else bug
     parts = storm_of(seed) if told.storm else PARTS_OF.get(bug, PARTS) if told.recipe else of_rule(RULE_OF[bug], seed)
     recipe = recipe if told.recipe else ""

@@ -32,5 +32,7 @@ BUGS = {
     "lease-unheeded": "a server serves on when no controller has answered it for the time of its lease",
     "not-synced": "a write is acknowledged before the disk has it for certain",
     "leave-not-asked": "a drop commits at once",
+    "copied-too-early": "copies are told before enough servers have what was there when the primary began to lead",
+    "acknowledges-alone": "a write is acknowledged before enough servers have it",
     "forgets-and-rests": "a server that was left behind a reopening forgets its slots, and asks for none",
 }

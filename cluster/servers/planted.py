@@ -10,6 +10,7 @@ from smplan.agent import Answer, Base, Call, Cell, Order, Request, Restoration, 
 
 from ..wire import Message
 from . import agent
+from .copied import Copied
 from .following import Following
 from .leaves import Leaves
 from .reopenings import Reopenings
@@ -259,7 +260,7 @@ class WithoutMeanwhile(Following):
         return []
 
 
-# -- leave
+# -- leave, and copies
 
 
 class LeavingUnasked(Leaves):
@@ -267,6 +268,20 @@ class LeavingUnasked(Leaves):
 
     async def take(self, shard: Shard, work: Work) -> None:
         pass
+
+
+class TellingEarly(Copied):
+    """Tells of its copies as soon as it leads."""
+
+    def has_enough(self, shard: Shard) -> bool:
+        return True
+
+
+class CountingLess(Sources):
+    """Acknowledges what fewer servers have."""
+
+    def may_acknowledge(self, shard: Shard, position: int) -> bool:
+        return True
 
 
 # -- reopenings
@@ -354,7 +369,8 @@ PLANTED = {
     "copy-without-values": with_parts(sources=WithoutValues), "joined-at-once": with_parts(sources=JoiningAtOnce),
     "newcomers-not-waited-for": with_parts(sources=WithoutNewcomers), "old-owner-not-waited-for": NotWaitingForOldOwner,
     "dead-at-once": with_parts(sources=DeadAtOnce), "who-ends-leaves": with_parts(sources=LeavingAtEnd), "forgets-and-rests": Resting,
-    "leave-not-asked": with_parts(leaves=LeavingUnasked), "lease-unheeded": with_parts(requests=Unleased), "not-synced": Server,
+    "leave-not-asked": with_parts(leaves=LeavingUnasked), "copied-too-early": with_parts(copied=TellingEarly),
+    "acknowledges-alone": with_parts(sources=CountingLess), "lease-unheeded": with_parts(requests=Unleased), "not-synced": Server,
 }
 
 
