@@ -41,6 +41,8 @@ class Following:
     def __init__(self, server: "Server", shard: Shard, hint: str | None, is_fresh: bool) -> None:
         self.server, self.store, self.shard = server, server.store, shard
         self.hint, self.is_fresh = hint, is_fresh
+        # (the secondary that it follows, if it is to become primary, and nobody is it)
+        self.beside = ""
         self.joined = asyncio.Event()
         self.writer: asyncio.StreamWriter | None = None
         self.tries = 0
@@ -83,6 +85,8 @@ class Following:
         cell = self.shard.slot.cell
         if cell in (Cell.PREPARED, Cell.FORWARDING):
             return self.server.party(self.shard)
+        if self.beside:
+            return self.beside
         names, turn = sorted(it for it in self.server.cluster.servers if it != self.server.name), self.tries
         if self.hint in names:
             turn, is_others = divmod(self.tries, 2)
@@ -125,7 +129,8 @@ class Following:
         try:
             position, chain = (-1, "") if self.is_fresh else (self.shard.position, self.shard.chain)
             ask = {"shard": self.shard.name, "from": self.server.name, "position": position, "chain": chain, "view": self.shard.copy.view,
-                   "takes_over": self.takes_over(), "number": self.server.leaves.number(), "question": self.shard.question, "holds": self.holds()}
+                   "takes_over": self.takes_over(), "number": self.server.leaves.number(), "question": self.shard.question, "holds": self.holds(),
+                   "beside": bool(self.beside)}
             self.writer.write(line_of({"follow": ask, **self.server.hearsay.told()}))
             first = await self.first_message(reader)
             await self.take_all([first or {"nothere": {}}], source)

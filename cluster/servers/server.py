@@ -132,6 +132,13 @@ class Server:
         if shard.following is None:
             shard.following = self.following(shard, None, is_fresh=False)
 
+    def follow_beside(self, shard: Shard, name: str) -> None:
+        """Follows a secondary that has more, if nobody leads the shard, and this server is to. The shard's lock is held."""
+        if shard.following is None or shard.following.beside != name:
+            self.stop_following(shard)
+            shard.following = self.following(shard, name, is_fresh=False)
+            shard.following.beside = name
+
     def stop_following(self, shard: Shard, leaves: bool = False) -> None:
         """Follows the shard's writes no longer."""
         if shard.following is not None:
@@ -178,6 +185,8 @@ class Server:
                 reply = await self.requests.take_passed(message["pass"])
             elif "leave" in message:
                 reply = await self.leaves.give(message["leave"], message.get("heard"))
+            elif "compare" in message:
+                reply = self.compared(message["compare"]["shard"], message.get("heard"))
             elif "hello" in message:
                 reply = {"hello": {}}
             else:
@@ -186,6 +195,15 @@ class Server:
             reply = failed.message()
         if not writer.is_closing():
             writer.write(line_of({"id": message["id"], **reply, **self.hearsay.told()}))
+
+    def compared(self, name: str, heard: Message | None) -> Message:
+        """What it has of a shard, for one that is to become its primary; raises Failed if it has lost its copy, or knows of another reopening."""
+        shard = self.store.shards.get(name)
+        if not self.store.base.known or heard != self.hearsay.told()["heard"]:
+            raise Failed("Later", "it knows of another reopening")
+        if shard is None or not shard.has_copy:
+            raise Failed("Later", f"it has lost its copy of {name}: give it up as lost")
+        return {"copy": shard.copy}
 
     def has(self, name: str) -> bool | None:
         """Whether it has anything of a shard, None if it does not know."""

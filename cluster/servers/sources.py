@@ -91,7 +91,7 @@ class Sources:
     async def begin(self, shard: Shard, writer: asyncio.StreamWriter, ask: Message) -> Stream | None:
         """Sends a follower what it lacks, and from now on each write; None if it is to look elsewhere."""
         async with shard.lock:
-            if not self.store.base.known or not shard.is_source:
+            if not self.store.base.known or not (shard.is_source or (ask["beside"] and shard.slot.cell == Cell.SECONDARY)):
                 return None
             name, party = ask["from"], self.server.party(shard)
             if shard.slot.cell == Cell.FORWARDING and name != party:

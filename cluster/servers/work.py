@@ -6,7 +6,7 @@ import time
 from dataclasses import dataclass
 from typing import TYPE_CHECKING
 
-from smplan.agent import Answer, Base, Call, Cell, Order, Role, Slot, ViewStart
+from smplan.agent import Answer, Base, Call, Cell, Order, Role, Slot, ToldCopy, ViewStart
 
 from ..wire import Failed, Message
 from . import agent, limits
@@ -120,7 +120,14 @@ class Orders:
                 work.done.set_exception(Failed("GivenUp", why))
             if shard.following is not None and shard.slot.cell == Cell.ABSENT:
                 shard.following.stop(leaves=True)
-            self.server.leaves.end(shard)
+            self.end_waits(shard)
+
+    def end_waits(self, shard: Shard) -> None:
+        """What an order asked others for is over: it follows as before."""
+        self.server.leaves.end(shard)
+        if shard.following is not None and shard.following.beside:
+            self.server.stop_following(shard)
+            self.server.start_following(shard)
 
     async def work(self, shard: Shard, work: Work) -> None:
         """Does the work, and commits it; if it takes too long it is given up, and the order comes again."""
@@ -147,7 +154,7 @@ class Orders:
                 shard.slot = slot
                 if shard.following is not None and slot.cell == Cell.ABSENT:
                     shard.following.stop(leaves=True)
-                self.server.leaves.end(shard)
+                self.end_waits(shard)
         if not work.done.done():
             work.done.set_exception(Failed("GivenUp", why))
         shard.wake()
@@ -166,8 +173,32 @@ class Orders:
         elif order.call == Call.CHANGE and order.new_role == Role.SECONDARY:
             wanted = set(work.told.get("replicas") or shard.members) - {self.server.name}
             await self.wait(shard, work, limits.HOLDING, lambda: shard.running == 0 and self.have_all(shard, wanted))
+        elif order.call == Call.CHANGE:
+            await self.compare(shard, work)
         if order.call == Call.DROP:
             await self.server.leaves.take(shard, work)
+
+    async def compare(self, shard: Shard, work: Work) -> None:
+        """A secondary that becomes primary follows who has more, until nobody has. Each of the others has to answer."""
+        deadline = time.monotonic() + limits.COPYING
+        while shard.work is work:
+            why, copies = "", {}
+            for name in sorted(set(work.told.get("replicas") or ()) - {self.server.name}):
+                try:
+                    reply = await self.server.peer(name).ask(limits.LEAVING, compare={"shard": shard.name}, **self.server.hearsay.told())
+                    copies[name] = ToldCopy(*reply["copy"])
+                except Failed as failed:
+                    why = f"{name}: {failed}"
+            greatest = max(copies, key=lambda it: copies[it], default="")
+            if greatest and agent.compare(copies[greatest], shard.copy) == Answer.GREATER:
+                why = f"{greatest} has more"
+                async with shard.lock:
+                    if shard.work is work:
+                        self.server.follow_beside(shard, greatest)
+            if not why:
+                return
+            if not await shard.look_again(deadline):
+                raise Failed("GivenUp", why)
 
     def have_all(self, shard: Shard, names: set[str]) -> bool:
         """These have all writes of the shard."""

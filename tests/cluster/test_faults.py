@@ -447,7 +447,7 @@ class SourceTest(unittest.TestCase):
     def asked(self, hint, tries):
         following = object.__new__(Following)
         following.server, following.hint = SimpleNamespace(name="b", cluster=SimpleNamespace(servers=dict.fromkeys("abcd"))), hint
-        following.shard = SimpleNamespace(slot=Slot(cell=Cell.SECONDARY))
+        following.shard, following.beside = SimpleNamespace(slot=Slot(cell=Cell.SECONDARY)), ""
         found = []
         for following.tries in range(tries):
             found.append(following.source())

@@ -5,6 +5,7 @@ from __future__ import annotations
 import asyncio
 
 from scripted import PATIENCE, Scripted, ServersTest
+from test_leaves import said
 from test_losses import SWAPPED, has, lost_alone, push, told
 
 from smplan.agent import ToldCopy
@@ -75,8 +76,30 @@ async def views() -> dict[str, bool]:
         it.close()
 
 
+async def promoted() -> dict[str, bool]:
+    """A secondary that becomes primary, of which another one has more, as nobody leads."""
+    it = Scripted("ac")
+    try:
+        await lost_alone(it)
+        await it.settle(await it.fence(), {"s": {"a": "secondary", "c": "secondary"}})
+        it.kill("a")
+        order = it.order("c", "change", "s", **{"from": "secondary"}, to="primary", primary=None, replicas=["a", "c"])
+        found = {"it waits for one that does not answer": await said(it, order) != "answered"}
+        await it.start("a")
+        await it.send(order)
+        found["it has what the other one had more"] = (await told(it, "c"))["position"] == 3
+        await push(it, "c", "four")
+        found["who had more follows it"] = await alike(it, "a", "c")
+        return found
+    finally:
+        it.close()
+
+
 class ViewsTest(ServersTest):
     """Lists that go on elsewhere."""
+
+    def test_who_becomes_primary_takes_what_others_have_more(self):
+        self.finds(promoted)
 
     def test_views_of_lists(self):
         self.finds(views)
