@@ -2,7 +2,7 @@
 from __future__ import annotations
 
 import sys
-from typing import TYPE_CHECKING, Any, Dict, Optional
+from typing import TYPE_CHECKING, Any, Callable, Dict, List, Optional, Protocol
 
 from .agent import Cell
 from .server_records import Records
@@ -11,6 +11,33 @@ if TYPE_CHECKING:
     from .server import Server
 
 Line = Dict[str, Any]
+
+
+class Teller(Protocol):
+    """A server that tells its controllers something."""
+
+    name: str
+    controllers: List[str]
+    call: Callable[[str, Optional[Line], float], Any]
+
+
+def line_of(journal: int, fence: int, shard: str, copies: int) -> Line:
+    """The line that tells how many servers have each acknowledged write of a shard, since a reopening at which the server was settled that says so."""
+    return {"do": "copied", "journal": f"{journal:x}", "fence": fence, "shard": shard, "copies": copies}
+
+
+def is_told(server: Teller, line: Line, seconds: float) -> bool:
+    """Tells the controllers. Whether one that leads has answered; what is refused is said in the log."""
+    for controller in server.controllers:
+        try:
+            said: Line = server.call(f"{controller}/do", line, seconds)
+        except (OSError, ValueError):
+            continue  # (it is not there, or does not lead)
+        if "refused" in said:
+            print(f"{server.name}: {line['copies']} copies of {line['shard']} are not counted: {said['refused']}", file=sys.stderr, flush=True)
+        if {"copied", "ignored", "refused"} & set(said):
+            return True
+    return False
 
 
 class Copied:
@@ -34,8 +61,7 @@ class Copied:
                 live = self.server.live(shard)
                 is_to_tell, term = live.told != fence, live.term
             if is_to_tell:
-                line = {"do": "copied", "journal": f"{base.journal:x}", "fence": fence, "shard": shard, "copies": self.server.copies}
-                self.server.beside.submit(self.tell_one, line, place, term)
+                self.server.beside.submit(self.tell_one, line_of(base.journal, fence, shard, self.server.copies), place, term)
 
     def tell_one(self, line: Line, place: int, term: int) -> None:
         """Tells of one shard, if enough servers have the writes up to a place while the term lasts."""
@@ -44,22 +70,8 @@ class Copied:
             return
         with self.server.changed:
             live.is_copied = live.is_copied or live.term == term
-        said = self.say(line)
-        if said is None:
+        if not is_told(self.server, line, self.server.limits.peer):
             return
-        if "refused" in said:
-            print(f"{self.server.name}: {self.server.copies} copies of {line['shard']} are not counted: {said['refused']}", file=sys.stderr, flush=True)
         with self.server.changed:
             if live.term == term:
                 live.told = line["fence"]
-
-    def say(self, line: Line) -> Optional[Line]:
-        """What a controller says to the line, if one does."""
-        for controller in self.server.controllers:
-            try:
-                said: Line = self.server.call(f"{controller}/do", line, self.server.limits.peer)
-            except (OSError, ValueError):
-                continue  # (it is not there, or does not lead)
-            if {"copied", "ignored", "refused"} & set(said):
-                return said
-        return None
