@@ -1,4 +1,4 @@
-"""bench.py FOLDER [--shards 12] [--rows 20000] [--copies 1] [--rest 0.03] [--databases]: one of four PostgreSQL servers is drained while clients write; tells how
+"""bench.py FOLDER [--shards 12] [--rows 20000] [--at-once 1] [--rest 0.03] [--databases]: one of four PostgreSQL servers is drained while clients write; tells how
 long that takes, for how long shards' writes pause at their handover and beside those of others, and what pg_dump | psql of one such schema takes. With
 --databases each shard has a database of its own at each server.
 
@@ -96,11 +96,11 @@ def main():
     signal.signal(signal.SIGTERM, lambda *_: sys.exit(143))
     parser = argparse.ArgumentParser()
     parser.add_argument("folder")
-    for name, value in (("--shards", "12"), ("--rows", "20000"), ("--copies", "1"), ("--rest", "0.03"), ("--writers", "1"), ("--patience", "1200")):
+    for name, value in (("--shards", "12"), ("--rows", "20000"), ("--at-once", "1"), ("--rest", "0.03"), ("--writers", "1"), ("--patience", "1200")):
         parser.add_argument(name, default=value)
     parser.add_argument("--databases", action="store_true")
     given = parser.parse_args()
-    sys.argv = ["run.py", given.folder, "--harm", "--seconds", "40", "--seed", "1", f"--option=--copies={given.copies}"]
+    sys.argv = ["run.py", given.folder, "--harm", "--seconds", "40", "--seed", "1", f"--option=--at-once={given.at_once}"]
     for name in ("shards", "rows", "rest", "writers", "patience"):
         sys.argv += [f"--{name}", getattr(given, name)]
     sys.argv += ["--databases", given.shards] if given.databases else []

@@ -157,10 +157,10 @@ def main():
     parser.add_argument("--shards", type=int, default=12)
     parser.add_argument("--rows", type=int, default=20000)
     parser.add_argument("--rest", type=float, default=0.03)
-    parser.add_argument("--copies", default="2")
+    parser.add_argument("--at-once", default="2")
     given = parser.parse_args()
     sys.argv = ["run.py", given.folder, "--shards", str(given.shards), "--rows", str(given.rows), "--rest", str(given.rest), "--harm", "--seconds", "40", "--seed", "1",
-                f"--option=--copies={given.copies}"]
+                f"--option=--at-once={given.at_once}"]
     story = Story(runs.arguments())
     try:
         wrong = story.run()

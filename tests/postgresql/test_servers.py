@@ -255,12 +255,12 @@ class RouteTest(Case):
             with tx.cursor() as cursor:
                 cursor.executemany(f"INSERT INTO cases VALUES ({', '.join(['%s'] * 12)})", cases)
             rows = tx.execute("SELECT count(*) AS n FROM cases WHERE answer IS DISTINCT FROM sm.route(known, fenced, ROW('s', cell, 1, 1, 1, at_work, 1, cut, has_cut, "
-                              "NULL, false, NULL, NULL, NULL)::sm.slots, applied, passed, handover, passed_cut, party)").fetchone()
+                              "NULL, false, NULL, NULL, NULL, NULL)::sm.slots, applied, passed, handover, passed_cut, party)").fetchone()
         self.assertEqual((rows["n"], len(cases)), (0, 4608))
 
     def test_the_agent_decides_if_it_is_there(self):
         self.adopt()
-        slot = "ROW('s', 4, 1, 1, 1, 0, 1, 0, 0, NULL, false, NULL, NULL, NULL)::sm.slots"
+        slot = "ROW('s', 4, 1, 1, 1, 0, 1, 0, 0, NULL, false, NULL, NULL, NULL, NULL)::sm.slots"
         with DATABASE.transaction() as tx, tx.transaction(force_rollback=True):
             tx.execute("CREATE OR REPLACE FUNCTION sm.agent(name text, numbers bigint[]) RETURNS bigint[] LANGUAGE sql IMMUTABLE STRICT AS "
                        "$$ SELECT ARRAY[cardinality(numbers)] WHERE name = 'route' $$")
@@ -290,9 +290,9 @@ MADE = """SELECT pg_get_functiondef(oid) FROM pg_proc WHERE pronamespace = 'sm':
   UNION ALL SELECT concat_ws(' ', conrelid::regclass, pg_get_constraintdef(oid)) FROM pg_constraint WHERE connamespace = 'sm'::regnamespace
   UNION ALL SELECT concat_ws(' ', evtname, evtevent, evtfoid::regproc) FROM pg_event_trigger ORDER BY 1"""
 
-# The commits with the texts of version 1.0, from that on whose shards have the tables of now.
-FIRST = ("86969a7b1d8d4e0dc1b4166589172c8e9bde755c", "c21182cef3621f23d2135508f3de08a1418b0f11", "a9d2eeeb3f3e3fc9afa5e9d6fd16f83db2bb4b27",
-         "2604bc8e5185c110b56af0183e6ab5509ce82694", "a3322cdeae32ff7122f6d9a762e90490cf446412")
+# The commits with the texts of older versions, from that on whose shards have the tables of now.
+OLDER = (("86969a7b1d8d4e0dc1b4166589172c8e9bde755c", "1.0"), ("c21182cef3621f23d2135508f3de08a1418b0f11", "1.0"), ("a9d2eeeb3f3e3fc9afa5e9d6fd16f83db2bb4b27", "1.0"),
+         ("2604bc8e5185c110b56af0183e6ab5509ce82694", "1.0"), ("a3322cdeae32ff7122f6d9a762e90490cf446412", "1.0"), ("1c290fccdf972bc920e305b7a7d5213b0ab496c0", "1.1"))
 
 
 # A subscription as such a version has made it.
@@ -316,8 +316,8 @@ class UpgradeTest(unittest.TestCase):
 
     def test_from_older_texts(self):
         wanted = self.made(self.database("now"))
-        for commit in FIRST:
-            words = ["git", "-C", str(servers.ROOT), "show", f"{commit}:ports/postgresql/extension/smplan--1.0.sql"]
+        for commit, version in OLDER:
+            words = ["git", "-C", str(servers.ROOT), "show", f"{commit}:ports/postgresql/extension/smplan--{version}.sql"]
             told = subprocess.run(words, capture_output=True, text=True, check=False)
             if told.returncode:
                 self.skipTest("the repository has no history here")
@@ -326,7 +326,7 @@ class UpgradeTest(unittest.TestCase):
                 tx.execute(told.stdout)
                 tx.execute(TABLES.format("it") + "; SELECT sm.adopt('it'); UPDATE sm.state SET known = 1; INSERT INTO sm.slots VALUES ('it', 4, 0, 0, 0, 0, 1, 0, 0)")
                 tx.execute(f"CREATE SUBSCRIPTION {STREAM} CONNECTION '' PUBLICATION it WITH (connect = false, slot_name = NONE)")
-                self.assertEqual(adopt.version_of(tx), adopt.FIRST)
+                self.assertEqual(adopt.version_of(tx), tuple(int(it) for it in version.split(".")))
             self.assertEqual(self.made(database), wanted)
             self.assertEqual(self.made(database), wanted)
             with database.transaction() as tx:
@@ -766,16 +766,19 @@ class WholeTest(Case):
         self.assertEqual((self.server.whole.tell_base({}), self.slot(), self.has()), ({"base": None}, [], True))
 
 
-class SeveralTest(unittest.TestCase):
-    """Several servers, each a database: leave to drop a copy, and who becomes the primary."""
+class Several(unittest.TestCase):
+    """Several servers, each a database."""
+
+    limits = Limits(answering=60.0, resting=0.05)
 
     @classmethod
     def setUpClass(cls):
         cls.its = {}
         for number, name in enumerate("abc", 1):
-            POST.query(f"CREATE DATABASE several_{name}")
-            reach = POST.reach.replace("dbname=postgres", f"dbname=several_{name}")
-            it = cls.its[name] = Server(name, cls.make(reach, number, name), reach, [], limits=Limits(answering=60.0, resting=0.05))
+            database = f"{cls.__name__.lower()}_{name}"
+            POST.query(f"CREATE DATABASE {database}")
+            reach = POST.reach.replace("dbname=postgres", f"dbname={database}")
+            it = cls.its[name] = Server(name, cls.make(reach, number, name), reach, [], limits=cls.limits)
             it.number = number
         for it in cls.its.values():
             it.peers = {one.number: Peer(one.number, one.name, "", one.reach) for one in cls.its.values()}
@@ -824,6 +827,10 @@ class SeveralTest(unittest.TestCase):
 
     def has(self, name):
         return value(self.its[name].database.row("SELECT sm.is_adopted(%s)", self.shard))
+
+
+class SeveralTest(Several):
+    """Leave to drop a copy, and who becomes the primary."""
 
     def test_of_two_that_leave_at_once_one_stays(self):
         for cell, primary in ((Cell.SECONDARY, None), (Cell.PRIMARY, "b")):

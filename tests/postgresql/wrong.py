@@ -53,7 +53,7 @@ def no_place():
 
 def no_followers():
     """Writes are acknowledged before any follower has them."""
-    edit("IF NOT served OR lacking = '{}' THEN RETURN served; END IF;", "RETURN served;")
+    edit("IF NOT served OR (lacking = '{}' AND sm.has_copies(in_shard, until)) THEN RETURN served; END IF;", "RETURN served;")
 
 
 def sequences():

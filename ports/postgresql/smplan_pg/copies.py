@@ -105,7 +105,7 @@ class Copies:
 
     def admit(self, there: Database, shard: str, still: Still, said_of: Callable[[str], None], waits: bool) -> None:
         """Waits until its source makes few enough copies."""
-        while not value(there.row("SELECT sm.copy(%s, %s, %s)", shard, self.server.number, self.server.limits.copies)):
+        while not value(there.row("SELECT sm.copy(%s, %s, %s)", shard, self.server.number, self.server.limits.at_once)):
             if not waits:
                 raise Stuck("waits for other copies")
             said_of("waits for other copies")

@@ -5,7 +5,7 @@ import select
 import time
 from contextlib import suppress
 from dataclasses import dataclass
-from typing import TYPE_CHECKING, Dict, Optional
+from typing import TYPE_CHECKING, Any, Dict, Optional
 
 import psycopg
 from smplan.agent import Base, Cell, Slot
@@ -56,6 +56,8 @@ class State:
     is_whole: bool
     is_leftover: bool
     cut: Optional[Cut]
+    settled: int
+    copies: int
 
 
 class Following:
@@ -137,7 +139,8 @@ class Following:
         with self.server.database.transaction() as tx:
             it = Records(tx)
             base = it.base()
-            return State(base, it.slot(shard, base), it.source(shard), it.is_whole(shard), self.server.copies.is_copying(tx, shard), it.cut(shard))
+            return State(base, it.slot(shard, base), it.source(shard), it.is_whole(shard), self.server.copies.is_copying(tx, shard), it.cut(shard),
+                         it.settled(), it.copies())
 
     def look(self, shard: str) -> None:
         """Does what a shard needs now."""
@@ -279,10 +282,15 @@ class Following:
             self.unserved.pop(shard, None)
             if not (self.is_enabled(shard) or (told.slot.cell == Cell.FORWARDING and self.go_on(shard))) or self.refuses(shard, told.source, was):
                 return False
-            if not it["is_member"] and told.slot.cell == Cell.SECONDARY and not self.server.live(shard).worker:
+            if self.has_to_join(it, told) and not self.server.live(shard).worker:
                 self.server.sources.join(shard, told.source)
             return True
         return False
+
+    def has_to_join(self, offer: Dict[str, Any], told: State) -> bool:
+        """Whether it does not count at its source; nor for the number of copies, if there are to be several."""
+        is_connected = told.copies < 2 or offer["connected"] == told.settled
+        return not (offer["is_member"] and is_connected) if told.slot.cell == Cell.SECONDARY else bool(offer["is_member"]) and not is_connected
 
     def is_enabled(self, shard: str) -> bool:
         """Whether the shard's subscription works."""

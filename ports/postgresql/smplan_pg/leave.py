@@ -32,6 +32,7 @@ class Leave:
         primary = server.numbers.get(line.get("primary") or server.name, 0)
         self.is_beside = primary == server.number
         self.givers = others if self.is_beside else [primary]
+        self.needed = 1
 
     def words(self, tx: Connection, slot: Slot) -> Words:
         """What those who are asked have to know; none if there is nobody to be asked."""
@@ -41,20 +42,25 @@ class Leave:
         if self.is_beside and not it.is_whole(self.shard):
             raise Stuck("what is here is not whole: it waits, as nobody can tell who has all of it")
         base, mark = it.base(), it.mark(self.shard)
+        self.needed = it.copies() if self.is_beside else 1
+        if self.needed > 1 and slot.cell != Cell.PRIMARY and mark.view > it.settled():
+            raise Stuck("nobody leads it, and this copy may have writes of a primary since the last reopening")
         return self.shard, self.server.number, signed(base.journal), it.heard(), self.is_beside, mark.view, mark.position
 
     def get(self, words: Words, patience: float = WAITING) -> None:
-        """Asks until somebody gives leave, who is asked alone from then on."""
+        """Asks until somebody gives leave; without a primary as many as each write has to be at. They are asked alone from then on."""
         until = time.monotonic() + self.server.limits.holding
         while words:
-            said = {}
+            said: Dict[int, str] = {}
             for it in self.givers:
                 said[it] = self.answer(it, words, patience)
-                if said[it] == "leave":
-                    self.givers = [it]
+                given = [it for it, why in said.items() if why == "leave"]
+                if len(given) == self.needed:
+                    self.givers = given
                     return
             if time.monotonic() > until:
-                raise Stuck("; ".join(f"no leave from {self.server.names.get(it, it)}: {why}" for it, why in said.items()))
+                whys = [f"no leave from {self.server.names.get(it, it)}: {why}" for it, why in said.items() if why != "leave"]
+                raise Stuck("; ".join(whys) or f"fewer than {self.needed} others are named")
             time.sleep(0.005)
 
     def answer(self, number: int, words: Words, patience: float) -> str:

@@ -2,7 +2,7 @@
 from __future__ import annotations
 
 from dataclasses import astuple, dataclass
-from typing import Dict, Optional
+from typing import Dict, Optional, Tuple
 
 from psycopg import sql
 from smplan.agent import VACANT, Base, Cell, Slot
@@ -58,6 +58,23 @@ class Records:
         """The number of the last reopening of its journal that it has heard of."""
         return value(self.tx.execute("SELECT heard FROM sm.state").fetchone())
 
+    def settled(self) -> int:
+        """The number of the last reopening at which it was settled."""
+        return value(self.tx.execute("SELECT settled FROM sm.state").fetchone())
+
+    def copies(self) -> int:
+        """How many replicas have each write that it acknowledges, itself among them."""
+        return value(self.tx.execute("SELECT copies FROM sm.state").fetchone())
+
+    def put_copies(self, copies: int) -> int:
+        """Stores at a start how many these are to be. They get no fewer: a controller may count by them. How many they are; it tells a controller anew."""
+        self.tx.execute("UPDATE sm.slots SET told = NULL WHERE told IS NOT NULL")
+        return value(self.tx.execute("UPDATE sm.state SET copies = greatest(copies, %s) RETURNING copies", (copies,)).fetchone())
+
+    def put_settled(self, number: int, copies: int) -> None:
+        """Stores at which reopening it is settled. By slots of a later one its writes may be at fewer replicas than before."""
+        self.tx.execute("UPDATE sm.state SET copies = CASE WHEN settled < %s THEN %s ELSE greatest(copies, %s) END, settled = %s", (number, copies, copies, number))
+
     def put_base(self, base: Base, heard: int) -> None:
         """Stores the base."""
         self.tx.execute("UPDATE sm.state SET journal = %s, number = %s, nonce = %s, known = %s, fenced = %s, heard = %s",
@@ -105,7 +122,8 @@ class Records:
 
     def put_seal(self, shard: str, place: str, mark: Mark) -> None:
         """Stores where the writes of its own begin, and what its copy was then."""
-        self.tx.execute("UPDATE sm.slots SET sealed = %s::pg_lsn, sealed_view = %s, sealed_position = %s WHERE shard = %s", (place, mark.view, mark.position, shard))
+        self.tx.execute("UPDATE sm.slots SET sealed = %s::pg_lsn, sealed_view = %s, sealed_position = %s, told = NULL WHERE shard = %s",
+                        (place, mark.view, mark.position, shard))
 
     def end_questions(self) -> None:
         """Gives up all questions for leave, answered or not."""
@@ -165,8 +183,16 @@ class Records:
         rows = self.tx.execute(self.own("SELECT server, was_owner FROM {}.sm_members", shard)).fetchall()
         return {it["server"]: it["was_owner"] for it in rows}
 
+    def connection(self, shard: str) -> Tuple[Optional[int], Optional[int]]:
+        """What this server says of a shard that it follows as it begins a connection: the journal, and at which reopening of that it was settled. Nothing unless
+        its copy is whole, and it stays: neither fenced, nor at work on an order, nor asking for leave."""
+        row = self.tx.execute("SELECT journal, settled FROM sm.state, sm.slots WHERE known = 1 AND fenced = 0 AND shard = %s AND cell IN (3, 5) AND at_work = 0 "
+                              "AND is_whole AND NOT EXISTS (SELECT FROM sm.leaving l WHERE l.shard = slots.shard)", (shard,)).fetchone()
+        return (None, None) if row is None else (row["journal"], row["settled"])
+
     def put_members(self, shard: str, members: Dict[int, bool]) -> None:
-        """Stores who counts."""
+        """Stores who counts, as this server begins to lead: all connections of before are over."""
+        self.tx.execute("DELETE FROM sm.connections WHERE shard = %s", (shard,))
         self.tx.execute(self.own("DELETE FROM {}.sm_members", shard))
         for server, was_owner in members.items():
             self.tx.execute(self.own("INSERT INTO {}.sm_members VALUES (%s, %s)", shard), (server, was_owner))

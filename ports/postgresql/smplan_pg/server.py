@@ -14,6 +14,7 @@ from psycopg.conninfo import make_conninfo
 from smplan.failure import Failure
 from smplan.server_http import Caller, listen
 
+from .copied import Copied
 from .copies import Copies
 from .database import Connection, Database, value
 from .decisions import decisions_of
@@ -33,7 +34,7 @@ Line = Dict[str, Any]
 class Limits:
     """Times in seconds: for how long an order's answer waits for its work; for how long an order holds new requests back while it waits for those that
     run, and rests between such tries; when it ends them; for how long a fence waits for them; when a follower that reads nothing counts no more; for how
-    long identities are kept. And how many copies may be made from one server at once."""
+    long identities are kept. How many copies may be made from one server at once. And how many servers have each write that is acknowledged."""
 
     answering: float = 1.0
     holding: float = 0.15
@@ -43,7 +44,8 @@ class Limits:
     dead: float = 5.0
     stalled: float = 60.0
     keeping: float = 3600.0
-    copies: int = 2
+    at_once: int = 2
+    copies: int = 1
 
 
 @dataclass
@@ -73,7 +75,7 @@ class Server:
         self.number, self.silence = 0, Silence(name)
         self.own: Optional[Connection] = None
         self.sources, self.copies, self.orders, self.following = Sources(self), Copies(self), Orders(self), Following(self)
-        self.keeping, self.whole = Keeping(self), Whole(self)
+        self.keeping, self.whole, self.copied = Keeping(self), Whole(self), Copied(self)
         routes: Dict[str, Callable[[Line], Line]] = {
             "/order": self.orders.take, "/fence": self.whole.fence, "/settle": self.whole.settle, "/restore": self.whole.restore,
             "/notice": self.whole.notice, "/base": self.whole.tell_base, "/slots": self.whole.tell_slots, "/reach": self.tell_reach}
@@ -251,7 +253,8 @@ class Server:
         self.find()
         self.begin((self.look, 2.0), (self.cut_off, 1.0), (self.ask_for_slots, 0.5), (self.following.watch, 0.2),
                    (self.following.listen, 0.5), (self.keeping.leave_out_the_dead, 1.0), (self.keeping.tidy, 2.0),
-                   (self.keeping.tidy_sources, 3.0), (self.keeping.drop_unread, 2.0))
+                   (self.keeping.tidy_sources, 3.0), (self.keeping.drop_unread, 2.0), (self.copied.tell, 0.5),
+                   (self.copied.look, 2.0))
         listen(self.http or self.peers[self.number].url, self.routes, self.token, tls=None)
 
     def keep_own(self) -> None:

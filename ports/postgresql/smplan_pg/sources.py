@@ -7,7 +7,7 @@ import psycopg
 from smplan.agent import Base, Cell
 
 from .database import unsigned, value
-from .records import Mark
+from .records import Mark, Records
 from .streams import Stuck
 
 if TYPE_CHECKING:
@@ -47,10 +47,14 @@ class Sources:
         return it["party"]
 
     def join(self, shard: str, number: int) -> bool:
-        """Counts at another server from now on. Whether that serves the shard. (The lock is there before it is asked: a question that comes late has no effect.)"""
+        """Counts at another server from now on; for the number of copies, too, if there are to be several. Whether that serves the shard. (The lock is there
+        before it is asked, and before it is looked what may be said: a question that comes late has no effect.)"""
         with self.server.peer(number).transaction() as there:
             there.execute("SELECT sm.lock_part(%s, %s)", (shard, self.server.number))
-            return bool(value(there.execute("SELECT sm.join(%s, %s)", (shard, self.server.number)).fetchone()))
+            with self.server.database.transaction() as tx:
+                it = Records(tx)
+                said = it.connection(shard) if it.copies() > 1 else ()
+            return bool(value(there.execute(f"SELECT sm.join(%s, %s{', %s' * len(said)})", (shard, self.server.number, *said)).fetchone()))
 
     def check(self, shard: str, number: int) -> None:
         """Stops what copies from a server that sends nothing any more."""

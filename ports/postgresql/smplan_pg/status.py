@@ -13,8 +13,8 @@ from .records import Records
 from .streams import said
 from .whole import forget
 
-SHARDS = """SELECT s.shard, s.cell, s.at_work, s.is_whole, f.name AS source, sm.view(s.shard) AS view, sm.position(s.shard) AS position,
-    coalesce((SELECT subenabled FROM pg_subscription WHERE subname = sm.stream(s.shard, t.me)), false) AS follows
+SHARDS = """SELECT s.shard, s.cell, s.at_work, s.is_whole, s.told = t.settled AS is_told, f.name AS source, sm.view(s.shard) AS view,
+    sm.position(s.shard) AS position, coalesce((SELECT subenabled FROM pg_subscription WHERE subname = sm.stream(s.shard, t.me)), false) AS follows
   FROM sm.slots s CROSS JOIN sm.state t LEFT JOIN sm.servers f ON f.number = s.source WHERE s.cell <> 1 OR s.at_work <> 0 ORDER BY s.shard"""
 STREAMS = """SELECT slot_name, active, wal_status, pg_wal_lsn_diff(pg_current_wal_flush_lsn(), confirmed_flush_lsn)::bigint AS behind
   FROM pg_replication_slots WHERE slot_name LIKE 'sm\\_%' OR slot_name LIKE 'pg\\_%\\_sync\\_%' ORDER BY slot_name"""
@@ -35,7 +35,7 @@ def status_of(database: Database) -> Dict[str, Any]:
     if value(database.row("SELECT to_regclass('sm.state') IS NULL")):
         raise Failure("there is no schema sm in this database: smplan-pg adopt, or serve, makes it", 1)
     with database.transaction() as tx:
-        state = tx.execute("SELECT name, journal, number, known, fenced FROM sm.state").fetchone()
+        state = tx.execute("SELECT name, journal, number, known, fenced, settled, copies FROM sm.state").fetchone()
         shards, rows = tx.execute(SHARDS).fetchall(), tx.execute(STREAMS).fetchall()
         names = {it.number: it.name for it in Records(tx).peers().values()}
         for it in shards:
@@ -59,10 +59,12 @@ def wrong_of(state: Row, shards: List[Row], rows: List[Row]) -> List[str]:
 def lines_of(told: Dict[str, Any]) -> List[str]:
     """A status in words."""
     it = told["server"]
-    lines = [f"server {it['name']}: " + ("fenced" if it["fenced"] else f"base {it['number']}" if it["known"] else "Unknown")]
+    several = f", {it['copies']} copies of each write" if it["copies"] > 1 else ""
+    lines = [f"server {it['name']}: " + ("fenced" if it["fenced"] else f"base {it['number']}" if it["known"] else "Unknown") + several]
     for row in told["shards"]:
         more = f", follows {row['source']}" if row["cell"] != "primary" and row["source"] else ""
         more += f", followed by {', '.join(row['members'])}" if row["cell"] == "primary" and row["members"] else ""
+        more += f", {it['copies']} copies told" if row["cell"] == "primary" and row["is_told"] else ""
         lines.append(f"  {row['shard']:<24} {row['cell']:<10} position {row['view']}/{row['position']}{more}{'' if row['is_whole'] else ', not whole'}")
     lines += [f"  {row['server']} copies {row['shard']} from here, for {row['seconds']} s" for row in told["copied"]]
     lines += [f"  set aside: {row['schema']} ({row['shard']}, {row['since']:%F %T}: {row['why']})" for row in told["asides"]]

@@ -140,6 +140,7 @@ class Whole:
                 if answer == Answer.TAKEN:
                     number = told.fence if isinstance(told, Restoration) else told.number
                     it.put_base(base, number)
+                    it.put_settled(number, self.server.limits.copies)
                     for shard in sorted(after if was.known else {*after, *self.adopted(tx)}):
                         self.store(tx, shard, before.get(shard, Slot()), after.get(shard, agent.VACANT), number)
         for shard in after:
@@ -244,6 +245,9 @@ class Whole:
             if not it.base("FOR UPDATE").known:
                 it.put_base(agent.forget(nonce()), 0)
             self.abandon_all(it)
+            copies = it.put_copies(self.server.limits.copies)
+        if copies > self.server.limits.copies:
+            self.server.say(f"acknowledges only what {copies} servers have, as before, until it is settled at a reopening")
 
     def abandon_all(self, it: Records) -> None:
         """Gives up all work, and all questions for leave."""

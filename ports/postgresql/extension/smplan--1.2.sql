@@ -3,12 +3,12 @@
 -- What a server keeps stands in schema sm. What belongs to a shard stands in its schema, and moves with its data: sm_requests, sm_counters, sm_cut,
 -- sm_views, sm_begun, sm_members. `smplan-pg serve` changes all of it; clients call sm.enter, sm.reply and sm.acknowledged.
 --
--- The text also brings what an older one has made up to this one: smplan--1.0--1.1.sql is the same. So each statement may find its effect there, and what has
+-- The text also brings what an older one has made up to this one: smplan--1.1--1.2.sql is the same. So each statement may find its effect there, and what has
 -- other columns or arguments than before is changed, or dropped first.
 CREATE SCHEMA IF NOT EXISTS sm;
 
 -- The text's version: who changes the text raises it, and the files' names.
-CREATE OR REPLACE FUNCTION sm.version() RETURNS int[] LANGUAGE sql IMMUTABLE PARALLEL SAFE AS $$ SELECT ARRAY[1, 1] $$;
+CREATE OR REPLACE FUNCTION sm.version() RETURNS int[] LANGUAGE sql IMMUTABLE PARALLEL SAFE AS $$ SELECT ARRAY[1, 2] $$;
 
 -- ---- what a server keeps
 
@@ -20,6 +20,10 @@ CREATE TABLE IF NOT EXISTS sm.state (
   known int NOT NULL DEFAULT 0, fenced int NOT NULL DEFAULT 0, heard bigint NOT NULL DEFAULT 0);
 INSERT INTO sm.state DEFAULT VALUES ON CONFLICT DO NOTHING;
 
+-- How many replicas have each write that is acknowledged, this one among them; and the last reopening at which the server was settled.
+ALTER TABLE sm.state ADD COLUMN IF NOT EXISTS copies int NOT NULL DEFAULT 1, ADD COLUMN IF NOT EXISTS settled bigint NOT NULL DEFAULT 0;
+UPDATE sm.state SET settled = heard WHERE fenced = 0;
+
 -- All servers, and how others reach their databases. A number belongs to one name for ever.
 CREATE TABLE IF NOT EXISTS sm.servers (number int PRIMARY KEY, name text NOT NULL UNIQUE, url text NOT NULL, reach text);
 
@@ -30,6 +34,13 @@ CREATE TABLE IF NOT EXISTS sm.slots (
   cell int NOT NULL, party int NOT NULL, handover bigint NOT NULL, last bigint NOT NULL, at_work bigint NOT NULL, load bigint NOT NULL,
   cut bigint NOT NULL, has_cut int NOT NULL,
   source int, is_whole bool NOT NULL DEFAULT false, sealed pg_lsn, sealed_view bigint, sealed_position bigint);
+
+-- The reopening since which a controller knows of the shard's copies, if this server has told it since it began to lead.
+ALTER TABLE sm.slots ADD COLUMN IF NOT EXISTS told bigint;
+
+-- The connections on which followers have said that their copies are whole: the last reopening at which each was settled by then. Clients read them.
+CREATE TABLE IF NOT EXISTS sm.connections (shard text, server int, settled bigint NOT NULL, PRIMARY KEY (shard, server));
+GRANT SELECT ON sm.connections TO PUBLIC;
 
 -- The copies that this server makes: what they have left behind is its own to delete. An old copy stands beside, under the name `kept`, until the new
 -- one is whole.
@@ -219,7 +230,21 @@ END $$;
 CREATE OR REPLACE FUNCTION sm.reply(in_shard text, request text, told text) RETURNS void LANGUAGE plpgsql AS $$
 BEGIN EXECUTE format('UPDATE %I.sm_requests SET reply = $2 WHERE id = $1', in_shard) USING request, told; END $$;
 
--- Called behind the commit of a request, or of a read: true once all members have what it saw. False: send the request again, under its identity.
+-- Whether as many replicas as each write has to be at have what this server's log has up to a place, itself among them. A follower counts by its present
+-- connection, if it was settled at this server's last reopening or later when it began that.
+CREATE OR REPLACE FUNCTION sm.has_copies(in_shard text, until pg_lsn) RETURNS bool LANGUAGE plpgsql AS $$
+DECLARE b sm.state; others int;
+BEGIN
+  SELECT * INTO b FROM sm.state;
+  IF b.copies < 2 THEN RETURN true; END IF;
+  EXECUTE format('SELECT count(*) FROM %I.sm_members m JOIN sm.connections c ON c.shard = $1 AND c.server = m.server
+    JOIN pg_replication_slots r ON r.slot_name = sm.stream($1, m.server) AND r.database = current_database()
+    WHERE c.settled >= $2 AND r.confirmed_flush_lsn >= $3', in_shard) INTO others USING in_shard, b.settled, until;
+  RETURN others + 1 >= b.copies;
+END $$;
+
+-- Called behind the commit of a request, or of a read: true once all members have what it saw, and enough have. False: send the request again, under its
+-- identity.
 -- (Members and slot are read together: one transaction changes both. synchronous_standby_names would make all shards of a server wait for the
 -- slowest follower of any. Meanwhile only those are looked at that lacked it, by a plan that is kept.)
 CREATE OR REPLACE FUNCTION sm.acknowledged(in_shard text, patience interval DEFAULT '10 s') RETURNS bool LANGUAGE plpgsql AS $$
@@ -233,12 +258,12 @@ BEGIN
       ARRAY(SELECT stream FROM (SELECT sm.stream($1, server) AS stream FROM %I.sm_members OFFSET 0) m
         LEFT JOIN pg_get_replication_slots() r ON r.slot_name = m.stream AND r.datoid = (SELECT oid FROM pg_database WHERE datname = current_database())
         WHERE r.confirmed_flush_lsn IS NULL OR r.confirmed_flush_lsn < $2)', in_shard) INTO served, lacking USING in_shard, until;
-    IF NOT served OR lacking = '{}' THEN RETURN served; END IF;
+    IF NOT served OR (lacking = '{}' AND sm.has_copies(in_shard, until)) THEN RETURN served; END IF;
     LOOP
       IF clock_timestamp() > ends THEN RETURN false; END IF;
       steps := steps + 1;
       PERFORM pg_sleep(CASE WHEN steps < 40 THEN 0.001 ELSE 0.01 END);
-      EXIT WHEN steps % 20 = 0 OR NOT EXISTS (SELECT FROM sm.slots, pg_get_replication_slots()
+      EXIT WHEN steps % 20 = 0 OR lacking <> '{}' AND NOT EXISTS (SELECT FROM sm.slots, pg_get_replication_slots()
         WHERE shard = in_shard AND cell IN (2, 4) AND slot_name = ANY (lacking) AND confirmed_flush_lsn < until);
     END LOOP;
   END LOOP;
@@ -284,9 +309,12 @@ END $$;
 
 -- ---- for other servers
 
--- What a follower needs to know of its source. A stream that is past the place where this server's own writes begin can't be joined any more.
+-- What a follower needs to know of its source; `connected` is the reopening at which it was settled, as it has said on its present connection. A stream that
+-- is past the place where this server's own writes begin can't be joined any more.
+DROP FUNCTION IF EXISTS sm.offers(text, int);
 CREATE OR REPLACE FUNCTION sm.offers(in_shard text, follower int, OUT cell int, OUT has_cut int, OUT at_work bigint, OUT journal bigint, OUT number bigint, OUT known int,
-  OUT fenced int, OUT place pg_lsn, OUT view bigint, OUT "position" bigint, OUT has_stream bool, OUT is_joinable bool, OUT is_member bool, OUT party int) LANGUAGE plpgsql AS $$
+  OUT fenced int, OUT place pg_lsn, OUT view bigint, OUT "position" bigint, OUT has_stream bool, OUT is_joinable bool, OUT is_member bool, OUT party int,
+  OUT connected bigint) LANGUAGE plpgsql AS $$
 DECLARE b sm.state; s sm.slots; r record;
 BEGIN
   SELECT * INTO b FROM sm.state;
@@ -299,14 +327,17 @@ BEGIN
   has_stream := r.slot_name IS NOT NULL AND r.wal_status <> 'lost';
   is_joinable := has_stream AND r.confirmed_flush_lsn <= s.sealed;
   is_member := false;
+  SELECT settled INTO connected FROM sm.connections WHERE shard = in_shard AND server = follower;
   IF sm.is_adopted(in_shard) THEN
     EXECUTE format('SELECT EXISTS (SELECT FROM %I.sm_members WHERE server = $1)', in_shard) INTO is_member USING follower;
   END IF;
 END $$;
 
 -- A follower counts from now on, which has taken the lock of its part before. False if this server does not serve the shard. (A new owner that is fenced will
--- begin anew, with what it has by then.)
-CREATE OR REPLACE FUNCTION sm.join(in_shard text, follower int) RETURNS bool LANGUAGE plpgsql AS $$
+-- begin anew, with what it has by then.) It begins a connection, and ends the one before: on that it counts for the number of copies, too, if it says at which
+-- reopening of the journal it was settled.
+DROP FUNCTION IF EXISTS sm.join(text, int);
+CREATE OR REPLACE FUNCTION sm.join(in_shard text, follower int, in_journal bigint DEFAULT NULL, in_settled bigint DEFAULT NULL) RETURNS bool LANGUAGE plpgsql AS $$
 DECLARE n int;
 BEGIN
   PERFORM sm.share(in_shard);
@@ -317,6 +348,8 @@ BEGIN
     USING follower;
   GET DIAGNOSTICS n = ROW_COUNT;
   IF n > 0 THEN PERFORM sm.count(in_shard); END IF;
+  DELETE FROM sm.connections WHERE shard = in_shard AND server = follower;
+  INSERT INTO sm.connections SELECT in_shard, follower, in_settled FROM sm.state WHERE journal = in_journal AND in_settled IS NOT NULL;
   RETURN true;
 END $$;
 
@@ -328,6 +361,7 @@ BEGIN
   PERFORM sm.lock_part(in_shard, follower);
   PERFORM sm.share(in_shard);
   IF NOT EXISTS (SELECT FROM sm.copied WHERE shard = in_shard AND server = follower) THEN RETURN false; END IF;
+  DELETE FROM sm.connections WHERE shard = in_shard AND server = follower;
   IF NOT sm.is_adopted(in_shard) THEN RETURN true; END IF;
   EXECUTE format('DELETE FROM %I.sm_members WHERE NOT was_owner AND server = $1', in_shard) USING follower;
   GET DIAGNOSTICS n = ROW_COUNT;
@@ -351,12 +385,13 @@ BEGIN
 END $$;
 
 -- Another server asks for leave to drop a shard: 'leave', or why not. A primary gives it, and counts the other no more (but an old owner until it has dropped
--- its copy, which a reopening takes for whole until then); where there is none (`beside`), a secondary whose whole copy has what the other has. Who has a
--- question open gives none; of two that ask each other the one with the higher number gives its own up, and asks anew.
+-- its copy, which a reopening takes for whole until then), if enough others have all that is acknowledged. (Who counts among these counts no more first, in a
+-- transaction of its own: what it was counted for is in the log by then.) Where there is none (`beside`), a secondary gives it whose whole copy has what the
+-- other has. Who has a question open gives none; of two that ask each other the one with the higher number gives its own up, and asks anew.
 DROP FUNCTION IF EXISTS sm.leave(text, int);
 CREATE OR REPLACE FUNCTION sm.leave(in_shard text, asker int, in_journal bigint, in_heard bigint, beside bool, in_view bigint, in_position bigint) RETURNS text
 LANGUAGE plpgsql AS $$
-DECLARE b sm.state; s sm.slots; n int;
+DECLARE b sm.state; s sm.slots; n int; place pg_lsn; ends timestamptz;
 BEGIN
   PERFORM sm.lock_part(in_shard, asker);
   PERFORM sm.share(in_shard);
@@ -369,11 +404,18 @@ BEGIN
   IF beside AND (sm.view(in_shard), sm.position(in_shard)) < (in_view, in_position) THEN RETURN 'it lacks writes'; END IF;
   DELETE FROM sm.leaving WHERE shard = in_shard AND b.me > asker;
   IF EXISTS (SELECT FROM sm.leaving WHERE shard = in_shard) THEN RETURN 'it leaves, too'; END IF;
-  IF NOT beside THEN
-    EXECUTE format('DELETE FROM %I.sm_members WHERE server = $1 AND NOT was_owner', in_shard) USING asker;
-    GET DIAGNOSTICS n = ROW_COUNT;
-    IF n > 0 THEN PERFORM sm.count(in_shard); END IF;
-  END IF;
+  IF beside THEN RETURN 'leave'; END IF;
+  EXECUTE format('DELETE FROM %I.sm_members WHERE server = $1 AND NOT was_owner', in_shard) USING asker;
+  GET DIAGNOSTICS n = ROW_COUNT;
+  IF n > 0 THEN PERFORM sm.count(in_shard); END IF;
+  DELETE FROM sm.connections WHERE shard = in_shard AND server = asker;
+  IF FOUND THEN RETURN 'it has to ask again: it counted until now'; END IF;
+  place := pg_current_wal_flush_lsn();
+  ends := clock_timestamp() + interval '0.1 s';
+  WHILE NOT sm.has_copies(in_shard, place) LOOP
+    IF clock_timestamp() > ends THEN RETURN format('fewer than %s others have all', b.copies); END IF;
+    PERFORM pg_sleep(0.002);
+  END LOOP;
   RETURN 'leave';
 END $$;
 

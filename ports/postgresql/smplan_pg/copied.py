@@ -1,0 +1,74 @@
+"""What a server tells the controllers of the copies of its shards: a reopening counts by it, and names fewer shards as lost."""
+from __future__ import annotations
+
+from dataclasses import dataclass
+from typing import TYPE_CHECKING, Any, Dict, Tuple
+
+from smplan.server_copied import is_told, line_of
+
+from .database import Row, unsigned, value
+
+if TYPE_CHECKING:
+    from .server import Server
+
+# The shards that this server leads and of which no controller knows since it was settled, or began to lead, and where its log ends.
+UNTOLD = """SELECT s.shard, s.sealed::text AS sealed, b.journal, b.settled, b.copies, pg_current_wal_flush_lsn()::text AS place FROM sm.slots s, sm.state b
+  WHERE b.known = 1 AND b.fenced = 0 AND b.copies > 1 AND s.cell = 4 AND s.told IS DISTINCT FROM b.settled ORDER BY s.shard"""
+
+# The shards that this server leads and that fewer servers follow than have to have each write.
+SHORT = """SELECT s.shard, b.copies FROM sm.slots s, sm.state b
+  WHERE b.known = 1 AND b.copies > 1 AND s.cell = 4 AND s.at_work = 0 AND NOT sm.has_copies(s.shard, '0/0') ORDER BY s.shard"""
+
+# For how long fewer servers follow until it is said, in seconds.
+SHORTLY = 5.0
+
+
+@dataclass(frozen=True)
+class Noted:
+    """Where a server's log ended as it was seen first that it leads a shard, and since which reopening and place of the log it does. (What is acknowledged
+    before that is at enough servers, too: sm.acknowledged goes by their number from the start on.)"""
+
+    since: Tuple[Any, ...]
+    place: str
+
+
+class Copied:
+    """How many servers have each acknowledged write of the shards that this one leads, told once for each reopening, and once it leads or starts anew."""
+
+    def __init__(self, server: "Server") -> None:
+        self.server = server
+        self.noted: Dict[str, Noted] = {}
+        self.short: Dict[str, float] = {}
+
+    def tell(self) -> None:
+        """Tells of each shard that is not told yet, as soon as enough servers have all up to the place that was noted."""
+        rows = self.server.database.rows(UNTOLD)
+        self.noted = {it["shard"]: self.note(it) for it in rows}
+        for it in rows:
+            place = self.noted[it["shard"]].place
+            if value(self.server.database.row("SELECT sm.has_copies(%s, %s::pg_lsn)", it["shard"], place)) and not self.tell_one(it):
+                return  # (no controller answers now)
+
+    def note(self, row: Row) -> Noted:
+        """What is noted of a shard; anew if it is led anew."""
+        since, before = (row["settled"], row["sealed"]), self.noted.get(row["shard"])
+        return before if before is not None and before.since == since else Noted(since, row["place"])
+
+    def tell_one(self, row: Row) -> bool:
+        """Tells of one shard. Whether a controller has answered."""
+        line = line_of(unsigned(row["journal"]), row["settled"], row["shard"], row["copies"])
+        if not is_told(self.server, line, 3.0):
+            return False
+        told = "UPDATE sm.slots SET told = %s WHERE shard = %s AND sealed IS NOT DISTINCT FROM %s::pg_lsn"
+        self.server.database.do(told, row["settled"], row["shard"], row["sealed"])
+        return True
+
+    def look(self) -> None:
+        """Says of which shards writes wait, since too few servers follow."""
+        now = self.server.silence.now()
+        rows = {it["shard"]: it["copies"] for it in self.server.database.rows(SHORT)}
+        self.short = {shard: self.short.get(shard, now) for shard in rows}
+        for shard, since in self.short.items():
+            if now - since > SHORTLY:
+                self.server.say(f"fewer than {rows[shard]} servers have what is written of {shard}: who writes waits")
+                self.short[shard] = float("inf")
