@@ -100,7 +100,7 @@ def main():
         parser.add_argument(name, default=value)
     parser.add_argument("--databases", action="store_true")
     given = parser.parse_args()
-    sys.argv = ["run.py", given.folder, "--harm", "--seconds", "40", "--seed", "1", f"--option=--at-once={given.at_once}"]
+    sys.argv = ["run.py", given.folder, "--harm", "--seconds", "40", "--seed", "1", "--copies", "1", f"--option=--at-once={given.at_once}"]
     for name in ("shards", "rows", "rest", "writers", "patience"):
         sys.argv += [f"--{name}", getattr(given, name)]
     sys.argv += ["--databases", given.shards] if given.databases else []

@@ -231,9 +231,11 @@ class Harm:
 
     def lose(self, name):
         """A server is lost for good, and the service reopened without it. (Whose followers are all away just then is not lost: nobody else would have its
-        last writes.)"""
+        last writes. Where each write is at several, no shard has to be named unless some move.)"""
         with self.lock:
             places = []
+            if self.fleet.copies > 1:
+                self.fleet.wait_for(f"copies of what {name} serves are told", lambda: self.is_told(name))
             self.fleet.wait_for(f"{name} answers", lambda: places.append((time.time(), self.fleet.posts[name].query(FLUSHED)[0][0])) or places)
             at, place = places[0]
             self.fleet.wait_for(f"what {name} serves is followed", lambda: self.is_followed(name, place))
@@ -247,15 +249,49 @@ class Harm:
             for pid in frozen:
                 with contextlib.suppress(OSError):
                     os.kill(pid, signal.SIGKILL)
-            begun = time.monotonic()
-            for _ in range(20):
-                if self.fleet.command("reopen", "--lost", name, "--yes", "--accept-loss", "--wait", "60").wait() == 0:
-                    break
-                time.sleep(0.5)
-            else:
-                self.wrong.append(f"not within {time.monotonic() - begun:.0f} s: the service is open without {name}")
-            self.losses.append((at, time.time()))
-            self.say(f"reopened after {time.monotonic() - begun:.1f} s")
+            self.reopen(name, at, 2 if self.fleet.copies > 1 else 0)
+
+    def reopen(self, name, at, unnamed, tries=20):
+        """Reopens the service without a server; a few times as long as no shard is named."""
+        begun = time.monotonic()
+        for n in range(tries):
+            words = [] if n < unnamed else ["--accept-loss"]
+            if self.fleet.command("reopen", "--lost", name, "--yes", *words, "--wait", "60").wait() == 0:
+                self.count("named" if words else "unnamed")
+                break
+            time.sleep(0.5)
+        else:
+            self.wrong.append(f"not within {time.monotonic() - begun:.0f} s: the service is open without {name}")
+        self.losses.append((at, time.time()))
+        self.say(f"reopened after {time.monotonic() - begun:.1f} s")
+
+    def is_told(self, name):
+        """Whether a controller knows the copies of each shard that a server leads."""
+        shards = self.fleet.state()["shards"]
+        return all(it["copies"] >= self.fleet.copies for it in shards if {"server": name, "state": "primary"} in it["cells"])
+
+    def lose_alone(self, name):
+        """A server goes on without the others, which are off, and is lost for good as they start again: no shard may have to be named."""
+        with self.lock:
+            self.fleet.wait_for(f"copies of what {name} serves are told", lambda: self.is_told(name))
+            at, others = time.time(), [it for it in self.present() if it != name]
+            for it in others:
+                self.fleet.agents[it].kill()
+                self.fleet.posts[it].kill()
+            served = [shard for (shard,) in self.fleet.posts[name].query("SELECT shard FROM sm.slots WHERE cell = 4")]
+            alone = " AND ".join(f"NOT EXISTS (SELECT FROM {it}.sm_members)" for it in served)
+            self.fleet.wait_for(f"{name} goes on alone", lambda: self.fleet.posts[name].query(f"SELECT {alone}") == [(True,)])
+            time.sleep(2.0)
+            self.count("lose")
+            self.gone.add(name)
+            self.fleet.agents[name].kill()
+            self.fleet.posts[name].kill()
+            self.say(f"kill -9 {name} for good, while it is alone")
+            for it in others:
+                self.revive(it)
+            for it in others:
+                self.fleet.wait_for(f"{it} answers", lambda it=it: self.fleet.answers(it))
+            self.reopen(name, at, 5, 5)
 
     def lose_behind_leave(self, stop):
         """Kills an old owner that has leave to drop its copy, and loses the new owner, before it starts again: a reopening takes that copy for whole."""

@@ -35,9 +35,10 @@ class Run:
     def __init__(self, told):
         self.told, self.dice, self.begun, self.events = told, random.Random(told.seed), time.time(), []
         names = [chr(ord("a") + it) for it in range(told.servers)]
-        self.fleet = Fleet(told.folder, names, told.shards, options=["--dead", str(told.dead), *told.option], harm=told.messages, seed=told.seed, bug=told.bug,
+        options = ["--dead", str(told.dead), "--copies", str(told.copies), *told.option]
+        self.fleet = Fleet(told.folder, names, told.shards, options=options, harm=told.messages, seed=told.seed, bug=told.bug,
                            controllers=told.controllers, parts=told.databases)
-        self.fleet.dead, self.fleet.late, self.fleet.frozen, self.fleet.patience = told.dead, told.late, told.frozen, told.patience
+        self.fleet.dead, self.fleet.late, self.fleet.frozen, self.fleet.patience, self.fleet.copies = told.dead, told.late, told.frozen, told.patience, told.copies
         self.harm = Harm(self.fleet, random.Random(f"{told.seed} harm"), self.say)
         self.stopping = threading.Event()
         self.writers, self.spans, self.drained, self.share = [], {}, None, Share()
@@ -118,7 +119,7 @@ class Run:
         while not self.is_over() and (time.time() < until or loses or (done < self.told.drains and time.time() < begun + self.told.patience)):
             if loses and time.time() >= begun + (until - begun) * self.told.lose_at:
                 name = self.serving()
-                self.harm.lose(name)
+                (self.harm.lose_alone if self.told.alone else self.harm.lose)(name)
                 self.repair()
                 if not self.told.no_disk:
                     self.harm.replace(name)
@@ -302,6 +303,8 @@ def arguments():
     parser.add_argument("--back", type=float, default=0.0, help="the share of moves in which others lead for a server, and give back at once")
     parser.add_argument("--late", type=float, default=1.5, help="for how long a copy or a stream stands still, in seconds")
     parser.add_argument("--lose", type=int, default=0)
+    parser.add_argument("--copies", type=int, default=None, help="each acknowledged write is at so many servers; without it, 2 by odd seeds")
+    parser.add_argument("--alone", action="store_true", help="who is lost has gone on without the others before")
     parser.add_argument("--frozen", type=float, default=0.7, help="for how long streams of a server stand still before it is lost, in seconds")
     parser.add_argument("--no-disk", action="store_true", help="a server that is lost does not come back with an empty disk")
     parser.add_argument("--lose-at", type=float, default=0.5, help="the share of the time behind which a server is lost")
@@ -316,6 +319,7 @@ def arguments():
     parser.add_argument("--quiet", action="store_true")
     told = parser.parse_args()
     told.seed = random.SystemRandom().randrange(1 << 30) if told.seed is None else told.seed
+    told.copies = 1 + told.seed % 2 if told.copies is None else told.copies
     return told
 
 

@@ -159,7 +159,7 @@ def main():
     parser.add_argument("--rest", type=float, default=0.03)
     parser.add_argument("--at-once", default="2")
     given = parser.parse_args()
-    sys.argv = ["run.py", given.folder, "--shards", str(given.shards), "--rows", str(given.rows), "--rest", str(given.rest), "--harm", "--seconds", "40", "--seed", "1",
+    sys.argv = ["run.py", given.folder, "--shards", str(given.shards), "--rows", str(given.rows), "--rest", str(given.rest), "--harm", "--seconds", "40", "--seed", "1", "--copies", "1",
                 f"--option=--at-once={given.at_once}"]
     story = Story(runs.arguments())
     try:

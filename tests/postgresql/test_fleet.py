@@ -23,18 +23,25 @@ SUM = ("SELECT (SELECT count(*) FROM s.accounts) || ' ' || (SELECT sum(balance) 
        "(SELECT sum(writes) FROM s.sm_counters)")
 
 
+def made(folder, secondaries, *options):
+    """Servers a, b and c with a shard s, whose primary is a."""
+    os.chmod(folder.name, 0o711)
+    fleet = servers.Fleet(Path(folder.name) / "fleet", ["a", "b", "c"], options=["--dead", DEAD, "--stalled", "5", *options])
+    fleet.make()
+    fleet.posts["a"].query(TABLES)
+    database = Database(fleet.posts["a"].reach)
+    adopt(database, ["s"])
+    database.close()
+    cells = [{"server": "a", "state": "primary"}, *({"server": it, "state": "secondary"} for it in secondaries)]
+    fleet.open({"limit": 1, "servers": [{"name": it, "region": "r", "room": 9} for it in "abc"], "shards": [
+        {"name": "s", "load": 1, "want": len(cells), "cap": len(cells) - 1, "spread": 1, "listed": "a", "cells": cells}]})
+    return fleet
+
+
 def setUpModule():
     global FLEET, FOLDER
     FOLDER = tempfile.TemporaryDirectory(prefix="pg-test-", dir="/dev/shm")
-    os.chmod(FOLDER.name, 0o711)
-    FLEET = servers.Fleet(Path(FOLDER.name) / "fleet", ["a", "b", "c"], options=["--dead", DEAD, "--stalled", "5"])
-    FLEET.make()
-    FLEET.posts["a"].query(TABLES)
-    database = Database(FLEET.posts["a"].reach)
-    adopt(database, ["s"])
-    database.close()
-    FLEET.open({"limit": 1, "servers": [{"name": it, "region": "r", "room": 9} for it in "abc"], "shards": [
-        {"name": "s", "load": 1, "want": 2, "cap": 1, "spread": 1, "listed": "a", "cells": [{"server": "a", "state": "primary"}, {"server": "b", "state": "secondary"}]}]})
+    FLEET = made(FOLDER, "b")
 
 
 def tearDownModule():

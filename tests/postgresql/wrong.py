@@ -138,6 +138,11 @@ def left():
     Leave.keep = keep_late
 
 
+def copied():
+    """Writes are acknowledged, and told to be at two servers, though the primary alone has them."""
+    edit("RETURN others + 1 >= b.copies;", "RETURN true;")
+
+
 # The runs, by what comes in them, and the harm of a sound one. Harm that waits for a moment brings the situation in each run, not by chance. A run with a bug
 # has to come to rest in time, as the sound one with its seed did.
 RUNS = {
@@ -145,6 +150,7 @@ RUNS = {
     "loss": (["--servers", "4", "--wide", "--at-one", "--lose", "1", "--lose-at", "0", "--no-disk", "--frozen", "4", "--seconds", "1"], []),
     "cuts": (["--seconds", "3", "--drains", "1", "--at-one", "--roles", "0", "--most", "3"], ["cut"]),
     "leave": (["--servers", "4", "--seconds", "20", "--at-one", "--roles", "0", "--most", "1"], ["leave"]),
+    "alone": (["--at-one", "--lose", "1", "--lose-at", "0", "--no-disk", "--alone", "--copies", "2", "--seconds", "1"], []),
     "back": (["--seconds", "3", "--drains", "1", "--at-one", "--back", "1", "--dead", "30", "--option=--stalled=300"], []),
 }
 
@@ -153,7 +159,7 @@ BUGS = {
     "no_lock": (no_lock, "moves", "late commit"), "identities": (identities, "moves"), "sequences": (sequences, "moves"), "ddl": (ddl, "moves", "ddl"),
     "guard": (guard, "moves"), "early": (early, "moves", "late copy"), "seal_early": (seal_early, "moves", "late stream"), "no_followers": (no_followers, "loss"),
     "mark": (mark, "loss"), "slot_first": (slot_first, "cuts", "cut"), "no_place": (no_place, "back"),
-    "left": (left, "leave", "leave"),
+    "left": (left, "leave", "leave"), "copied": (copied, "alone"),
 }
 
 
@@ -165,7 +171,7 @@ def plant(name):
 def run(kind, bug, seed, told):
     """Whether a run is clean; none if it has no verdict, as on a machine that is too slow; and what it said."""
     words = ["/usr/bin/python3", str(HERE / "run.py"), "", "--quiet", "--seed", str(seed), "--patience", str(told.patience), "--servers", "3", "--shards", "3",
-             "--rows", str(told.rows), "--writers", "1", "--rest", "0.06", "--every", "0.5", "--bug", bug, *(["--strict"] if bug else []), *RUNS[kind][0],
+             "--rows", str(told.rows), "--writers", "1", "--rest", "0.06", "--every", "0.5", "--copies", "1", "--bug", bug, *(["--strict"] if bug else []), *RUNS[kind][0],
              "--harm", *(BUGS[bug][2:] if bug else RUNS[kind][1])]
     with tempfile.TemporaryDirectory(prefix="pg-wrong-", dir="/dev/shm", ignore_cleanup_errors=True) as folder:
         os.chmod(folder, 0o711)
