@@ -271,7 +271,7 @@ class Harm:
         return all(it["copies"] >= self.fleet.copies for it in shards if {"server": name, "state": "primary"} in it["cells"])
 
     def lose_alone(self, name):
-        """A server goes on without the others, which are off, and is lost for good as they start again: no shard may have to be named."""
+        """A server is alone, as the others are off, and is lost for good as they start again: no shard may have to be named."""
         with self.lock:
             self.fleet.wait_for(f"copies of what {name} serves are told", lambda: self.is_told(name))
             at, others = time.time(), [it for it in self.present() if it != name]
@@ -280,7 +280,8 @@ class Harm:
                 self.fleet.posts[it].kill()
             served = [shard for (shard,) in self.fleet.posts[name].query("SELECT shard FROM sm.slots WHERE cell = 4")]
             alone = " AND ".join(f"NOT EXISTS (SELECT FROM {it}.sm_members)" for it in served)
-            self.fleet.wait_for(f"{name} goes on alone", lambda: self.fleet.posts[name].query(f"SELECT {alone}") == [(True,)])
+            with contextlib.suppress(TimeoutError):  # (it waits for the last one)
+                self.fleet.wait_for(f"{name} goes on alone", lambda: self.fleet.posts[name].query(f"SELECT {alone}") == [(True,)], 2 * self.fleet.dead + 8.0)
             time.sleep(2.0)
             self.count("lose")
             self.gone.add(name)

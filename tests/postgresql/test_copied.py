@@ -140,6 +140,27 @@ class CopiedTest(Several):
         self.its["a"].keeping.leave_out(f"no {self.shard}", (self.shard, 3, False))
         self.assertTrue(self.acknowledged("b"))
 
+    def test_who_is_needed_is_waited_for_though_it_is_silent(self):
+        self.lead("bc")
+        keeping, clock, found = self.its["a"].keeping, [0.0], []
+        with mock.patch.object(self.its["a"].silence, "now", lambda: clock[0]):
+            for clock[0] in (0.0, 100.0, 200.0, 300.0):
+                keeping.leave_out_the_dead()
+                found.append(len(self.members()))
+            self.a.do("UPDATE sm.state SET copies = 1")
+            for clock[0] in (301.0, 310.0):
+                keeping.leave_out_the_dead()
+                found.append(len(self.members()))
+        self.assertEqual(found, [2, 1, 1, 1, 1, 0])
+
+    def test_a_stream_that_is_gone_is_not_waited_for(self):
+        self.lead()
+        streams.drop_streams(self.a, self.shard)
+        with mock.patch.object(self.its["a"].silence, "now", lambda: clock[0]):
+            for clock in ([0.0], [100.0]):
+                self.its["a"].keeping.leave_out_the_dead()
+        self.assertEqual(self.members(), {})
+
     def test_who_connects_settled_at_the_last_reopening_counts(self):
         self.lead()
         whole, line = self.its["a"].whole, {"shard": self.shard, "cell": "primary", "load": 1}
@@ -351,13 +372,14 @@ class CopiedTest(Several):
         self.lead()
         its, clock = self.its["a"], [0.0]
         with mock.patch.object(its, "say") as said, mock.patch.object(its.silence, "now", lambda: clock[0]):
-            for clock[0], members in ((0.0, {2: False}), (1.0, {}), (10.0, {}), (20.0, {})):
-                with self.a.transaction() as tx:
-                    tx.execute(Records(tx).own("DELETE FROM {}.sm_members WHERE NOT server = ANY(%s)", self.shard), (list(members),))
+            for clock[0] in (0.0, 1.0, 10.0, 20.0):
+                self.write("a", clock[0])
                 its.copied.look()
                 self.assertEqual(said.call_count, int(clock[0] >= 10.0))
+            self.read("b")
+            its.copied.look()
+            self.assertEqual(its.copied.short, {})
         self.assertIn(f"fewer than 2 servers have what is written of {self.shard}", str(said.call_args))
-        self.join("b")
         self.tell()
         self.read("b")
         self.tell()

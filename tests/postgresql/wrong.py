@@ -140,7 +140,10 @@ def left():
 
 def copied():
     """Writes are acknowledged, and told to be at two servers, though the primary alone has them."""
+    from smplan_pg.keeping import Keeping
     edit("RETURN others + 1 >= b.copies;", "RETURN true;")
+    sound = Keeping.is_dead
+    Keeping.is_dead = lambda self, name, row, _=False: sound(self, name, row)
 
 
 # The runs, by what comes in them, and the harm of a sound one. Harm that waits for a moment brings the situation in each run, not by chance. A run with a bug

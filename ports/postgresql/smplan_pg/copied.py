@@ -15,11 +15,11 @@ if TYPE_CHECKING:
 UNTOLD = """SELECT s.shard, s.sealed::text AS sealed, b.journal, b.settled, b.copies, pg_current_wal_flush_lsn()::text AS place FROM sm.slots s, sm.state b
   WHERE b.known = 1 AND b.fenced = 0 AND b.copies > 1 AND s.cell = 4 AND s.told IS DISTINCT FROM b.settled ORDER BY s.shard"""
 
-# The shards that this server leads and that fewer servers follow than have to have each write.
+# The shards that this server leads, and of which too few servers have what its log has up to a place.
 SHORT = """SELECT s.shard, b.copies FROM sm.slots s, sm.state b
-  WHERE b.known = 1 AND b.copies > 1 AND s.cell = 4 AND s.at_work = 0 AND NOT sm.has_copies(s.shard, '0/0') ORDER BY s.shard"""
+  WHERE b.known = 1 AND b.copies > 1 AND s.cell = 4 AND NOT sm.has_copies(s.shard, %s::pg_lsn) ORDER BY s.shard"""
 
-# For how long fewer servers follow until it is said, in seconds.
+# For how long it is so until it is said, in seconds.
 SHORTLY = 5.0
 
 
@@ -39,6 +39,7 @@ class Copied:
         self.server = server
         self.noted: Dict[str, Noted] = {}
         self.short: Dict[str, float] = {}
+        self.seen = "0/0"
 
     def tell(self) -> None:
         """Tells of each shard that is not told yet, as soon as enough servers have all up to the place that was noted."""
@@ -64,9 +65,10 @@ class Copied:
         return True
 
     def look(self) -> None:
-        """Says of which shards writes wait, since too few servers follow."""
+        """Says of which shards writes wait, since too few servers have what was written until the last look."""
         now = self.server.silence.now()
-        rows = {it["shard"]: it["copies"] for it in self.server.database.rows(SHORT)}
+        rows = {it["shard"]: it["copies"] for it in self.server.database.rows(SHORT, self.seen)}
+        self.seen = value(self.server.database.row("SELECT pg_current_wal_flush_lsn()::text"))
         self.short = {shard: self.short.get(shard, now) for shard in rows}
         for shard, since in self.short.items():
             if now - since > SHORTLY:

@@ -1,6 +1,7 @@
 """What a server does by itself: it goes on without followers that are dead, forgets old identities, and tidies streams that nobody will read."""
 from __future__ import annotations
 
+from collections import Counter
 from contextlib import suppress
 from dataclasses import dataclass
 from typing import TYPE_CHECKING, Dict, List, Optional
@@ -49,17 +50,21 @@ class Keeping:
 
     def leave_out_the_dead(self) -> None:
         """A follower that has read nothing for a while, or got on with nothing for long, counts no more, and copies the shard anew; an old owner counts, dead or
-        not. A stream that is lost, or that was never made, is dead at once."""
+        not. A stream that is lost, or that was never made, is dead at once. Who is silent is waited for if too few would count without it: writes would wait
+        all the same, and until it has copied."""
         with self.server.database.transaction() as tx:
             it = Records(tx)
-            rows, base = tx.execute(STREAMS).fetchall(), it.base()
+            rows, base, copies = tx.execute(STREAMS).fetchall(), it.base(), it.copies()
             members = {streams.name_of(tx, shard, number): (shard, number, was_owner) for shard, slot in it.slots().items() if slot.cell == Cell.PRIMARY
                        for number, was_owner in it.members(shard).items()}
         present = {it["slot_name"]: it for it in rows}
         self.watched = {name: it for name, it in self.watched.items() if name in present or name in members}
+        counts = Counter(shard for shard, *_ in members.values())
         for name in {*present, *members} if base.known else ():
             shard, number, was_owner = members.get(name, ("", 0, False))
-            if self.has_left(shard, number, base) if was_owner else self.is_dead(name, present.get(name)):
+            is_needed = name in members and counts[shard] < copies
+            if self.has_left(shard, number, base) if was_owner else self.is_dead(name, present.get(name), is_needed):
+                counts[shard] -= 1
                 self.leave_out(name, members.get(name))
 
     def has_left(self, shard: str, number: int, base: Base) -> bool:
@@ -70,8 +75,8 @@ class Keeping:
             return False
         return is_of(it, base) and it["cell"] == Cell.ABSENT
 
-    def is_dead(self, name: str, row: Optional[Row]) -> bool:
-        """Whether nobody will go on with a stream, as far as can be seen from here."""
+    def is_dead(self, name: str, row: Optional[Row], is_needed: bool = False) -> bool:
+        """Whether nobody will go on with a stream, as far as can be seen from here; of one whose follower is needed and silent this can't be seen."""
         now = self.server.silence.now()
         if row is not None and (row["is_copied"] or row["cell"] in (Cell.PREPARED, Cell.FORWARDING) or row["at_work"]):
             self.watched.pop(name, None)
@@ -83,6 +88,8 @@ class Keeping:
             it.silent = None
         if row is not None and (row["has"] != it.has or not row["is_behind"]):
             it.has, it.since = row["has"], now
+        if is_needed and row is not None and not row["active"]:
+            it.silent, it.since = None, now
         limits = self.server.limits
         return bool((row and row["is_lost"]) or (it.silent and now - it.silent > limits.dead) or now - it.since > limits.stalled)
 
