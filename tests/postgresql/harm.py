@@ -153,6 +153,8 @@ class Harm:
             return
         kinds = self.dice.choice([("server",), ("side",), ("server", "side")])
         with self.lock:
+            if name in self.gone:
+                return
             self.count(f"{moment}: {' and '.join(kinds)}")
             self.say(f"kill -9 {name} ({', '.join(kinds)}) at {moment}")
             if "side" in kinds:
@@ -173,8 +175,8 @@ class Harm:
 
     def away(self, seconds):
         """A server is off for longer than others wait for it."""
-        name = self.dice.choice(self.present())
         with self.lock:
+            name = self.dice.choice(self.present())
             self.count("away")
             self.say(f"{name} is off for {seconds:.0f} s")
             self.fleet.posts[name].kill()
