@@ -92,6 +92,7 @@ class Run:
     def start_writers(self):
         """Clients in processes of their own."""
         (self.fleet.folder / "setup.json").write_text(json.dumps({
+            "patience": 60.0 * self.told.copies,  # (where a second copy is lost, who writes waits until there is another one)
             "servers": {it: post.reach for it, post in self.fleet.posts.items()}, "maps": [str(it) for it in self.fleet.map_files], "shards": self.fleet.shards, "rows": self.told.rows}))
         self.writers = [subprocess.Popen(["/usr/bin/python3", "writers.py", str(self.fleet.folder), str(n), "1", str(self.told.rest), str(self.told.plain)], cwd=HERE,
                                          stdout=(self.fleet.folder / f"writers-{n}.log").open("w"), stderr=subprocess.STDOUT) for n in range(self.told.writers)]

@@ -114,7 +114,7 @@ class Log:
 
 def main(folder, number, threads, rest, longest):
     setup = json.loads((folder / "setup.json").read_text())
-    routers = [RoughRouter(setup["servers"], setup["maps"][it % len(setup["maps"])], patience=60.0) for it in range(2)]
+    routers = [RoughRouter(setup["servers"], setup["maps"][it % len(setup["maps"])], patience=setup["patience"]) for it in range(2)]
     told, plain = Log(folder / f"acknowledged-{number}.jsonl"), Log(folder / f"plain-{number}.jsonl")
     work = [(Writer(folder, routers[it % 2], setup, shard, f"{shard}-{number}-{it}", rest), told) for shard in setup["shards"] for it in range(threads)]
     work += [(PlainWriter(folder, setup, shard, f"{shard}-{number}", rest, longest), plain) for shard in setup["shards"] if longest]
