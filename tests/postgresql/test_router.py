@@ -113,6 +113,19 @@ class RouterTest(Case):
             self.router.run("s", "r2", add(5))
         self.assertLess(time.monotonic() - begun, 30.0)
 
+    def test_a_client_that_is_no_superuser(self):
+        for it in DATABASES.values():
+            with it.transaction() as tx:
+                tx.execute("DO $$ BEGIN IF to_regrole('client') IS NULL THEN CREATE ROLE client LOGIN; END IF; END $$")
+                tx.execute("GRANT USAGE ON SCHEMA sm, s TO client; GRANT SELECT, INSERT, UPDATE, DELETE ON ALL TABLES IN SCHEMA s TO client")
+        router = Router({name: reach.replace("user=postgres", "user=client") for name, reach in REACH.items()}, self.map, patience=3.0)
+        self.assertEqual([router.run("s", it, add(5)) for it in ("r1", "r1", "r2")], [5, 5, 10])
+        self.slots(a=Slot(Cell.FORWARDING, 2, 1, load=1, cut=0, has_cut=1), b=Slot(Cell.PREPARED, 1, 1, load=1, cut=0, has_cut=1))
+        self.assertEqual(router.run("s", "r3", add(5)), 5)
+        self.assertEqual(router.counts["passed on"], 1)
+        for it in router.servers.values():
+            it.close()
+
     def test_work_that_takes_longer_than_the_patience(self):
         self.router.patience = 0.5
         self.assertEqual(self.router.run("s", "r1", lambda cursor: cursor.execute("SELECT pg_sleep(3)").rowcount), 1)

@@ -38,9 +38,12 @@ CREATE TABLE IF NOT EXISTS sm.slots (
 -- The reopening since which a controller knows of the shard's copies, if this server has told it since it began to lead.
 ALTER TABLE sm.slots ADD COLUMN IF NOT EXISTS told bigint;
 
--- The connections on which followers have said that their copies are whole: the last reopening at which each was settled by then. Clients read them.
+-- The connections on which followers have said that their copies are whole: the last reopening at which each was settled by then.
 CREATE TABLE IF NOT EXISTS sm.connections (shard text, server int, settled bigint NOT NULL, PRIMARY KEY (shard, server));
-GRANT SELECT ON sm.connections TO PUBLIC;
+
+-- Functions read these with the rights of the client that calls them, who may use the schema.
+GRANT SELECT ON sm.state, sm.slots, sm.connections TO PUBLIC;
+GRANT SELECT (number, name) ON sm.servers TO PUBLIC;
 
 -- The copies that this server makes: what they have left behind is its own to delete. An old copy stands beside, under the name `kept`, until the new
 -- one is whole.
