@@ -1,0 +1,4 @@
+pub mod Joined
+pub mod Duties
+pub mod Laws
+pub mod Plays

@@ -1,0 +1,26 @@
+//! The laws.
+ghost use Rattle.laws_service_data.specs.Laws.{ExecutesWithAll, JoinedOpens, ServingLeads};
+
+use laws_data::acknowledged_writes_stay;
+use sm_server::leads_where_led;
+
+/// States that whoever serves a shard leads its data, or is prepared to take over from the server that does.
+pub fn serving_server_leads()
+    ensures { ServingLeads }
+{
+    leads_where_led();
+}
+
+/// States that whoever executes a request of a shard has each write that was acknowledged before, in its whole copy,
+/// if servers do with the data what orders and requests ask for.
+pub fn executes_with_all()
+    ensures { ExecutesWithAll }
+{
+    leads_where_led();
+    acknowledged_writes_stay();
+}
+
+/// States that a fleet opens with a shard's data wherever a machine can open on a placement whose primary is theirs.
+pub fn joined_opens()
+    ensures { JoinedOpens }
+{}

@@ -1,0 +1,8 @@
+//! Laws of a service's data: the server that executes requests of a shard has each write that was acknowledged.
+#![tactic(auto)]
+
+mod law;
+mod play;
+
+pub use law::{executes_with_all, joined_opens, serving_server_leads};
+pub use play::{handover_keeps_writes, restart_keeps_writes};
