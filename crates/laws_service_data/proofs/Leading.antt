@@ -23,7 +23,6 @@ leads_still w v (Acknowledges list) c a l = l
 leads_still w v (Leave s) c a l = l
 leads_still w v (Stays s) c a l = l
 leads_still w v (Loses s) c a l = l
-leads_still w v (Restarts view) c a l = (l.0, (let b = a.1.1 in omega arith))
 leads_still w v (Raises needed) c a l = l
 leads_still w v (Lowers needed) c a l = l
 leads_still w v (Releases s others) c a l = l
@@ -36,6 +35,7 @@ leads_still w v (Removes gone needed) c a l = absurd (cc)
 leads_still w v (Changes s view answered) c a l = absurd (cc)
 leads_still w v (Chooses choice) c a l = absurd (cc)
 leads_still w v (Ends number) c a l = absurd (cc)
+leads_still w v (Restarts view) c a l = absurd (cc)
 leads_still w v (Succeeds s view former) c a l = absurd (cc)
 
 -- Where whoever leads goes on to lead, whoever leads or waits goes on, too.

@@ -4,5 +4,6 @@ mod Leading
 mod Committing
 mod Runs
 mod Opening
+mod Cuts
 mod Laws
 mod Plays

@@ -73,7 +73,8 @@ described setup s f r = let k = fleet_shadow setup f r in net_described setup (s
 one_serves : (setup : Setup) (s : ℕ) (f : Fleet) → IsFleetReached setup f → OneServes (held_cells f s)
 one_serves setup s f r x y a b = (fleet_is_safe setup f r).held.serving s x y a b
 
-known_cell : (f : Fleet) (s v : ℕ) → has_lost f v ≡ false → held_cells f s v ≡ cell_at f s v
+-- the cell of a server that has its slots
+pub known_cell : (f : Fleet) (s v : ℕ) → has_lost f v ≡ false → held_cells f s v ≡ cell_at f s v
 known_cell f s v h = ap (λ b. if b then f.had s v else ((f.servers v).slots s).cell) h
 
 -- whoever executes a request leads then, and has a copy

@@ -7,7 +7,7 @@ use Rattle.sm_server.specs.declared.call.Call.{Call}
 use Rattle.sm_server.specs.declared.call.Call.TheVariants.{Add, Change, Drop, PrepareAdd, PrepareDrop}
 use Rattle.sm_agent.specs.declared.request.Routing.TheVariants.{Execute}
 use Rattle.laws_network.specs.Fleet.{Committed, Fleet, FleetEvent, FleetOutcome, Routed, fleet_comes}
-use Rattle.laws_data.specs.Shard.{Changes, Chooses, Ends, Event, Executes, Goes, Hands, HasPrimary, Joins, MayHappen, MayHappenInTurn, Releases, Removes, Shard, Succeeds, all_left}
+use Rattle.laws_data.specs.Shard.{Changes, Chooses, Ends, Event, Executes, Goes, Hands, HasPrimary, Joins, MayHappen, MayHappenInTurn, Releases, Removes, Restarts, Shard, Succeeds, all_left}
 use Rattle.laws_service_data.specs.Joined.{Joined, JoinedEvent, OfData, OfFleet, joined_comes}
 
 -- Whether servers do something only for an order or a request, or in a reopening. By themselves they copy, follow,
@@ -20,6 +20,7 @@ has_cause (Hands s) = true
 has_cause (Changes s view answered) = true
 has_cause (Succeeds s view former) = true
 has_cause (Ends number) = true
+has_cause (Restarts view) = true
 has_cause (Removes gone needed) = true
 has_cause (Chooses choice) = true
 has_cause _ = false

@@ -1,7 +1,7 @@
 -- Who serves a shard has its data.
 use Rattle.std.specs.Prelude.{◌≡◌, ◌⊎◌, ℕ, true, List, Some}
 use Rattle.sm_server.specs.declared.call.Cell.{Cell}
-use Rattle.sm_server.specs.declared.call.Cell.TheVariants.{Prepared, Primary}
+use Rattle.sm_server.specs.declared.call.Cell.TheVariants.{Forwarding, Prepared, Primary}
 use Rattle.sm_placement.specs.Setup.{Setup}
 use Rattle.sm_placement.specs.Place.{Place}
 use Rattle.sm_placement.specs.SafePlace.{IsServing}
@@ -11,7 +11,7 @@ use Rattle.sm_copies.specs.Lists.{ListEntry, begins}
 use Rattle.laws_network.specs.Fleet.{Fleet, FleetEvent, Routed, fleet_comes, held_cells}
 use Rattle.laws_network.specs.FleetLaws.{AllFleetFit, IsFleetOpening, held_place}
 use Rattle.laws_data.specs.Shard.{Event, HasPrimary, IsShardReached, Shard, all_left}
-use Rattle.laws_service_data.specs.Joined.{Joined, JoinedEvent, OfFleet, fleet_events, joined_run}
+use Rattle.laws_service_data.specs.Joined.{Joined, JoinedEvent, OfFleet, fleet_events, joined_comes, joined_run}
 use Rattle.laws_service_data.specs.Duties.{IsLeading, KeepDuties, KeepsDuties, cell_at}
 
 -- A fleet opens, and whoever serves the shard leads its data.
@@ -61,3 +61,11 @@ ExecutesWithAll = (setup : Setup) (s v : ℕ) (x : Joined) (events : List Joined
     → KeepsDuties s (joined_run events x) (OfFleet e acts)
     → (fleet_comes (joined_run events x).fleet e).0 ≡ Routed s v Execute
     → LeadsWith (all_left acts (joined_run events x).shard) v x.shard.acknowledged
+
+-- From the cut of an old owner on its list stays as it is, whatever comes, as long as it leads: nobody executes a write.
+abbrev pub CutEndsWrites : Type 0
+CutEndsWrites = (setup : Setup) (s u to number : ℕ) (x : Joined) (j : JoinedEvent) →
+    IsJoinedReached setup s x → KeepsDuties s x j → held_cells x.fleet s u ≡ Forwarding to number
+    → IsLeading (joined_comes x j).shard u
+    → ((joined_comes x j).shard.view ≡ x.shard.view)
+    × ((joined_comes x j).shard.lists x.shard.view ≡ x.shard.lists x.shard.view)

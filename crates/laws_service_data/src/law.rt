@@ -1,5 +1,5 @@
 //! The laws.
-ghost use Rattle.laws_service_data.specs.Laws.{ExecutesWithAll, JoinedOpens, ServingLeads};
+ghost use Rattle.laws_service_data.specs.Laws.{CutEndsWrites, ExecutesWithAll, JoinedOpens, ServingLeads};
 
 use laws_data::acknowledged_writes_stay;
 use sm_server::leads_where_led;
@@ -18,6 +18,13 @@ pub fn executes_with_all()
 {
     leads_where_led();
     acknowledged_writes_stay();
+}
+
+/// States that from the cut of an old owner on its list stays as it is, as long as it leads.
+pub fn cut_ends_writes()
+    ensures { CutEndsWrites }
+{
+    leads_where_led();
 }
 
 /// States that a fleet opens with a shard's data wherever a machine can open on a placement whose primary is theirs.

@@ -4,5 +4,5 @@
 mod law;
 mod play;
 
-pub use law::{executes_with_all, joined_opens, serving_server_leads};
+pub use law::{cut_ends_writes, executes_with_all, joined_opens, serving_server_leads};
 pub use play::{handover_keeps_writes, restart_keeps_writes};
