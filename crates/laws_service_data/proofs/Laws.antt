@@ -8,16 +8,17 @@ use Rattle.sm_server.specs.declared.call.Role.TheVariants as role
 use Rattle.sm_server.specs.declared.call.Call.{Call}
 use Rattle.sm_server.specs.declared.call.Call.TheVariants.{Add, Change, Drop, PrepareAdd, PrepareDrop}
 use Rattle.sm_server.specs.Call.{LeadsWhereLed}
+use Rattle.sm_placement.specs.Setup.{Setup}
 use Rattle.sm_agent.specs.declared.request.Routing.TheVariants as routing
 use Rattle.sm_copies.specs.Lists.{ListEntry}
-use Rattle.laws_network.specs.Fleet.{Committed, FleetOutcome, Judged, Routed, Silent, fleet_comes}
-use Rattle.laws_data.specs.Shard.{Acknowledges, Changes, Chooses, Copies, Ends, Event, Executes, Follows, Goes, Hands, Hears, Joins, Leave, Loses, Lowers, MayHappenInTurn, Raises, Releases, Removes, Restarts, Shard, Stays, Succeeds, Takes, Tells, all_left, names}
+use Rattle.laws_network.specs.Fleet.{Committed, FleetEvent, FleetOutcome, Judged, Routed, Silent, fleet_comes}
+use Rattle.laws_data.specs.Shard.{Acknowledges, Changes, Chooses, Copies, Ends, Event, Executes, Follows, Goes, Hands, Hears, Joins, Leave, Loses, Lowers, IsShardReached, MayHappenInTurn, Raises, Releases, Removes, Restarts, Shard, Stays, Succeeds, Takes, Tells, all_left, names}
 use Rattle.laws_data.specs.Laws.{AcknowledgedWritesStay}
 use Rattle.laws_service_data.specs.Joined.{Joined, JoinedEvent, OfData, OfFleet, joined_comes, joined_run}
-use Rattle.laws_service_data.specs.Duties.{BecomesPrimary, ForOrder, ForRequest, ForShard, IsAskedFor, IsExecuted, KeepDuties, TakesOver, cell_at, has_cause}
-use Rattle.laws_service_data.specs.Laws.{ExecutesWithAll, ServingLeads}
+use Rattle.laws_service_data.specs.Duties.{BecomesPrimary, ForOrder, ForRequest, ForShard, IsAskedFor, IsExecuted, KeepDuties, KeepsDuties, TakesOver, cell_at, has_cause}
+use Rattle.laws_service_data.specs.Laws.{ExecutesWithAll, LeadsWith, ServingLeads}
 use Rattle.laws_service_data.proofs.Leading.{left_append}
-use Rattle.laws_service_data.proofs.Runs.{executing, in_turn, joint, joint_run}
+use Rattle.laws_service_data.proofs.Runs.{IsJoint, executing, in_turn, joint, joint_run}
 
 -- whoever serves leads, or waits
 pub serving_leads : LeadsWhereLed → ServingLeads
@@ -113,47 +114,59 @@ unnamed_asked s x acts Silent d = none_unnamed acts d
 
 -- ---- all that is done with the data
 
-abbrev done_by : List JoinedEvent → List Event
-done_by [] = []
-done_by (OfFleet e acts ∷ js) = acts ++ done_by js
-done_by (OfData event ∷ js) = event ∷ done_by js
+-- The data have gone on, and no event has named the shard.
+pub record IsOnward (w new : Shard) : Type 0 where
+  pub acts : List Event
+  pub may : MayHappenInTurn w acts
+  pub unnamed : AreUnnamed acts
+  pub is : all_left acts w ≡ new
 
-done_is : (js : List JoinedEvent) (x : Joined) → all_left (done_by js) x.shard ≡ (joined_run js x).shard
-done_is [] x = refl
-done_is (OfFleet e acts ∷ js) x = left_append acts (done_by js) x.shard ∙ done_is js (joined_comes x (OfFleet e acts))
-done_is (OfData event ∷ js) x = done_is js (joined_comes x (OfData event))
+-- they have not yet
+pub onward_here : (w : Shard) → IsOnward w w
+onward_here w = record { acts = []; may = tt; unnamed = tt; is = refl }
 
-done_may : (s : ℕ) (js : List JoinedEvent) (x : Joined) → KeepDuties s x js → MayHappenInTurn x.shard (done_by js)
-done_may s [] x k = tt
-done_may s (OfFleet e acts ∷ js) x k = in_turn x.shard acts (done_by js) k.0.1 (done_may s js (joined_comes x (OfFleet e acts)) k.1)
-done_may s (OfData event ∷ js) x k = (k.0.1, done_may s js (joined_comes x (OfData event)) k.1)
+-- they go on further
+pub onward_more : (w new : Shard) → IsOnward w new → (acts : List Event) → MayHappenInTurn new acts → AreUnnamed acts → IsOnward w (all_left acts new)
+onward_more w new o acts m n = record {
+  acts = o.acts ++ acts;
+  may = in_turn w o.acts acts o.may (subst (λ (z : Shard). MayHappenInTurn z acts) (sym o.is) m);
+  unnamed = both o.acts acts o.unnamed n;
+  is = left_append o.acts acts w ∙ ap (all_left acts) o.is;
+}
 
-done_unnamed : (s : ℕ) (js : List JoinedEvent) (x : Joined) → KeepDuties s x js → AreUnnamed (done_by js)
-done_unnamed s [] x k = tt
-done_unnamed s (OfFleet e acts ∷ js) x k = both acts (done_by js) (unnamed_asked s x acts (fleet_comes x.fleet e).0 k.0.0) (done_unnamed s js (joined_comes x (OfFleet e acts)) k.1)
-done_unnamed s (OfData event ∷ js) x k = (unnamed_itself event k.0.0, done_unnamed s js (joined_comes x (OfData event)) k.1)
+-- so they do along joined events
+pub onward_run : (w : Shard) (s : ℕ) (js : List JoinedEvent) (x : Joined) → KeepDuties s x js → IsOnward w x.shard → IsOnward w (joined_run js x).shard
+onward_run w s [] x k o = o
+onward_run w s (OfFleet e acts ∷ js) x k o =
+    onward_run w s js (joined_comes x (OfFleet e acts)) k.1 (onward_more w x.shard o acts k.0.1 (unnamed_asked s x acts (fleet_comes x.fleet e).0 k.0.0))
+onward_run w s (OfData event ∷ js) x k o =
+    onward_run w s js (joined_comes x (OfData event)) k.1 (onward_more w x.shard o (event ∷ []) (k.0.1, tt) (unnamed_itself event k.0.0, tt))
 
 -- a copy that is there
 copy_there : (o : Option (List ListEntry)) → is_some o ≡ true → (copy : List ListEntry) × (o ≡ Some copy)
 copy_there (Some copy) e = (copy, refl)
 copy_there None e = absurd (cc)
 
--- whoever executes a request has all
-pub executes_with_all : LeadsWhereLed → AcknowledgedWritesStay → ExecutesWithAll
-executes_with_all led stay setup s v x js e acts r fit kept last q =
-    let k = joint led setup s x r in
-    let all : List Event = done_by js ++ acts in
-    let later = all_left acts (joined_run js x).shard in
-    let is : all_left all x.shard ≡ all_left acts (joined_run js x).shard = left_append (done_by js) acts x.shard ∙ ap (all_left acts) (done_is js x) in
-    let here = executing setup s (joined_run js x) (joint_run led setup s x js k fit kept) e acts last v q in
+-- whoever executes a request has all that was acknowledged before the data went on
+pub executes_onward : AcknowledgedWritesStay → (w : Shard) → IsShardReached w → (setup : Setup) (s : ℕ) (y : Joined) → IsJoint setup s y → IsOnward w y.shard → (e : FleetEvent) (acts : List Event) (v : ℕ)
+    → KeepsDuties s y (OfFleet e acts) → (fleet_comes y.fleet e).0 ≡ Routed s v routing.Execute → LeadsWith (all_left acts y.shard) v w.acknowledged
+executes_onward stay w r setup s y k o e acts v kept q =
+    let here = executing setup s y k e acts kept v q in
+    let later = all_left acts y.shard in
     let copy = copy_there (later.copies v) here.1 in
-    let may : MayHappenInTurn x.shard all = in_turn x.shard (done_by js) acts (done_may s js x kept) (subst (λ (z : Shard). MayHappenInTurn z acts) (sym (done_is js x)) last.1) in
-    let unnamed : AreUnnamed all = both (done_by js) acts (done_unnamed s js x kept) (unnamed_asked s (joined_run js x) acts (fleet_comes (joined_run js x).fleet e).0 last.0) in
+    let t = onward_more w y.shard o acts kept.1 (unnamed_asked s y acts (fleet_comes y.fleet e).0 kept.0) in
     record {
       leading = here.0;
       copy = copy.0;
       copy_is = copy.1;
-      has_all = stay x.shard all copy.0 k.shard may unnamed
-          (subst (λ (z : Shard). z.ended ≤ z.view) (sym is) here.0.1)
-          (subst (λ (z : Shard). z.copies z.primary ≡ Some copy.0) (sym is) (ap (λ u. later.copies u) here.0.0 ∙ copy.1));
+      has_all = stay w t.acts copy.0 r t.may t.unnamed
+          (subst (λ (z : Shard). z.ended ≤ z.view) (sym t.is) here.0.1)
+          (subst (λ (z : Shard). z.copies z.primary ≡ Some copy.0) (sym t.is) (ap (λ u. later.copies u) here.0.0 ∙ copy.1));
     }
+
+-- whoever executes a request has all
+pub executes_with_all : LeadsWhereLed → AcknowledgedWritesStay → ExecutesWithAll
+executes_with_all led stay setup s v x js e acts r fit kept last q =
+    let k = joint led setup s x r in
+    executes_onward stay x.shard k.shard setup s (joined_run js x) (joint_run led setup s x js k fit kept)
+    (onward_run x.shard s js x kept (onward_here x.shard)) e acts v last q

@@ -6,4 +6,5 @@ mod Runs
 mod Opening
 mod Cuts
 mod Laws
+mod Epochs
 mod Plays

@@ -177,7 +177,7 @@ joint_run led setup s x (OfFleet e acts ∷ js) k fit kept = joint_run led setup
 joint_run led setup s x (OfData event ∷ js) k fit kept = joint_run led setup s (joined_comes x (OfData event)) js (joint_data setup s x event k kept.0) fit kept.1
 
 -- and so it is at an opening
-joint_opening : (setup : Setup) (s : ℕ) (x : Joined) → IsJoinedOpening setup s x → IsJoint setup s x
+pub joint_opening : (setup : Setup) (s : ℕ) (x : Joined) → IsJoinedOpening setup s x → IsJoint setup s x
 joint_opening setup s x o = record {
   fleet = record { first = x.fleet; opening = o.fleet; events = []; fit = tt; state = refl };
   shard = o.shard;

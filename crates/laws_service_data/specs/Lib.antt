@@ -1,4 +1,5 @@
 pub mod Joined
 pub mod Duties
 pub mod Laws
+pub mod Epochs
 pub mod Plays

@@ -1,4 +1,5 @@
 //! The laws.
+ghost use Rattle.laws_service_data.specs.Epochs.{ExecutesOverReopenings};
 ghost use Rattle.laws_service_data.specs.Laws.{CutEndsWrites, ExecutesWithAll, JoinedOpens, ServingLeads};
 
 use laws_data::acknowledged_writes_stay;
@@ -15,6 +16,15 @@ pub fn serving_server_leads()
 /// if servers do with the data what orders and requests ask for.
 pub fn executes_with_all()
     ensures { ExecutesWithAll }
+{
+    leads_where_led();
+    acknowledged_writes_stay();
+}
+
+/// States that this goes on over reopenings, if none names the shard as lost, and whoever serves it in each fleet that
+/// opens leads its data.
+pub fn executes_over_reopenings()
+    ensures { ExecutesOverReopenings }
 {
     leads_where_led();
     acknowledged_writes_stay();
