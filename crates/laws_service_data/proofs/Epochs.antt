@@ -1,11 +1,12 @@
 -- Over reopenings whoever executes requests has all that was acknowledged.
-use Rattle.std.proofs.Common.{List, [], ◌∷◌}
+use Rattle.std.proofs.Common.{ap, ◌∙◌, List, [], ◌∷◌}
 use Rattle.sm_server.specs.Call.{LeadsWhereLed}
-use Rattle.laws_data.specs.Shard.{Shard}
+use Rattle.laws_data.specs.Shard.{Shard, all_left}
 use Rattle.laws_data.specs.Laws.{AcknowledgedWritesStay}
-use Rattle.laws_service_data.specs.Epochs.{Anew, Epoch, EpochEvent, ExecutesOverReopenings, KeepRules, KeepsRules, Within, epoch_comes, epochs_run, opened_anew}
+use Rattle.laws_service_data.specs.Epochs.{Anew, Epoch, EpochEvent, ExecutesOverReopenings, KeepRules, KeepsRules, OpensAnew, Within, epoch_comes, epochs_run, opened_anew}
 use Rattle.laws_service_data.proofs.Laws.{IsOnward, executes_onward, onward_here, onward_more, onward_run}
-use Rattle.laws_service_data.proofs.Runs.{IsJoint, joint, joint_opening, joint_run}
+use Rattle.laws_service_data.proofs.Opening.{joined_opens}
+use Rattle.laws_service_data.proofs.Runs.{IsJoint, data_on, joint, joint_opening, joint_run}
 
 -- whoever serves leads or waits, and the data have gone on
 record IsGoing (w : Shard) (x : Epoch) : Type 0 where
@@ -32,3 +33,10 @@ executes_over_reopenings led stay x es e acts v r kept last q =
     let k = joint led x.setup x.number x.joined r in
     let g = going_on led x.joined.shard x es (record { together = k; onward = onward_here x.joined.shard }) kept in
     executes_onward stay x.joined.shard k.shard (epochs_run es x).setup (epochs_run es x).number (epochs_run es x).joined g.together g.onward e acts v last q
+
+-- a fleet opens anew
+pub opens_anew : LeadsWhereLed → OpensAnew
+opens_anew led x setup p room number u acts r may unnamed leads opening primary =
+    let w = all_left acts x.joined.shard in
+    let o = joined_opens setup p room number w opening (data_on x.joined.shard acts (joint led x.setup x.number x.joined r).shard may) leads.1 (ap (p.cells number) leads.0 ∙ primary) in
+    (o.0, (may, unnamed, o.1))

@@ -47,7 +47,8 @@ pub in_turn : (w : Shard) (es fs : List Event) → MayHappenInTurn w es → MayH
 in_turn w [] fs a b = b
 in_turn w (e ∷ es) fs a b = (a.0, in_turn (left_by w e) es fs a.1 b)
 
-data_on : (w : Shard) (es : List Event) → IsShardReached w → MayHappenInTurn w es → IsShardReached (all_left es w)
+-- data that events lead to from data that are reached
+pub data_on : (w : Shard) (es : List Event) → IsShardReached w → MayHappenInTurn w es → IsShardReached (all_left es w)
 data_on w es r a = record {
   servers = r.servers;
   replicas = r.replicas;

@@ -1,13 +1,16 @@
 -- Over reopenings: fleets one after the other, with the data of one shard.
 use Rattle.std.specs.Prelude.{◌≡◌, ℕ, false, List, [], ◌∷◌}
 use Rattle.std.specs.List.{AllByRecursion}
+use Rattle.sm_server.specs.declared.call.Cell.TheVariants.{Primary}
 use Rattle.sm_placement.specs.Setup.{Setup}
+use Rattle.sm_placement.specs.Place.{Place}
+use Rattle.sm_protocol.specs.Laws.{IsOpening}
 use Rattle.sm_agent.specs.declared.request.Routing.TheVariants.{Execute}
 use Rattle.laws_network.specs.Fleet.{Fleet, FleetEvent, Routed, fleet_comes}
 use Rattle.laws_network.specs.FleetLaws.{AllFleetFit}
 use Rattle.laws_data.specs.Shard.{Event, MayHappenInTurn, all_left, names}
 use Rattle.laws_service_data.specs.Joined.{Joined, JoinedEvent, OfFleet, fleet_events, joined_comes}
-use Rattle.laws_service_data.specs.Duties.{KeepsDuties}
+use Rattle.laws_service_data.specs.Duties.{IsLeading, KeepsDuties}
 use Rattle.laws_service_data.specs.Laws.{IsJoinedOpening, IsJoinedReached, LeadsWith}
 
 -- What there is between two reopenings: a configuration, the shard's number in it, and the fleet with the shard's data.
@@ -60,3 +63,11 @@ ExecutesOverReopenings = (x : Epoch) (es : List EpochEvent) (e : FleetEvent) (ac
     → KeepsDuties (epochs_run es x).number (epochs_run es x).joined (OfFleet e acts)
     → (fleet_comes (epochs_run es x).joined.fleet e).0 ≡ Routed (epochs_run es x).number v Execute
     → LeadsWith (all_left acts (epochs_run es x).joined.shard) v x.joined.shard.acknowledged
+
+-- After a reopening a fleet opens wherever a machine can open on a placement whose primary of the shard leads the data.
+abbrev pub OpensAnew : Type 0
+OpensAnew = (x : Epoch) (setup : Setup) (p : Place) (room number u : ℕ) (acts : List Event) →
+    IsJoinedReached x.setup x.number x.joined → MayHappenInTurn x.joined.shard acts
+    → AllByRecursion (λ e. names e ≡ false) acts → IsLeading (all_left acts x.joined.shard) u
+    → IsOpening setup p room → p.cells number u ≡ Primary
+    → (fleet : Fleet) × KeepsRules x (Anew setup number fleet acts)

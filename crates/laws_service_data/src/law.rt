@@ -1,5 +1,5 @@
 //! The laws.
-ghost use Rattle.laws_service_data.specs.Epochs.{ExecutesOverReopenings};
+ghost use Rattle.laws_service_data.specs.Epochs.{ExecutesOverReopenings, OpensAnew};
 ghost use Rattle.laws_service_data.specs.Laws.{CutEndsWrites, ExecutesWithAll, JoinedOpens, ServingLeads};
 
 use laws_data::acknowledged_writes_stay;
@@ -41,3 +41,10 @@ pub fn cut_ends_writes()
 pub fn joined_opens()
     ensures { JoinedOpens }
 {}
+
+/// States that after a reopening a fleet opens wherever a machine can open on a placement whose primary leads the data.
+pub fn opens_anew()
+    ensures { OpensAnew }
+{
+    leads_where_led();
+}

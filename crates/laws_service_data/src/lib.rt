@@ -5,7 +5,7 @@ mod law;
 mod play;
 
 pub use law::{
-    cut_ends_writes, executes_over_reopenings, executes_with_all, joined_opens,
+    cut_ends_writes, executes_over_reopenings, executes_with_all, joined_opens, opens_anew,
     serving_server_leads,
 };
 pub use play::{handover_keeps_writes, restart_keeps_writes};
