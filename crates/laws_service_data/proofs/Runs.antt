@@ -160,11 +160,12 @@ module _ (led : LeadsWhereLed) (setup : Setup) (s : ℕ) (x : Joined) (k : IsJoi
       go (Stays none same) = same_row (stays (fleet_comes x.fleet e).0 refl none kept.0) (same s)
       go (Commits o q c) = committed o q c
 
+  -- so all of it holds after the event
   pub joint_next : IsJoint setup s (joined_comes x (OfFleet e acts))
   joint_next = record { fleet = there; shard = data_on x.shard acts k.shard kept.1; leads = of_fleet }
 
 -- what servers do by themselves does so, too
-joint_data : (setup : Setup) (s : ℕ) (x : Joined) (event : Event) → IsJoint setup s x → KeepsDuties s x (OfData event) → IsJoint setup s (joined_comes x (OfData event))
+pub joint_data : (setup : Setup) (s : ℕ) (x : Joined) (event : Event) → IsJoint setup s x → KeepsDuties s x (OfData event) → IsJoint setup s (joined_comes x (OfData event))
 joint_data setup s x event k kept = record {
   fleet = k.fleet;
   shard = data_on x.shard (event ∷ []) k.shard (kept.1, tt);

@@ -41,8 +41,8 @@ abbrev pub epochs_run : List EpochEvent → Epoch → Epoch
 epochs_run [] x = x
 epochs_run (e ∷ es) x = epochs_run es (epoch_comes x e)
 
--- Servers keep their duties. A reopening keeps the rules of data, and does not name the shard as lost; whoever serves the
--- shard in the fleet that opens leads the data.
+-- Servers keep their duties. A reopening keeps the rules of data, and does not name the shard as lost; whoever serves
+-- the shard in the fleet that opens leads the data.
 abbrev pub KeepsRules : Epoch → EpochEvent → Type 0
 KeepsRules x (Within j) =
     AllFleetFit x.setup x.joined.fleet (fleet_events (j ∷ [])) × KeepsDuties x.number x.joined j
@@ -55,8 +55,8 @@ abbrev pub KeepRules : Epoch → List EpochEvent → Type 0
 KeepRules x [] = Unit {0}
 KeepRules x (e ∷ es) = KeepsRules x e × KeepRules (epoch_comes x e) es
 
--- Whoever executes a request of a shard, after any reopenings that do not name it, leads its data then, and has all that
--- is acknowledged now.
+-- Whoever executes a request of a shard, after any reopenings that do not name it, leads its data then, and has all
+-- that is acknowledged now.
 abbrev pub ExecutesOverReopenings : Type 0
 ExecutesOverReopenings = (x : Epoch) (es : List EpochEvent) (e : FleetEvent) (acts : List Event) (v : ℕ) →
     IsJoinedReached x.setup x.number x.joined → KeepRules x es

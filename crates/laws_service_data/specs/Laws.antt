@@ -1,5 +1,5 @@
 -- Who serves a shard has its data.
-use Rattle.std.specs.Prelude.{◌≡◌, ◌⊎◌, ℕ, true, List, Some}
+use Rattle.std.specs.Prelude.{◌≡◌, ◌≤◌, ◌⊎◌, ℕ, true, List, [], ◌∷◌, Some, length}
 use Rattle.sm_server.specs.declared.call.Cell.{Cell}
 use Rattle.sm_server.specs.declared.call.Cell.TheVariants.{Forwarding, Prepared, Primary}
 use Rattle.sm_placement.specs.Setup.{Setup}
@@ -10,7 +10,7 @@ use Rattle.sm_agent.specs.declared.request.Routing.TheVariants.{Execute}
 use Rattle.sm_copies.specs.Lists.{ListEntry, begins}
 use Rattle.laws_network.specs.Fleet.{Fleet, FleetEvent, Routed, fleet_comes, held_cells}
 use Rattle.laws_network.specs.FleetLaws.{AllFleetFit, IsFleetOpening, held_place}
-use Rattle.laws_data.specs.Shard.{Event, HasPrimary, IsShardReached, Shard, all_left}
+use Rattle.laws_data.specs.Shard.{Event, Hands, HasPrimary, IsShardReached, MayHappen, Shard, all_left}
 use Rattle.laws_service_data.specs.Joined.{Joined, JoinedEvent, OfFleet, fleet_events, joined_comes, joined_run}
 use Rattle.laws_service_data.specs.Duties.{IsLeading, KeepDuties, KeepsDuties, cell_at}
 
@@ -62,10 +62,28 @@ ExecutesWithAll = (setup : Setup) (s v : ℕ) (x : Joined) (events : List Joined
     → (fleet_comes (joined_run events x).fleet e).0 ≡ Routed s v Execute
     → LeadsWith (all_left acts (joined_run events x).shard) v x.shard.acknowledged
 
--- From the cut of an old owner on its list stays as it is, whatever comes, as long as it leads: nobody executes a write.
+-- From the cut of an old owner on its list stays as it is, whatever comes, as long as it leads: nobody executes
+-- a write.
 abbrev pub CutEndsWrites : Type 0
 CutEndsWrites = (setup : Setup) (s u to number : ℕ) (x : Joined) (j : JoinedEvent) →
     IsJoinedReached setup s x → KeepsDuties s x j → held_cells x.fleet s u ≡ Forwarding to number
     → IsLeading (joined_comes x j).shard u
     → ((joined_comes x j).shard.view ≡ x.shard.view)
     × ((joined_comes x j).shard.lists x.shard.view ≡ x.shard.lists x.shard.view)
+
+-- An old owner forwards before each of these events, and leads all along.
+abbrev pub ForwardsAlong : ℕ → ℕ → Joined → List JoinedEvent → Type 0
+ForwardsAlong s u x [] = IsLeading x.shard u
+ForwardsAlong s u x (j ∷ js) =
+    (to number : ℕ) × (held_cells x.fleet s u ≡ Forwarding to number) × IsLeading x.shard u
+    × ForwardsAlong s u (joined_comes x j) js
+
+-- Whoever has a beginning of what the old owner has, no shorter than its list was at the cut, may take over.
+abbrev pub ReachedCutHasAll : Type 0
+ReachedCutHasAll = (setup : Setup) (s u v : ℕ) (x : Joined) (js : List JoinedEvent) →
+    (list source copy : List ListEntry) →
+    IsJoinedReached setup s x → AllFleetFit setup x.fleet (fleet_events js) → KeepDuties s x js
+    → ForwardsAlong s u x js
+    → x.shard.copies u ≡ Some list → (joined_run js x).shard.copies u ≡ Some source
+    → (joined_run js x).shard.copies v ≡ Some copy → begins copy source ≡ true → length list ≤ length copy
+    → MayHappen (joined_run js x).shard (Hands v)

@@ -1,6 +1,6 @@
 //! The laws.
 ghost use Rattle.laws_service_data.specs.Epochs.{ExecutesOverReopenings, OpensAnew};
-ghost use Rattle.laws_service_data.specs.Laws.{CutEndsWrites, ExecutesWithAll, JoinedOpens, ServingLeads};
+ghost use Rattle.laws_service_data.specs.Laws.{CutEndsWrites, ExecutesWithAll, JoinedOpens, ReachedCutHasAll, ServingLeads};
 
 use laws_data::acknowledged_writes_stay;
 use sm_server::leads_where_led;
@@ -33,6 +33,13 @@ pub fn executes_over_reopenings()
 /// States that from the cut of an old owner on its list stays as it is, as long as it leads.
 pub fn cut_ends_writes()
     ensures { CutEndsWrites }
+{
+    leads_where_led();
+}
+
+/// States that whoever follows an old owner, and has as much as that had at its cut, has all, and may take over.
+pub fn reached_cut_has_all()
+    ensures { ReachedCutHasAll }
 {
     leads_where_led();
 }

@@ -6,6 +6,6 @@ mod play;
 
 pub use law::{
     cut_ends_writes, executes_over_reopenings, executes_with_all, joined_opens, opens_anew,
-    serving_server_leads,
+    reached_cut_has_all, serving_server_leads,
 };
 pub use play::{handover_keeps_writes, restart_keeps_writes};
