@@ -153,7 +153,7 @@ RUNS = {
     "loss": (["--servers", "4", "--wide", "--at-one", "--lose", "1", "--lose-at", "0", "--no-disk", "--frozen", "4", "--seconds", "1"], []),
     "cuts": (["--seconds", "3", "--drains", "1", "--at-one", "--roles", "0", "--most", "3"], ["cut"]),
     "leave": (["--servers", "4", "--seconds", "20", "--at-one", "--roles", "0", "--most", "1"], ["leave"]),
-    "alone": (["--at-one", "--lose", "1", "--lose-at", "0", "--no-disk", "--alone", "--copies", "2", "--seconds", "1"], []),
+    "alone": (["--at-one", "--lose", "1", "--lose-at", "0", "--no-disk", "--alone", "--copies", "2", "--seconds", "1", "--least", "30"], []),
     "back": (["--seconds", "3", "--drains", "1", "--at-one", "--back", "1", "--dead", "30", "--option=--stalled=300"], []),
 }
 

@@ -163,6 +163,8 @@ class Noting(unittest.TestCase):
         session = Session()
         cells = [{"server": "a", "state": "primary"}, {"server": "b", "state": "secondary"}]
         reply(session, "open", document=service(SERVERS, cells), journal="1", epoch=0)
+        for server in SERVERS:
+            reply(session, "restore", server=server, nonce="1f")
         reply(session, "copied", journal="1", fence=0, shard="s", copies=2)
         holds = {
             "cells": [{"shard": "s", "server": "c", "state": "absent"}], "room": [{"server": "c", "amount": 1}],
