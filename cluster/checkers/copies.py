@@ -1,5 +1,5 @@
 """Whether as many replicas as the servers are to have had each write when its client heard that it was done, and when a line `copied` says so; and whether nobody
-dropped a shard before so many others had all of that.
+dropped a shard before that many others had all of it.
 
 `python3 -m cluster.checkers.copies --copies N --history FILE --clients FILE --written FILE --permits FILE` reads what the servers' and the clients' checkers read. A
 server that is lost counts until the next reopening. Exit status 1 if anything is wrong.
@@ -28,7 +28,7 @@ def acknowledgements(lines: Iterable[dict]) -> Iterator[dict]:
 
 
 def told(lines: Iterable[dict]) -> Iterator[dict]:
-    """The lines that tell so many copies, each with a moment at which it was in the journal."""
+    """The `copied` lines, each with a moment at which it was in the journal."""
     for it in lines:
         if it["line"]["do"] == "copied" and "copied" in it["reply"]:
             yield {"t": it["t"], "kind": "told", "shard": it["line"]["shard"], "copies": it["line"]["copies"]}
@@ -55,7 +55,7 @@ class Copies:
                 handler(event)
 
     def need(self, event: dict, shard: str, copies: int, place: int, what: str) -> None:
-        """Notes a fault unless so many servers have a shard's writes up to a place."""
+        """Notes a fault unless enough servers have a shard's writes up to a place."""
         having = sorted(name for name, position in self.has[shard].items() if position >= place)
         self.counts[LOOKS[event["kind"]]] += 1
         if len(having) < copies:
@@ -90,7 +90,7 @@ class Copies:
     on_copy = on_applied
 
     def on_commit(self, event: dict) -> None:
-        """An order is done. Who drops a shard leaves so many others that have all, unless nobody else was named."""
+        """An order is done. A server that drops a shard leaves enough others that have all, unless the order named nobody else."""
         shard, server = event["shard"], event["server"]
         if event["state"] != "absent":
             self.has[shard][server] = event["position"]

@@ -37,7 +37,7 @@ class Leaves:
                 raise Failed("GivenUp", why)
 
     async def ask(self, shard: Shard, work: "Work") -> str:
-        """Asks once: the primary, or if this server or nobody is it, the others. Returns why there is no leave, nothing if there is: who is alone needs none."""
+        """Asks the primary once, or the others if there is none or this server is it. Why there is no leave; nothing if there is, or nobody else to ask."""
         name, told = self.server.name, work.told
         others, primary = sorted(set(told.get("replicas") or ()) - {name}), told.get("primary")
         if not others:
