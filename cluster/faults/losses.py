@@ -66,8 +66,8 @@ class LossStory(ReopeningStory):
         return [(it["shard"], it["state"], it["position"]) for audit in audits for it in audit.get("slots", [])]
 
     async def may_lose(self) -> bool:
-        """Waits until a server may be given up: each shard has as many replicas as it is to have, and all of them have all writes, if each write is not at two servers
-        anyway. Tells whether it may."""
+        """Waits until a server may be given up: each shard has all its replicas, and, unless each write is at two servers anyway, all of them have all writes. Whether it
+        may."""
         if await self.wait_until_whole() and (fewest(self.cluster.shape) > 1 or await self.wait_until_caught_up()):
             return True
         self.tell("no server is given up: some shard lacks a replica, or one that has all writes")

@@ -60,7 +60,7 @@ own_same w (Ends number) c = absurd (cc)
 own_same w (Restarts view) c = absurd (cc)
 own_same w (Succeeds s view former) c = absurd (cc)
 
--- What holds of the data whatever is done for an order, if by it no secondary becomes primary.
+-- Something that holds of the data after each order that makes no secondary primary.
 record IsKeptBy (w : Shard) (P : Shard → Type 0) : Type 0 where
   pub nothing : P w
   pub joins : (v : ℕ) → P (left_by w (Joins v))
