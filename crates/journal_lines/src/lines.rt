@@ -94,9 +94,12 @@ pub fn read_line<'a>(
     after: &Sum,
     line: &'a [u8],
 ) -> Result<Option<Entries<'a>>, AllocError>
-    ensures found { IfOk result (λ found. IfSome found (λ entries. IsBody entries.body.now × (line.now ≡ journal_line after.now.text entries.body.now))) }
-    ensures sum { IfOk result (λ found. IfSome found (λ entries. entries.sum.text ≡ sum_of after.now.text entries.body.now)) }
-    ensures none { IfOk result (λ found. IfNone found ((body : List ℕ) → IsBody body → line.now ≡ journal_line after.now.text body → ⊥)) }
+    ensures found { IfOk result (λ found. IfSome found
+        (λ entries. IsBody entries.body.now × (line.now ≡ journal_line after.now.text entries.body.now))) }
+    ensures sum { IfOk result (λ found. IfSome found
+        (λ entries. entries.sum.text ≡ sum_of after.now.text entries.body.now)) }
+    ensures none { IfOk result (λ found. IfNone found
+        ((body : List ℕ) → IsBody body → line.now ≡ journal_line after.now.text body → ⊥)) }
 {
     if line.len() < BEFORE_BODY + BEHIND_BODY {
         return Ok(None);

@@ -1,7 +1,8 @@
 //! The object at the front of a text.
 ghost use Rattle.std.specs.Prelude.{◌≡◌, ◌<◌, ◌≤◌, ◌↔◌, length, IfSome, IsTrue};
 ghost use Rattle.journal_lines.specs.declared.objects.Quoting.TheVariants.{Outside};
-ghost use Rattle.journal_lines.specs.Objects.{closed_length, is_last, object_length, depth_after, quoting_after, IsObject};
+ghost use Rattle.journal_lines.specs.Objects.{closed_length, is_last, object_length, depth_after, quoting_after};
+ghost use Rattle.journal_lines.specs.Objects.{IsObject};
 
 /// The place of a byte in a text of JSON.
 #[derive(Clone, Copy, Debug, PartialEq, Eq)]

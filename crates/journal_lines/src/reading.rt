@@ -1,5 +1,6 @@
 //! A journal, read line by line.
-ghost use Rattle.std.specs.Prelude.{◌≡◌, ◌≤◌, ◌<◌, ◌^◌, ◌+◌, ℕ, List, [], ◌∷◌, ◌++◌, length, false, All, Err, IfOk, IfSome, IfNone};
+ghost use Rattle.std.specs.Prelude.{◌≡◌, ◌≤◌, ◌<◌, ◌^◌, ◌+◌, ℕ, List, [], ◌∷◌, ◌++◌, length, false, All, Err, IfOk};
+ghost use Rattle.std.specs.Prelude.{IfSome, IfNone};
 ghost use Rattle.journal_lines.specs.Lines.{no_sum};
 
 use crate::fault::JournalFault;

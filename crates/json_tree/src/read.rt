@@ -15,8 +15,8 @@ use thiserror::Error;
 /// The greatest depth to which arrays and objects may nest.
 pub const MAX_DEPTH: usize = 127;
 
-/// The number of members that an object has room for from its start: most have no more. A list that is given back in the
-/// size in which it was taken is there at once for the next object.
+/// The number of members that an object has room for from its start: most have no more. A list that is given back in
+/// the size in which it was taken is there at once for the next object.
 const FEW_MEMBERS: usize = 3;
 
 /// Why a text was not read.
@@ -132,7 +132,8 @@ fn read_members<'a>(
     reader: &mut Reader<'a>,
     depth: usize,
 ) -> Result<Vec<(&'a str, Tree<'a>)>, ReadFault>
-    ensures ok { IfOk result (λ found. converted (λ ms. of_members ms no_members) (members (value depth) (length reader.old) reader.old)
+    ensures ok { IfOk result (λ found. converted (λ ms. of_members ms no_members)
+        (members (value depth) (length reader.old) reader.old)
         ≡ Some (members_view found.items, reader.new)) }
     ensures shorter { OnOk result (length reader.new < length reader.old) }
     ensures not_json { result ≡ Err ReadFault.NotJson

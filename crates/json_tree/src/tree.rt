@@ -1,6 +1,7 @@
 //! The tree, and what it holds.
 ghost use Rattle.std.specs.Prelude.{◌≡◌, option_map, option_and_then, is_some};
-ghost use Rattle.serde_json.specs.Find.{get, get_member, as_bool, as_number, as_u64, as_str, as_array, as_object, as_null};
+ghost use Rattle.serde_json.specs.Find.{get, get_member, as_bool, as_number, as_u64, as_str, as_array, as_object};
+ghost use Rattle.serde_json.specs.Find.{as_null};
 ghost use Rattle.json_tree.specs.View.{view, items_view, members_view};
 
 use serde_json::Number;

@@ -1,5 +1,6 @@
 //! The laws.
-ghost use Rattle.laws_agent.specs.ClusterLaws.{AgentsAreSimulated, ClustersAreReached, ClustersOpen, EachCluster, HaveSettlement, OneAgentExecutes, StandsForReached};
+ghost use Rattle.laws_agent.specs.ClusterLaws.{AgentsAreSimulated, ClustersAreReached, ClustersOpen, EachCluster};
+ghost use Rattle.laws_agent.specs.ClusterLaws.{HaveSettlement, OneAgentExecutes, StandsForReached};
 
 use laws_network::{
     agents_do_so, executes_safely, fleet_can_reopen, opens_with_past, refuses_none, shown_executes,

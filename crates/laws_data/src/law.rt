@@ -1,7 +1,8 @@
 //! The laws.
 ghost use Rattle.laws_data.specs.Laws.{AcknowledgedWritesStay, EnoughHaveThem, GreatestHasAll};
 ghost use Rattle.laws_data.specs.Naming.{UnnamedIsWhole};
-ghost use Rattle.laws_data.specs.Plays.{ComesWithoutPrimary, LeavesWithoutPrimary, OutlivesItsPrimary, SucceedsItsPrimary};
+ghost use Rattle.laws_data.specs.Plays.{ComesWithoutPrimary, LeavesWithoutPrimary, OutlivesItsPrimary};
+ghost use Rattle.laws_data.specs.Plays.{SucceedsItsPrimary};
 
 /// States that the primary, if there is one and it has a whole copy, has every write that was ever acknowledged,
 /// whatever happened since, unless a reopening has named the shard as lost.

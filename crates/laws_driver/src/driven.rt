@@ -1,6 +1,7 @@
 //! A driver and its fleet.
 ghost use Rattle.laws_driver.specs.Driven.{EachDriven};
-ghost use Rattle.laws_driver.specs.DrivenLaws.{CommandsAreEvents, DriversOpen, FleetDrivenIsSafe, IsDrivenSafely, IsFleetDriven, OpenedControls, SendsAsDriven};
+ghost use Rattle.laws_driver.specs.DrivenLaws.{CommandsAreEvents, DriversOpen, FleetDrivenIsSafe, IsDrivenSafely};
+ghost use Rattle.laws_driver.specs.DrivenLaws.{IsFleetDriven, OpenedControls, SendsAsDriven};
 
 use laws_network::{
     beginnings_are_harmless, commits_once_per_number, commits_where_up, executes_at_one_server,

@@ -4,7 +4,8 @@ ghost use Rattle.sm_driver.specs.Driver.{record_of};
 ghost use Rattle.sm_driver.specs.declared.copies.CopiesEffect.TheVariants.{Noted};
 ghost use Rattle.sm_driver.specs.declared.driver.AnswerEffect.TheVariants as answer;
 ghost use Rattle.sm_driver.specs.declared.restart.RestartEffect.TheVariants.{Up};
-ghost use Rattle.laws_driver.specs.Control.{ApproveRestart, BeginPlan, EndRestart, IsWritten, NoteCopies, OpenEpoch, RestoreServer, TakeAnswer};
+ghost use Rattle.laws_driver.specs.Control.{ApproveRestart, BeginPlan, EndRestart, IsWritten, NoteCopies, OpenEpoch};
+ghost use Rattle.laws_driver.specs.Control.{RestoreServer, TakeAnswer};
 
 use sm_driver::{
     AnswerEffect, CopiesEffect, Driver, EpochFault, RestartEffect, RestoreFault, ToldCopies,

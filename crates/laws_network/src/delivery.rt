@@ -17,8 +17,9 @@ pub enum Delivery {
     Refused(Refusal),
 }
 
-/// Returns what a server makes of an order that comes to it, by what it alone has: the cell, and the number of the last order that had
-/// an effect on it. `free_room` is what the server has left, and `load` what the shard needs if the server has nothing of it yet.
+/// Returns what a server makes of an order that comes to it, by what it alone has: the cell, and the number of the last
+/// order that had an effect on it. `free_room` is what the server has left, and `load` what the shard needs if the
+/// server has nothing of it yet.
 pub fn deliver(
     cell: Cell,
     last: u64,

@@ -1,5 +1,9 @@
 //! The laws of the fleet: what holds wherever events lead controller, servers and the map's owner.
-ghost use Rattle.laws_network.specs.FleetLaws.{BeginningsAreHarmless, CommitsOncePerNumber, CommitsWhereUp, EachFleet, ExecutesAtOneServer, FleetCanFinish, FleetIsReached, FleetIsSafe, FleetOpens, MapIsRight, MapNeverGoesBack, NoLetterIsRefused, OnlyPresentCommits, PermitsEndOnce, PresentIsHeard, ServersAreAtEnds, ServersAreNear, ServersAreRecorded, SomeFleetCanGoOn};
+ghost use Rattle.laws_network.specs.FleetLaws.{BeginningsAreHarmless, CommitsOncePerNumber, CommitsWhereUp, EachFleet};
+ghost use Rattle.laws_network.specs.FleetLaws.{ExecutesAtOneServer, FleetCanFinish, FleetIsReached, FleetIsSafe};
+ghost use Rattle.laws_network.specs.FleetLaws.{FleetOpens, MapIsRight, MapNeverGoesBack, NoLetterIsRefused};
+ghost use Rattle.laws_network.specs.FleetLaws.{OnlyPresentCommits, PermitsEndOnce, PresentIsHeard, ServersAreAtEnds};
+ghost use Rattle.laws_network.specs.FleetLaws.{ServersAreNear, ServersAreRecorded, SomeFleetCanGoOn};
 
 /// States that what the controller has recorded is a state of the protocol that events lead to.
 pub fn fleet_is_reached()
@@ -74,8 +78,8 @@ pub fn servers_are_recorded()
     ensures { EachFleet ServersAreRecorded }
 {}
 
-/// States that an order of a controller with any beginning of the journal is present, or has no effect any more, and that
-/// its restores are among those of the whole journal.
+/// States that an order of a controller with any beginning of the journal is present, or has no effect any more, and
+/// that its restores are among those of the whole journal.
 pub fn beginnings_are_harmless()
     ensures { EachFleet BeginningsAreHarmless }
 {}

@@ -1,5 +1,6 @@
 //! Worked plays of the fleet, computed by its definitions.
-ghost use Rattle.laws_network.specs.FleetPlays.{CrashesAreHarmless, CrossingIsHarmless, LateRestoreIsHarmless, LostAnswerIsHarmless, OldMessagesAreHarmless, UncheckedPlanIsRefused};
+ghost use Rattle.laws_network.specs.FleetPlays.{CrashesAreHarmless, CrossingIsHarmless, LateRestoreIsHarmless};
+ghost use Rattle.laws_network.specs.FleetPlays.{LostAnswerIsHarmless, OldMessagesAreHarmless, UncheckedPlanIsRefused};
 
 /// Shows that a lost answer does no harm: the order comes again, and is answered again.
 pub fn lost_answer_is_harmless()

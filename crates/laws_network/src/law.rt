@@ -1,6 +1,10 @@
 //! The laws of the network: what holds wherever events lead.
-ghost use Rattle.laws_network.specs.Laws.{CanFinish, CanReopen, EachNet, ExecutesWhereServing, HasEffectsOnce, NoneIsRefused, RealIsAtEnds, RealIsNear, RealIsRecorded, RealIsSafe, RecordIsReached, ServesWhereUp, SomeCanGoOn};
-ghost use Rattle.laws_network.specs.WorldLaws.{CanFinishOnward, CanReopenOnward, EachWorld, FollowsNet, NetIsReached, ShownIsNear, ShownIsRecorded, ShownIsRight, ShownNeverGoesBack, SomeCanGoOnward};
+ghost use Rattle.laws_network.specs.Laws.{CanFinish, CanReopen, EachNet, ExecutesWhereServing, HasEffectsOnce};
+ghost use Rattle.laws_network.specs.Laws.{NoneIsRefused, RealIsAtEnds, RealIsNear, RealIsRecorded, RealIsSafe};
+ghost use Rattle.laws_network.specs.Laws.{RecordIsReached, ServesWhereUp, SomeCanGoOn};
+ghost use Rattle.laws_network.specs.WorldLaws.{CanFinishOnward, CanReopenOnward, EachWorld, FollowsNet, NetIsReached};
+ghost use Rattle.laws_network.specs.WorldLaws.{ShownIsNear, ShownIsRecorded, ShownIsRight, ShownNeverGoesBack};
+ghost use Rattle.laws_network.specs.WorldLaws.{SomeCanGoOnward};
 
 /// States that what the controller has recorded is a state of the protocol that events lead to.
 pub fn record_is_reached()

@@ -1,7 +1,9 @@
 //! The laws of a reopening: what holds while a controller fences and settles the servers anew.
 ghost use Rattle.laws_network.specs.FleetLaws.{EachFleet};
 ghost use Rattle.laws_network.specs.FleetReopening.{AgentsDoSo, FleetCanReopen, FleetOpensInForce};
-ghost use Rattle.laws_network.specs.ReopeningLaws.{CanBegin, CanBeginAgain, EachSettling, ExecutesSafely, LoadsFit, OpensWithPast, RefusesNone, SendsFromBeginnings, SettlesFairly, ShownExecutes, ToldIsHad};
+ghost use Rattle.laws_network.specs.ReopeningLaws.{CanBegin, CanBeginAgain, EachSettling, ExecutesSafely, LoadsFit};
+ghost use Rattle.laws_network.specs.ReopeningLaws.{OpensWithPast, RefusesNone, SendsFromBeginnings, SettlesFairly};
+ghost use Rattle.laws_network.specs.ReopeningLaws.{ShownExecutes, ToldIsHad};
 
 /// States that a settlement keeps the cells of a shard with no handover under way whose primary is there, and gives one
 /// with a handover to a party, or to the server that has more of it.

@@ -1,5 +1,7 @@
-//! Worked plays of reopenings, computed by the definitions: one that brings a shard back, and what happens without some of the rules.
-ghost use Rattle.laws_network.specs.ReopeningPlays.{AsksNewcomers, BringsBack, CarriesNoneSettled, MovesNoPrimary, TakesNoOldSettle, TakesNoSettleTwice};
+//! Worked plays of reopenings, computed by the definitions: one that brings a shard back, and what happens without some
+//! of the rules.
+ghost use Rattle.laws_network.specs.ReopeningPlays.{AsksNewcomers, BringsBack, CarriesNoneSettled, MovesNoPrimary};
+ghost use Rattle.laws_network.specs.ReopeningPlays.{TakesNoOldSettle, TakesNoSettleTwice};
 
 /// Shows that if a server is lost in the middle of a handover, the old owner is the primary again.
 pub fn brings_back()

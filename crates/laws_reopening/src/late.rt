@@ -1,6 +1,7 @@
 //! Fences, settles and restores that come late.
 ghost use Rattle.laws_network.specs.FleetLaws.{EachFleet};
-ghost use Rattle.laws_reopening.specs.Late.{CarriedExecutesSafely, HeardIsSettled, LateChangesNothing, LateFenceForgets, LateIsOvertaken, OvertakenCommitsNothing};
+ghost use Rattle.laws_reopening.specs.Late.{CarriedExecutesSafely, HeardIsSettled, LateChangesNothing};
+ghost use Rattle.laws_reopening.specs.Late.{LateFenceForgets, LateIsOvertaken, OvertakenCommitsNothing};
 
 use laws_network::fleet_is_safe;
 use sm_agent::executes_at_owner;

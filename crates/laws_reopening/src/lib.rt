@@ -1,4 +1,5 @@
-//! Laws that hold across reopenings: floors, restarts by permits and effects of orders; and that there is a fleet which opens on a settlement.
+//! Laws that hold across reopenings: floors, restarts by permits and effects of orders; and that there is a fleet which
+//! opens on a settlement.
 #![tactic(auto)]
 
 mod adopt;

@@ -1,6 +1,7 @@
 //! The laws of a driver and its service.
 ghost use Rattle.laws_service.specs.Controlled.{EachControlled};
-ghost use Rattle.laws_service.specs.ControlledLaws.{ControlledOpens, DriverCanOpen, DriverCanReopen, IsControlledSafely, IsServiceControlled, VersionsStayBelow};
+ghost use Rattle.laws_service.specs.ControlledLaws.{ControlledOpens, DriverCanOpen, DriverCanReopen};
+ghost use Rattle.laws_service.specs.ControlledLaws.{IsControlledSafely, IsServiceControlled, VersionsStayBelow};
 
 use laws_driver::{
     commands_are_events, driven_is_controlled, driven_is_safe, drivers_open, opened_controls,

@@ -1,6 +1,7 @@
 //! Assignments: the messages that bring a server all its slots.
 ghost use Rattle.std.specs.Prelude.{◌≡◌, map};
-ghost use Rattle.sm_agent.specs.Assignment.{reception_of, assigned, kept_slot, replaced_by, assigned_shard, count_brought, assigned_shards};
+ghost use Rattle.sm_agent.specs.Assignment.{reception_of, assigned, kept_slot, replaced_by, assigned_shard};
+ghost use Rattle.sm_agent.specs.Assignment.{count_brought, assigned_shards};
 
 use crate::base::{Base, Reception, Restoration, Settlement, restore, settle};
 use crate::slot::{Slot, place, vacant};
@@ -51,8 +52,9 @@ fn receive(base: &Base, assignment: &Assignment) -> Reception
     }
 }
 
-/// The result of an assignment that brings a number of slots, of which `given` are given. For a program that keeps its shards in a form
-/// of its own: if the assignment is taken, `ShardSlot::assigned` is what each shard of the server becomes.
+/// The result of an assignment that brings a number of slots, of which `given` are given. For a program that keeps its
+/// shards in a form of its own: if the assignment is taken, `ShardSlot::assigned` is what each shard of the server
+/// becomes.
 pub fn assign(
     base: &Base,
     assignment: &Assignment,
@@ -111,9 +113,9 @@ fn assign_each(base: &Base, shards: &mut [ShardSlot])
     }
 }
 
-/// Takes an assignment that brings a number of slots, or nothing of it. `shards` are all shards of which the server has a slot, or of which
-/// one is brought. If the assignment is taken, each of them is changed: where nothing is brought, the slot is absent. Base and slots are to
-/// be stored in one act.
+/// Takes an assignment that brings a number of slots, or nothing of it. `shards` are all shards of which the server has
+/// a slot, or of which one is brought. If the assignment is taken, each of them is changed: where nothing is brought,
+/// the slot is absent. Base and slots are to be stored in one act.
 pub fn take(
     base: &Base,
     assignment: &Assignment,

@@ -1,6 +1,7 @@
 //! The base that a server keeps beside its slots, and the messages that change it.
 ghost use Rattle.std.specs.Prelude.{◌≡◌};
-ghost use Rattle.sm_agent.specs.Base.{lacks_slots, is_at, is_meant, is_overtaken, forgotten, fenced, settled, restored, heeded};
+ghost use Rattle.sm_agent.specs.Base.{lacks_slots, is_at, is_meant, is_overtaken, forgotten, fenced, settled, restored};
+ghost use Rattle.sm_agent.specs.Base.{heeded};
 
 /// The base that a server keeps beside its slots. The owner of the published map keeps one too.
 ///
@@ -105,7 +106,8 @@ pub const fn forget(nonce: u64) -> Base
     }
 }
 
-/// Decides what becomes of a fence. If it is taken, the server abandons all work; if it is also Unknown, it asks under `nonce` from then on.
+/// Decides what becomes of a fence. If it is taken, the server abandons all work; if it is also Unknown, it asks under
+/// `nonce` from then on.
 pub fn fence(base: &Base, reopening: &Reopening, nonce: u64) -> Reception
     ensures { result ≡ fenced base.now reopening.now nonce }
 {
@@ -161,7 +163,8 @@ pub fn restore(base: &Base, restoration: &Restoration) -> Reception
     }
 }
 
-/// Returns the base once a message has named the last reopening: a server that was not settled at it is Unknown, and asks under `nonce`.
+/// Returns the base once a message has named the last reopening: a server that was not settled at it is Unknown, and
+/// asks under `nonce`.
 pub fn heed(base: &Base, last: &Reopening, nonce: u64) -> Base
     ensures { result ≡ heeded base.now last.now nonce }
 {

@@ -1,6 +1,9 @@
 //! The laws that the definitions come to, in the words of those who rely on a server.
-ghost use Rattle.sm_agent.specs.Laws.{CommitsCall, CommitsInOrder, CommitsOnce, ExecutesAtOwner, FencedCommitsNothing, MapGoesOn, OldHasNoEffect, RestoresOnce, SettlesOnce, TakesOverAtCut, UnknownDoesNothing, WorkGoesOn};
-ghost use Rattle.sm_agent.specs.Laws.{DeletedSaysTheSame, HasItsPart, HeedsReopenings, LeavesTheRest, PassesOnAtCut, RequestsWait, TakesWhole};
+ghost use Rattle.sm_agent.specs.Laws.{CommitsCall, CommitsInOrder, CommitsOnce, ExecutesAtOwner, FencedCommitsNothing};
+ghost use Rattle.sm_agent.specs.Laws.{MapGoesOn, OldHasNoEffect, RestoresOnce, SettlesOnce, TakesOverAtCut};
+ghost use Rattle.sm_agent.specs.Laws.{UnknownDoesNothing, WorkGoesOn};
+ghost use Rattle.sm_agent.specs.Laws.{DeletedSaysTheSame, HasItsPart, HeedsReopenings, LeavesTheRest, PassesOnAtCut};
+ghost use Rattle.sm_agent.specs.Laws.{RequestsWait, TakesWhole};
 
 /// States that a commit makes the call of the table.
 pub fn commits_call()
@@ -18,7 +21,8 @@ pub fn old_has_no_effect()
     ensures { OldHasNoEffect }
 {}
 
-/// States that a server answers a committed order again until it commits the next one, and that the order has no effect again.
+/// States that a server answers a committed order again until it commits the next one, and that the order has no effect
+/// again.
 pub fn commits_once()
     ensures { CommitsOnce }
 {}
@@ -75,8 +79,8 @@ pub fn passes_on_at_cut()
     ensures { PassesOnAtCut }
 {}
 
-/// States that if a server still has its slots once it has heard of its journal's last reopening, it is as it was, and its
-/// base is not below that reopening's.
+/// States that if a server still has its slots once it has heard of its journal's last reopening, it is as it was, and
+/// its base is not below that reopening's.
 pub fn heeds_reopenings()
     ensures { HeedsReopenings }
 {}
@@ -91,14 +95,14 @@ pub fn takes_whole()
     ensures { TakesWhole }
 {}
 
-/// States that a slot of which an assignment brings a part has that cell and load, and nothing at work. Its last number stays, and is 0 at
-/// a server that was Unknown.
+/// States that a slot of which an assignment brings a part has that cell and load, and nothing at work. Its last number
+/// stays, and is 0 at a server that was Unknown.
 pub fn has_its_part()
     ensures { HasItsPart }
 {}
 
-/// States that a server that has taken an assignment executes and passes on nothing of a shard of which it was brought nothing, however late a
-/// request comes.
+/// States that a server that has taken an assignment executes and passes on nothing of a shard of which it was brought
+/// nothing, however late a request comes.
 pub fn leaves_the_rest()
     ensures { LeavesTheRest }
 {}

@@ -92,8 +92,9 @@ pub fn judge(base: &Base, slot: &Slot, used: u64, order: &Order) -> Verdict
     }
 }
 
-/// Decides what the owner of the published map makes of a publication, if it shows the version `shown` of the shard: the new entry is
-/// shown from now on (`Begin`), or is only answered (`Again`), or it is turned away. Entry and version change in one act.
+/// Decides what the owner of the published map makes of a publication, if it shows the version `shown` of the shard:
+/// the new entry is shown from now on (`Begin`), or is only answered (`Again`), or it is turned away. Entry and version
+/// change in one act.
 pub fn publish(base: &Base, shown: u64, publication: &Stamp) -> Verdict
     ensures { result ≡ published base.now shown publication.now }
 {

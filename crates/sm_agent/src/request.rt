@@ -70,8 +70,8 @@ fn receive(from: ServerId, number: u64, frozen: bool, applied: u64, relay: &Rela
     }
 }
 
-/// Decides where a request is executed, at a server that has applied the shard's writes up to `applied`. The decision and the execution are
-/// one act.
+/// Decides where a request is executed, at a server that has applied the shard's writes up to `applied`. The decision
+/// and the execution are one act.
 pub fn route(base: &Base, slot: &Slot, applied: u64, request: &Request) -> Routing
     ensures { result ≡ routed base.now slot.now applied request.now }
 {

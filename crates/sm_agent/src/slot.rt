@@ -1,7 +1,8 @@
 //! The slot that a server keeps of a shard, and how work on it begins and ends.
 ghost use Rattle.std.specs.Prelude.{◌≡◌};
 ghost use Rattle.sm_server.specs.Call.{led_to};
-ghost use Rattle.sm_agent.specs.Order.{is_at_work, is_filled, is_done, cut_by, cell_load, begun_slot, abandoned, sealed, placed, may_commit, committed, vacant, may_delete};
+ghost use Rattle.sm_agent.specs.Order.{is_at_work, is_filled, is_done, cut_by, cell_load, begun_slot, abandoned};
+ghost use Rattle.sm_agent.specs.Order.{sealed, placed, may_commit, committed, vacant, may_delete};
 
 use crate::base::Base;
 use crate::order::{Order, turn_away};
@@ -18,7 +19,8 @@ pub struct Slot {
     pub at_work: Option<u64>,
     /// The shard's load at this server, 0 if it has nothing of the shard.
     pub load: u64,
-    /// The position of the shard's writes at which its old owner stopped executing. The new owner has to apply all writes up to it.
+    /// The position of the shard's writes at which its old owner stopped executing. The new owner has to apply all
+    /// writes up to it.
     pub cut: Option<u64>,
 }
 
@@ -116,7 +118,8 @@ pub fn commit(base: &Base, slot: &Slot, order: &Order, at: u64) -> Option<Slot>
     })
 }
 
-/// Returns the slot once its work is given up: at each start of the server, and whenever a fence is taken. An order given up comes again.
+/// Returns the slot once its work is given up: at each start of the server, and whenever a fence is taken. An order
+/// given up comes again.
 pub const fn abandon(slot: &Slot) -> Slot
     ensures { result ≡ abandoned slot.now }
 {
@@ -164,15 +167,16 @@ pub const fn vacant() -> Slot
     }
 }
 
-/// Tells whether a slot may be deleted: the server has nothing of the shard, and its base alone turns away all that the slot would.
-/// The shard's slot is `vacant` from then on.
+/// Tells whether a slot may be deleted: the server has nothing of the shard, and its base alone turns away all that the
+/// slot would. The shard's slot is `vacant` from then on.
 pub fn may_delete(base: &Base, slot: &Slot) -> bool
     ensures { result ≡ may_delete base.now slot.now }
 {
     slot.cell.is_absent() && slot.at_work.is_none() && slot.last <= base.number
 }
 
-/// Tells whether a new owner has applied all writes up to the old one's cut, which it knows. The answer to a fence has this of each slot.
+/// Tells whether a new owner has applied all writes up to the old one's cut, which it knows. The answer to a fence has
+/// this of each slot.
 pub const fn has_reached_cut(slot: &Slot, applied: u64) -> bool
     ensures { result ≡ is_filled slot.now.cut applied }
 {

@@ -3,7 +3,8 @@ ghost use Rattle.std.specs.Prelude.{◌≡◌, map, filter_map, is_some};
 ghost use Rattle.std.specs.List.{list_all};
 ghost use Rattle.sm_agent.specs.Assignment.{count_brought};
 ghost use Rattle.sm_agent_c.specs.Base.{received_base};
-ghost use Rattle.sm_agent_c.specs.Assignment.{assignment_of, raw_part, raw_shard, take_result, take_answer, reception_within, raw_assigned, shards_after};
+ghost use Rattle.sm_agent_c.specs.Assignment.{assignment_of, raw_part, raw_shard, take_result, take_answer};
+ghost use Rattle.sm_agent_c.specs.Assignment.{reception_within, raw_assigned, shards_after};
 
 use crate::base::{RawBase, read_base, receive};
 use crate::code;

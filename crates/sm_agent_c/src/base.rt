@@ -1,7 +1,8 @@
 //! Bases as C has them, and the messages that change one.
 ghost use Rattle.std.specs.Prelude.{◌≡◌, Some};
 ghost use Rattle.sm_agent.specs.Base.{forgotten};
-ghost use Rattle.sm_agent_c.specs.Base.{base_of, written_base, reopening_of, reception_answer, received_base, fence_of, heed_of};
+ghost use Rattle.sm_agent_c.specs.Base.{base_of, written_base, reopening_of, reception_answer, received_base, fence_of};
+ghost use Rattle.sm_agent_c.specs.Base.{heed_of};
 
 use crate::code;
 use sm_agent::{Base, Reception, Reopening, fence, forget, heed};

@@ -2,7 +2,8 @@
 ghost use Rattle.std.specs.Prelude.{◌≡◌};
 ghost use Rattle.sm_agent_c.specs.Base.{base_of};
 ghost use Rattle.sm_agent_c.specs.Slot.{slot_of};
-ghost use Rattle.sm_agent_c.specs.Order.{role_of, raw_call, stamp_read, raw_order, judge_answer, publish_answer, commit_answer, raw_committed, may_delete_answer};
+ghost use Rattle.sm_agent_c.specs.Order.{role_of, raw_call, stamp_read, raw_order, judge_answer, publish_answer};
+ghost use Rattle.sm_agent_c.specs.Order.{commit_answer, raw_committed, may_delete_answer};
 
 use crate::base::{RawBase, read_base};
 use crate::code;

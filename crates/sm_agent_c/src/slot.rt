@@ -1,6 +1,7 @@
 //! Slots as C has them, and the functions that change one.
 ghost use Rattle.std.specs.Prelude.{◌≡◌};
-ghost use Rattle.sm_agent_c.specs.Slot.{raw_cell, cell_kind, cell_party, cell_handover, slot_of, written_slot, answer_of, begun_answer, raw_begun, raw_abandoned, raw_sealed, reached_answer};
+ghost use Rattle.sm_agent_c.specs.Slot.{raw_cell, cell_kind, cell_party, cell_handover, slot_of, written_slot};
+ghost use Rattle.sm_agent_c.specs.Slot.{answer_of, begun_answer, raw_begun, raw_abandoned, raw_sealed, reached_answer};
 ghost use Rattle.sm_agent.specs.Order.{vacant};
 ghost use Rattle.sm_agent_c.specs.Order.{raw_order};
 

@@ -30,7 +30,8 @@ pub fn report_word<R: AllocGlobal + Threads + Wait + Sync, I: Read, W: Write>(
     // After a write that fails, a front of the report's text is written, and not all of it.
     ensures write_fault { result ≡ Status.WriteFailed → (output : Output)
         × IsReported word (I.remaining reader.old) output
-        × (k : ℕ) × (k < length output.text) × Appends (W.contents writer.old) (W.contents writer.new) (take k output.text) }
+        × (k : ℕ) × (k < length output.text) × Appends (W.contents writer.old) (W.contents writer.new)
+        (take k output.text) }
     // A thread is missed by a run alone, whose plan has begun and was not run to its end: why is all that is written.
     ensures threads { result ≡ Status.NoThread → (word ≡ Word.Run) × (why : NotFinished)
         × IsReported word (I.remaining reader.old) (not_run why)

@@ -2,7 +2,8 @@
 ghost use Rattle.std.specs.Prelude.{◌≡◌, ◌≢◌, Some, None, IfOk, IfErr, map};
 ghost use Rattle.clap.specs.Words.{app_of, fault_of, kind_of};
 ghost use Rattle.clap.specs.Walk.{texts};
-ghost use Rattle.sm_command_line.specs.CommandLine.{command_named, word_named, asked_for, wordless, first_words, program, Tells, TellsKind};
+ghost use Rattle.sm_command_line.specs.CommandLine.{command_named, word_named, asked_for, wordless, first_words};
+ghost use Rattle.sm_command_line.specs.CommandLine.{program, Tells, TellsKind};
 
 use clap::error::ErrorKind;
 use clap::{Command as Parser, Error as ParserError};

@@ -11,8 +11,8 @@ fn is_counted(copy: &ToldCopy, view: u64, position: u64) -> bool
     copy.view == view && position <= copy.position
 }
 
-/// Whether `copies` copies have the writes up to a position: the primary's own, and those that other replicas have told it on their present
-/// connections, of whom none leaves. A replica gets leave to go if this is so without it.
+/// Whether `copies` copies have the writes up to a position: the primary's own, and those that other replicas have told
+/// it on their present connections, of whom none leaves. A replica gets leave to go if this is so without it.
 pub fn is_copied(copies: u64, own: &ToldCopy, told: &[ToldCopy], position: u64) -> bool
     ensures { IsTrue result ↔ HaveEnough copies own.now told.now position }
 {
@@ -36,8 +36,8 @@ fn raised(copies: u64, own: &ToldCopy, told: &[ToldCopy], greatest: u64, other: 
     }
 }
 
-/// The position up to which a primary acknowledges: the greatest that `copies` copies have, its own among them; 0 if there is none. `told` is
-/// as for `is_copied`.
+/// The position up to which a primary acknowledges: the greatest that `copies` copies have, its own among them; 0 if
+/// there is none. `told` is as for `is_copied`.
 pub fn acknowledged(copies: u64, own: &ToldCopy, told: &[ToldCopy]) -> u64
     ensures { IsAcknowledged copies own.now told.now result }
 {

@@ -6,7 +6,8 @@ pub fn compares_in_one_order()
     ensures { ComparesInOneOrder }
 {}
 
-/// States that a copy goes on behind a source exactly if it is a beginning of the source's list, as long as each view is one list.
+/// States that a copy goes on behind a source exactly if it is a beginning of the source's list, as long as each view
+/// is one list.
 pub fn resumes_at_a_beginning()
     ensures { ResumesAtABeginning }
 {}

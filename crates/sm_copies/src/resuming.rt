@@ -23,8 +23,8 @@ fn end_of_view(next: Option<&ViewStart>, end: u64) -> u64
     }
 }
 
-/// Whether a copy may go on behind a source: it is a beginning of the source's list, which has these views, in rising order, and this length.
-/// Otherwise another copy is made, beside it.
+/// Whether a copy may go on behind a source: it is a beginning of the source's list, which has these views, in rising
+/// order, and this length. Otherwise another copy is made, beside it.
 pub fn resumes(copy: &ToldCopy, views: &[ViewStart], end: u64) -> bool
     ensures { IsTrue result ↔ Resumes copy.now views.now end }
 {

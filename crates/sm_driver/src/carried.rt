@@ -41,7 +41,8 @@ impl CarriedServers {
         placement: &Placement,
         marks: &[bool],
     ) -> Result<CarriedServers, AllocError>
-        ensures { IfOk result (λ carried. carried ≡ carried_down marks.now (length placement.now.setup.servers) (place_of placement.now).down) }
+        ensures { IfOk result (λ carried. carried
+            ≡ carried_down marks.now (length placement.now.setup.servers) (place_of placement.now).down) }
     {
         let mut kept = Vec::new(alloc);
         for number in 0..placement.config().server_count() {

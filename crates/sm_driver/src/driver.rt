@@ -1,5 +1,6 @@
 //! Drivers.
-ghost use Rattle.std.specs.Prelude.{◌≡◌, ◌≢◌, ◌<◌, ◌⊎◌, ◌+◌, IfOk, OnOk, IfErr, IfSome, OnErr, Some, None, option_map, not, slice_get, true, false};
+ghost use Rattle.std.specs.Prelude.{◌≡◌, ◌≢◌, ◌<◌, ◌⊎◌, ◌+◌, IfOk, OnOk, IfErr, IfSome, OnErr, Some, None, option_map};
+ghost use Rattle.std.specs.Prelude.{not, slice_get, true, false};
 ghost use Rattle.std.specs.Option.{option_copied};
 ghost use Rattle.sm_placement.specs.Layout.{place_of};
 ghost use Rattle.sm_protocol.specs.declared.event.BeginFault.TheVariants as begin_fault;
@@ -12,12 +13,14 @@ ghost use Rattle.sm_task_controller.specs.Decision.{denial};
 ghost use Rattle.laws_network.specs.Net.{cell_above, order_of};
 ghost use Rattle.laws_network.specs.World.{publication_of};
 ghost use Rattle.sm_driver.specs.Advance.{next_free};
-ghost use Rattle.sm_driver.specs.Orders.{awaiting_of, bases_end, epoch_base, message_number, message_of, net_message, net_order, net_publication};
+ghost use Rattle.sm_driver.specs.Orders.{awaiting_of, bases_end, epoch_base, message_number, message_of, net_message};
+ghost use Rattle.sm_driver.specs.Orders.{net_order, net_publication};
 ghost use Rattle.sm_driver.specs.Carried.{AreCarriedDown};
 ghost use Rattle.sm_driver.specs.Permits.{AreEarlierPermits, ArePermitsOfDown, restart_effect, server_permitted};
 ghost use Rattle.sm_driver.specs.Epochs.{HasOpenedEpoch, epoch_fault};
 ghost use Rattle.sm_driver.specs.Restores.{restore_at, is_last_restore};
-ghost use Rattle.sm_driver.specs.Driver.{HasRestored, HasApproved, HasCome, HasBegunPlan, HasTakenStep, base, answer_effect, is_due, is_past, awaits_answer, order_number, record_of};
+ghost use Rattle.sm_driver.specs.Driver.{HasRestored, HasApproved, HasCome, HasBegunPlan, HasTakenStep, base};
+ghost use Rattle.sm_driver.specs.Driver.{answer_effect, is_due, is_past, awaits_answer, order_number, record_of};
 ghost use Rattle.sm_driver.specs.declared.driver.AnswerEffect.TheVariants as answer;
 ghost use Rattle.sm_driver.specs.declared.epoch.EpochFault.TheVariants as refusal;
 ghost use Rattle.sm_driver.specs.declared.restores.RestoreFault.TheVariants as fault;
@@ -128,7 +131,8 @@ impl Driver {
 
     /// The publication of a running stream that stands before one.
     pub fn publication(&self, id: StreamId) -> Option<StreamPublication>
-        ensures publication { option_map net_publication result ≡ publication_of (base self.now) (record_of self.now) id }
+        ensures publication { option_map net_publication result
+            ≡ publication_of (base self.now) (record_of self.now) id }
         ensures number { IfSome result (λ p. p.number ≡ order_number self.now id) }
     {
         publication_of(self.machine(), self.base(), id)
@@ -162,7 +166,8 @@ impl Driver {
     pub fn begin(&mut self, ready: ReadyPlan) -> Result<u32, (ReadyPlan, BeginFault)>
         requires { ready.setup ≡ self.old.machine.placement.setup }
         ensures begun { IfOk result (λ number. HasBegunPlan ready.plan number self.old self.new) }
-        ensures refused { IfErr result (λ e. (happens (record_of self.old) (Begin ready.plan)).0 ≡ Answered (played.NotBegun e.1)) }
+        ensures refused { IfErr result (λ e. (happens (record_of self.old) (Begin ready.plan)).0
+            ≡ Answered (played.NotBegun e.1)) }
         ensures memory { IfErr result (λ e. e.1 ≢ begin_fault.NoMemory) }
         ensures back { IfErr result (λ e. e.0 ≡ ready) }
         ensures unchanged { OnErr result (self.new ≡ self.old) }
@@ -252,7 +257,8 @@ impl Driver {
     /// Why the restart of a server is not approved now.
     fn denial(&self, server: ServerId) -> Option<Denied>
         requires { server < (record_of self.now).sizes.servers }
-        ensures { result ≡ denial (record_of self.now).sizes (record_of self.now).place (pool (record_of self.now)) (engaged (record_of self.now) server) (free_places (record_of self.now)) server }
+        ensures { result ≡ denial (record_of self.now).sizes (record_of self.now).place (pool (record_of self.now))
+            (engaged (record_of self.now) server) (free_places (record_of self.now)) server }
     {
         let machine = self.machine();
         machine.is_reached();
@@ -266,7 +272,8 @@ impl Driver {
     pub fn approve(&mut self, server: ServerId) -> Result<u64, Denied>
         requires { server < (record_of self.old).sizes.servers }
         ensures approved { IfOk result (λ permit. HasApproved server permit self.old self.new) }
-        ensures denied { IfErr result (λ why. (happens (record_of self.old) (Approve server)).0 ≡ Answered (played.Denied why)) }
+        ensures denied { IfErr result (λ why. (happens (record_of self.old) (Approve server)).0
+            ≡ Answered (played.Denied why)) }
         ensures unchanged { OnErr result (self.new ≡ self.old) }
     {
         if let Some(why) = self.denial(server) {
@@ -311,7 +318,8 @@ impl Driver {
         ensures again { IfOk result (λ is_new. is_new ≡ not (is_last_restore self.old.restores server nonce)) }
         ensures restored { IfOk result (λ is_new. is_new ≡ true → HasRestored server nonce self.old self.new) }
         ensures known { IfOk result (λ is_new. is_new ≡ false → self.new ≡ self.old) }
-        ensures engaged { IfErr result (λ why. why ≢ fault.NoMemory → option_map fault.Engaged (engaged (record_of self.old) server) ≡ Some why) }
+        ensures engaged { IfErr result (λ why. why ≢ fault.NoMemory
+            → option_map fault.Engaged (engaged (record_of self.old) server) ≡ Some why) }
         ensures unknown { OnErr result (is_last_restore self.old.restores server nonce ≡ false) }
         ensures unchanged { OnErr result (self.new ≡ self.old) }
     {

@@ -49,7 +49,8 @@ fn posts(machine: &Machine, id: StreamId) -> bool
 /// The lowest free stream of a plan.
 fn free_in(machine: &Machine, plan: u32) -> Option<StreamId>
     requires { plan < length (state_of machine.now).plans }
-    ensures { result ≡ first_from 0 (stream_count (state_of machine.now) plan) (λ i. if is_free (state_of machine.now) (stream_id plan i) then Some (stream_id plan i) else None) }
+    ensures { result ≡ first_from 0 (stream_count (state_of machine.now) plan)
+        (λ i. if is_free (state_of machine.now) (stream_id plan i) then Some (stream_id plan i) else None) }
 {
     let count = machine.plan(plan).streams().len();
     for stream in 0..count {

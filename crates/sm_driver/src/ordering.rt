@@ -5,7 +5,9 @@ ghost use Rattle.sm_protocol.specs.State.{is_begun, numbers_end};
 ghost use Rattle.laws_network.specs.Net.{call_above, order_of};
 ghost use Rattle.laws_network.specs.World.{publication_of};
 ghost use Rattle.sm_machine.specs.State.{state_of};
-ghost use Rattle.sm_driver.specs.Orders.{awaiting, awaiting_in, awaiting_of, awaits, bases_end, handover_of, message_number, message_of, net_message, net_order, net_publication, number_above};
+ghost use Rattle.sm_driver.specs.Orders.{awaiting, awaiting_in, awaiting_of, awaits, bases_end, handover_of};
+ghost use Rattle.sm_driver.specs.Orders.{message_number, message_of, net_message, net_order, net_publication};
+ghost use Rattle.sm_driver.specs.Orders.{number_above};
 
 use crate::order::{StreamMessage, StreamOrder, StreamPublication};
 use sm_machine::Machine;

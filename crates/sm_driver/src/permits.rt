@@ -3,7 +3,8 @@ ghost use Rattle.std.specs.Prelude.{◌≡◌, ◌≤◌, ◌<◌, ◌↔◌, �
 ghost use Rattle.sm_placement.specs.Layout.{place_of};
 ghost use Rattle.laws_network.specs.Controller.{is_permitted};
 ghost use Rattle.sm_driver.specs.Orders.{bases_end};
-ghost use Rattle.sm_driver.specs.Permits.{AreEarlierPermits, opening_permit, opening_permits, permit_of, server_permitted};
+ghost use Rattle.sm_driver.specs.Permits.{AreEarlierPermits, opening_permit, opening_permits, permit_of};
+ghost use Rattle.sm_driver.specs.Permits.{server_permitted};
 
 use sm_placement::Placement;
 use sm_plan_code::MOST_PLACES;
@@ -88,7 +89,8 @@ impl Permits {
         before: &[Option<u64>],
     ) -> Result<Permits, AllocError>
         requires { base < bases_end }
-        ensures { IfOk result (λ permits. permits ≡ opening_permits base before.now (length placement.now.setup.servers) (place_of placement.now).down) }
+        ensures { IfOk result (λ permits. permits
+            ≡ opening_permits base before.now (length placement.now.setup.servers) (place_of placement.now).down) }
     {
         let mut given = Vec::new(alloc);
         for number in 0..placement.config().server_count() {

@@ -1,7 +1,8 @@
 //! The board: a machine behind a lock, beside the map that is read without it.
 //!
-//! Each method takes the lock, makes one call of what lies behind it, and lets go. A contract can't name what lies behind a lock, so it
-//! tells what the call does to the runner or the caller; what it does to the machine stands on the call that it makes.
+//! Each method takes the lock, makes one call of what lies behind it, and lets go. A contract can't name what lies
+//! behind a lock, so it tells what the call does to the runner or the caller; what it does to the machine stands on the
+//! call that it makes.
 ghost use Rattle.std.specs.Prelude.{◌≡◌, ◌≢◌, ◌<◌, ◌≤◌, ◌+◌, ◌∷◌, [], length, IfOk, IfErr, if◌then◌else◌, vec_capacity};
 ghost use Rattle.sm_placement.specs.Place.{entry_at};
 ghost use Rattle.sm_map.specs.Entry.{IsInRange};
@@ -185,8 +186,8 @@ impl<A: Ledger, B: Ledger, C: Ledger, N: Naming> Board<A, B, C, N> {
         step
     }
 
-    /// Gives out a new caller, which has seen nothing and knows the entries of some state of the board. It is refused if
-    /// the board has given out 4,096.
+    /// Gives out a new caller, which has seen nothing and knows the entries of some state of the board. It is refused
+    /// if the board has given out 4,096.
     pub fn caller<R: Wait>(&self, rt: &R) -> Result<Caller<B, C, N>, TooManyCallers>
         ensures new { IfOk result (λ caller. IsNewCaller caller) }
         ensures known { IfOk result (λ caller. HasKnownMap N.setup N.opened caller) }
@@ -256,7 +257,8 @@ impl<A: Ledger, B: Ledger, C: Ledger, N: Naming> Board<A, B, C, N> {
     /// behind the lock.
     pub fn look(&self, caller: &mut Caller<B, C, N>, shard: ShardId) -> Entry
         requires { shard < length N.words.opening }
-        ensures seen { caller.new ≡ calling caller.old.known ((shard, result) ∷ caller.old.seen) caller.old.executed caller.old.refused }
+        ensures seen { caller.new ≡ calling caller.old.known
+            ((shard, result) ∷ caller.old.seen) caller.old.executed caller.old.refused }
         ensures not_older { AllSameOrOlder caller.old.seen shard result }
         ensures not_before { KnowsSameOrOlder caller.old shard result }
         ensures in_range { IsInRange N.words.servers result }
@@ -276,7 +278,8 @@ impl<A: Ledger, B: Ledger, C: Ledger, N: Naming> Board<A, B, C, N> {
         requires server { server < N.words.servers }
         ensures at { HasAnswered N.setup N.opened (happening.Arrive shard server) (played_by result) }
         ensures tickets { tickets_in result ≡ tickets_of shard server (played_by result) }
-        ensures caller { caller.new ≡ calling caller.old.known caller.old.seen (caller.old.executed + executes result) (caller.old.refused + refuses result) }
+        ensures caller { caller.new ≡ calling caller.old.known caller.old.seen
+            (caller.old.executed + executes result) (caller.old.refused + refuses result) }
     {
         let mut held = self.held.lock(rt);
         held.is_of_board();
@@ -287,8 +290,10 @@ impl<A: Ledger, B: Ledger, C: Ledger, N: Naming> Board<A, B, C, N> {
     /// server, and otherwise comes back.
     pub fn pass_on<R: Wait>(&self, rt: &R, caller: &mut Caller<B, C, N>, ticket: Ticket) -> Answer
         ensures at { HasAnswered N.setup N.opened (happening.PassOn ticket) (played_by result) }
-        ensures tickets { tickets_in result ≡ (if spends (played_by result) then tickets_of ticket.shard ticket.target (played_by result) else ticket ∷ []) }
-        ensures caller { caller.new ≡ calling caller.old.known caller.old.seen (caller.old.executed + executes result) (caller.old.refused + refuses result) }
+        ensures tickets { tickets_in result ≡ (if spends
+            (played_by result) then tickets_of ticket.shard ticket.target (played_by result) else ticket ∷ []) }
+        ensures caller { caller.new ≡ calling caller.old.known caller.old.seen
+            (caller.old.executed + executes result) (caller.old.refused + refuses result) }
     {
         let mut held = self.held.lock(rt);
         held.is_of_board();
@@ -308,7 +313,8 @@ impl<A: Ledger, B: Ledger, C: Ledger, N: Naming> Board<A, B, C, N> {
         ensures same { guard.new ≡ guard.old }
         ensures stood { HasStood N.words N.opened (state_in guard.old) caller.old.seen }
         ensures known { KnowsMap (state_in guard.old) caller.new }
-        ensures seen { caller.new ≡ calling caller.new.known ((shard, result) ∷ caller.old.seen) caller.old.executed caller.old.refused }
+        ensures seen { caller.new ≡ calling caller.new.known
+            ((shard, result) ∷ caller.old.seen) caller.old.executed caller.old.refused }
     {
         guard.held.look_held(&self.words, caller, shard)
     }
@@ -355,7 +361,8 @@ impl<'b, A: Ledger, B: Ledger, C: Ledger, N: Naming> Guard<'b, A, B, C, N> {
     /// Makes the machine's call of the same name, on the locked machine.
     pub fn refill(&mut self, runner: &mut Runner<A>, more: u32) -> Result<(), RefillFault>
         requires { more ≤ MOST_CALLS }
-        ensures answer { (happens (state_in self.old) (happening.Refill runner.old.stream more)).0 ≡ Answered (refill_answer result) }
+        ensures answer { (happens (state_in self.old) (happening.Refill runner.old.stream more)).0
+            ≡ Answered (refill_answer result) }
         ensures state { state_in self.new ≡ (happens (state_in self.old) (happening.Refill runner.old.stream more)).1 }
         ensures others { self.new ≡ held_model self.new.machine self.old.runners self.old.callers }
         ensures runner { runner.new ≡ runner.old }

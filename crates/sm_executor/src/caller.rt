@@ -17,11 +17,11 @@ use thiserror::Error;
 #[error("a board gives out 4096 callers at most")]
 pub struct TooManyCallers;
 
-/// A pass of the map, and shares of the requests that were executed and of those that were refused. It can be neither copied
-/// nor dropped.
+/// A pass of the map, and shares of the requests that were executed and of those that were refused. It can be neither
+/// copied nor dropped.
 ///
-/// A contract sees which entry of each shard it knows, what it has seen of the map, the last first, and both counts. It knows the entries that
-/// the map had when it was given out, or when it last looked behind the lock.
+/// A contract sees which entry of each shard it knows, what it has seen of the map, the last first, and both counts. It
+/// knows the entries that the map had when it was given out, or when it last looked behind the lock.
 pub struct Caller<B: Ledger, C: Ledger, N: Naming> {
     pub(crate) pass: Pass,
     pub(crate) executed: Share<B>,
@@ -46,7 +46,8 @@ impl<B: Ledger, C: Ledger, N: Naming> Caller<B, C, N> {
     pub(crate) fn look(&mut self, words: &Words, shard: ShardId) -> Entry
         requires words { words.now ≡ N.words }
         requires shard { shard < length N.words.opening }
-        ensures seen { self.new ≡ calling self.old.known ((shard, result) ∷ self.old.seen) self.old.executed self.old.refused }
+        ensures seen { self.new ≡ calling self.old.known
+            ((shard, result) ∷ self.old.seen) self.old.executed self.old.refused }
         ensures not_older { AllSameOrOlder self.old.seen shard result }
         ensures not_before { KnowsSameOrOlder self.old shard result }
         ensures in_range { IsInRange N.words.servers result }

@@ -207,7 +207,8 @@ pub fn run_beside<
     ensures ended { IfOk result (λ ended. streams_ended ended.items ≡ streams_run runners.items) }
     ensures at { IfOk result (λ ended. All (HasEnded N.setup N.opened) ended.items) }
     ensures back_at { IfErr result (λ back. All (HasEnded N.setup N.opened) (ends_back back)) }
-    ensures unfinished { IfErr result (λ back. may_have_stepped back ≡ true → All (HasNotEnded N.setup N.opened) (runners_back back)) }
+    ensures unfinished { IfErr result (λ back. may_have_stepped back ≡ true
+        → All (HasNotEnded N.setup N.opened) (runners_back back)) }
     ensures back { IfErr result (ComesBack (vec_len runners)) }
     ensures memory { IfErr result (λ back. lacks_memory back ≡ true → runners_back back ≡ runners.items) }
     ensures clients { length clients.new ≡ length clients.old }

@@ -2,7 +2,8 @@
 ghost use Rattle.std.specs.Prelude.{◌≡◌, ◌≤◌, ◌↔◌, IfOk, IfErr, IfSome, IfNone, IsTrue, OnOk, length, vec_capacity};
 ghost use Rattle.sm_protocol.specs.Laws.{AreDone};
 ghost use Rattle.sm_machine.specs.State.{state_of};
-ghost use Rattle.sm_executor.specs.Closed.{room_kept, AreAllBack, HasGiven, IsAccount, IsClosed, IsBoardState, IsNotClosed, StaysOpenFor};
+ghost use Rattle.sm_executor.specs.Closed.{room_kept, AreAllBack, HasGiven, IsAccount, IsClosed, IsBoardState};
+ghost use Rattle.sm_executor.specs.Closed.{IsNotClosed, StaysOpenFor};
 ghost use Rattle.sm_executor.specs.Views.{state_in};
 ghost use Rattle.sm_executor.specs.declared.limits.TheConstants.{MOST_UNFINISHED};
 
@@ -122,8 +123,8 @@ impl<A: Ledger, B: Ledger, C: Ledger, N: Naming> Held<A, B, C, N> {
         ended as u64 == self.runners && callers as u64 == self.callers
     }
 
-    /// Returns why it is not closed with these numbers of ends and callers, if it isn't, and the list of streams that have
-    /// not finished, unless the fault has it. The list must have room for all.
+    /// Returns why it is not closed with these numbers of ends and callers, if it isn't, and the list of streams that
+    /// have not finished, unless the fault has it. The list must have room for all.
     fn close_fault(
         &self,
         ended: usize,
@@ -215,10 +216,12 @@ impl<A: Ledger, B: Ledger, C: Ledger, N: Naming> Board<A, B, C, N> {
         ended: Vec<Ended<A>>,
         callers: Vec<Caller<B, C, N>>,
     ) -> Result<Machine, NotClosed<A, B, C, N>>
-        ensures closed { IfOk result (λ machine. IsClosed N.setup N.opened (state_of machine) ended.items callers.items) }
+        ensures closed { IfOk result (λ machine. IsClosed N.setup N.opened
+            (state_of machine) ended.items callers.items) }
         ensures setup { IfOk result (λ machine. machine.placement.setup ≡ N.setup) }
         ensures back { IfErr result (λ e. (e.ended ≡ ended.items) × (e.callers ≡ callers.items)) }
-        ensures why { IfErr result (λ e. IsNotClosed N.setup N.opened (length ended.items) (length callers.items) e.fault) }
+        ensures why { IfErr result (λ e. IsNotClosed N.setup N.opened (length ended.items)
+            (length callers.items) e.fault) }
     {
         let Board {
             held,

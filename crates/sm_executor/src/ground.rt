@@ -1,5 +1,6 @@
 //! The ground on which a board is opened.
-ghost use Rattle.std.specs.Prelude.{◌≡◌, ◌<◌, ◌≤◌, ◌*◌, [], All, IfOk, IfErr, length, map, slice_get, vec_capacity, Some, ℕ};
+ghost use Rattle.std.specs.Prelude.{◌≡◌, ◌<◌, ◌≤◌, ◌*◌, [], All, IfOk, IfErr, length, map, slice_get, vec_capacity};
+ghost use Rattle.std.specs.Prelude.{Some, ℕ};
 ghost use Rattle.sm_placement.specs.Place.{entry_at};
 ghost use Rattle.sm_map.specs.Entry.{IsInRange};
 ghost use Rattle.sm_machine.specs.State.{state_of};
@@ -23,7 +24,8 @@ use std::alloc::{AllocError, Global};
 use std::marker::Model;
 use std::sync::ledger::{Blank, Ledger};
 
-/// The words of a machine's map with their publisher, a copy of its configuration, and three ledgers that have counted nothing.
+/// The words of a machine's map with their publisher, a copy of its configuration, and three ledgers that have counted
+/// nothing.
 ///
 /// A contract sees the words, the configuration, and the names of the ledgers.
 pub struct Ground {
@@ -71,7 +73,8 @@ impl Model for Ground {
 /// Returns the map's entry of each shard.
 fn entries_of(alloc: Global, machine: &Machine) -> Result<Vec<Entry>, AllocError>
     ensures count { IfOk result (λ entries. length entries.items ≡ (state_of machine.now).sizes.shards) }
-    ensures each { IfOk result (λ entries. (s : ℕ) → s < (state_of machine.now).sizes.shards → slice_get entries.items s ≡ Some (entry_at (state_of machine.now).place s)) }
+    ensures each { IfOk result (λ entries. (s : ℕ) → s < (state_of machine.now).sizes.shards
+        → slice_get entries.items s ≡ Some (entry_at (state_of machine.now).place s)) }
     ensures in_range { IfOk result (λ entries. All (IsInRange (state_of machine.now).sizes.servers) entries.items) }
 {
     machine.is_reached();

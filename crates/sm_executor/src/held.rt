@@ -2,7 +2,8 @@
 //!
 //! Each method is one event at most, and changes the machine just as the machine's own call does. The books rise with
 //! the log, and what a step publishes is stored in the words before the method returns.
-ghost use Rattle.std.specs.Prelude.{◌≡◌, ◌≢◌, OnOk, OnErr, ◌<◌, ◌≤◌, ◌+◌, ◌*◌, ◌++◌, [], length, map, IfOk, IfErr, IfSome, IfNone, true, false, vec_len, vec_capacity};
+ghost use Rattle.std.specs.Prelude.{◌≡◌, ◌≢◌, OnOk, OnErr, ◌<◌, ◌≤◌, ◌+◌, ◌*◌, ◌++◌, [], length, map, IfOk, IfErr};
+ghost use Rattle.std.specs.Prelude.{IfSome, IfNone, true, false, vec_len, vec_capacity};
 ghost use Rattle.sm_protocol.specs.State.{progress_of, is_running};
 ghost use Rattle.sm_protocol.specs.Steps.{Answered};
 ghost use Rattle.sm_protocol.specs.Happens as happening;
@@ -160,11 +161,14 @@ impl<A: Ledger, B: Ledger, C: Ledger, N: Naming> Held<A, B, C, N> {
         link: &mut L,
     ) -> Step
         requires { words.now ≡ N.words }
-        ensures over { IsStepOver L.asked link.old link.new (state_in self.old) runner.old.stream (played_of result) (state_in self.new) }
+        ensures over { IsStepOver L.asked link.old link.new (state_in self.old) runner.old.stream (played_of result)
+            (state_in self.new) }
         ensures lost { L.losses link.new ≡ L.losses link.old + bit (is_lost_answer (played_of result)) }
         ensures others { self.new ≡ held_model self.new.machine self.old.runners self.old.callers }
-        ensures runner { runner.new ≡ running runner.old.stream (runner.old.steps + recorded_more (state_in self.old) (state_in self.new)) }
-        ensures counts { Counts (progress_of (state_in self.old) runner.old.stream).done (played_of result) runner.old.steps runner.new.steps }
+        ensures runner { runner.new ≡ running runner.old.stream
+            (runner.old.steps + recorded_more (state_in self.old) (state_in self.new)) }
+        ensures counts { Counts (progress_of (state_in self.old) runner.old.stream).done
+            (played_of result) runner.old.steps runner.new.steps }
     {
         self.machine.is_reached();
         let recorded = self.machine.log().len();
@@ -186,7 +190,8 @@ impl<A: Ledger, B: Ledger, C: Ledger, N: Naming> Held<A, B, C, N> {
         link: &mut L,
     ) -> Step
         requires { words.now ≡ N.words }
-        ensures over { IsStepOver L.asked link.old link.new (state_in self.old) runner.old.stream (played_of result) (state_in self.new) }
+        ensures over { IsStepOver L.asked link.old link.new (state_in self.old) runner.old.stream (played_of result)
+            (state_in self.new) }
         ensures others { self.new ≡ held_model self.new.machine self.old.runners self.old.callers }
         ensures stream { runner.new.stream ≡ runner.old.stream }
         ensures at { HasStepped L.asked link.old link.new N.setup N.opened runner.old runner.new (played_of result) }
@@ -204,7 +209,8 @@ impl<A: Ledger, B: Ledger, C: Ledger, N: Naming> Held<A, B, C, N> {
         requires none { runners.old.items ≡ [] }
         requires room { vec_len tokens ≤ vec_capacity runners.old }
         requires few { self.old.runners + length tokens.items ≤ MOST_STREAMS * length (state_in self.old).plans }
-        ensures held { self.new ≡ held_model self.old.machine (self.old.runners + length tokens.items) self.old.callers }
+        ensures held { self.new ≡ held_model self.old.machine
+            (self.old.runners + length tokens.items) self.old.callers }
         ensures runners { runners.new.items ≡ map (λ token. running token 0) tokens.items }
     {
         self.machine.is_reached();
@@ -225,10 +231,13 @@ impl<A: Ledger, B: Ledger, C: Ledger, N: Naming> Held<A, B, C, N> {
         requires setup { ready.setup ≡ N.setup }
         requires none { into.old.items ≡ [] }
         requires room { length ready.plan.streams ≤ vec_capacity into.old }
-        ensures answer { OnOk result ((happens (state_in self.old) (happening.Begin ready.plan)).0 ≡ Answered (played.Begun (length (state_in self.old).plans))) }
+        ensures answer { OnOk result ((happens (state_in self.old) (happening.Begin ready.plan)).0
+            ≡ Answered (played.Begun (length (state_in self.old).plans))) }
         ensures state { OnOk result (state_in self.new ≡ (happens (state_in self.old) (happening.Begin ready.plan)).1) }
-        ensures others { OnOk result (self.new ≡ held_model self.new.machine (self.old.runners + length ready.plan.streams) self.old.callers) }
-        ensures runners { OnOk result (AreRunners (length (state_in self.old).plans) (length ready.plan.streams) into.new.items) }
+        ensures others { OnOk result (self.new ≡ held_model self.new.machine
+            (self.old.runners + length ready.plan.streams) self.old.callers) }
+        ensures runners { OnOk result (AreRunners (length (state_in self.old).plans)
+            (length ready.plan.streams) into.new.items) }
         ensures fault { IfErr result (λ e. IsNotStarted (state_in self.old) ready.plan e.1) }
         ensures memory { IfErr result (λ e. e.1 ≢ fault.NoMemory) }
         ensures unchanged { OnErr result (self.new ≡ self.old) }
@@ -249,7 +258,8 @@ impl<A: Ledger, B: Ledger, C: Ledger, N: Naming> Held<A, B, C, N> {
 
     /// Returns the number of instructions that the runner's stream has made. None if it was not begun, or has finished.
     pub fn position(&self, runner: &Runner<A>) -> Option<usize>
-        ensures some { IfSome result (λ at. (is_running (state_in self.now) runner.now.stream ≡ true) × (at ≡ (progress_of (state_in self.now) runner.now.stream).at)) }
+        ensures some { IfSome result (λ at. (is_running (state_in self.now) runner.now.stream ≡ true)
+            × (at ≡ (progress_of (state_in self.now) runner.now.stream).at)) }
         ensures none { IfNone result (is_running (state_in self.now) runner.now.stream ≡ false) }
     {
         let stream = runner.id();
@@ -262,7 +272,8 @@ impl<A: Ledger, B: Ledger, C: Ledger, N: Naming> Held<A, B, C, N> {
 
     /// Returns the runner's end, if its stream has finished. Otherwise the runner comes back.
     pub fn retire(&self, runner: Runner<A>) -> Result<Ended<A>, Runner<A>>
-        ensures ended { IfOk result (λ end. (has_ended (state_in self.now) runner.stream ≡ true) × (end ≡ end_in (state_in self.now) runner)) }
+        ensures ended { IfOk result (λ end. (has_ended (state_in self.now) runner.stream ≡ true)
+            × (end ≡ end_in (state_in self.now) runner)) }
         ensures made { IfOk result (λ end. end.steps ≡ made_in end.stream (state_in self.now).log) }
         ensures back { IfErr result (λ r. (has_ended (state_in self.now) runner.stream ≡ false) × (r ≡ runner)) }
     {
@@ -307,7 +318,8 @@ impl<A: Ledger, B: Ledger, C: Ledger, N: Naming> Held<A, B, C, N> {
     /// Raises the allowance of a runner's stream, as the machine does.
     pub fn refill(&mut self, runner: &mut Runner<A>, more: u32) -> Result<(), RefillFault>
         requires { more ≤ MOST_CALLS }
-        ensures answer { (happens (state_in self.old) (happening.Refill runner.old.stream more)).0 ≡ Answered (refill_answer result) }
+        ensures answer { (happens (state_in self.old) (happening.Refill runner.old.stream more)).0
+            ≡ Answered (refill_answer result) }
         ensures state { state_in self.new ≡ (happens (state_in self.old) (happening.Refill runner.old.stream more)).1 }
         ensures others { self.new ≡ held_model self.new.machine self.old.runners self.old.callers }
         ensures runner { runner.new ≡ runner.old }

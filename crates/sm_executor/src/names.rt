@@ -1,7 +1,7 @@
 //! The names that tell boards apart when a program is compiled.
 //!
-//! A board, and all that it gives out, is generic over four names: one for each ledger, and one for what it was opened with.
-//! A value of another board has other names, so it does not fit.
+//! A board, and all that it gives out, is generic over four names: one for each ledger, and one for what it was opened
+//! with. A value of another board has other names, so it does not fit.
 
 use std::marker::Brand;
 

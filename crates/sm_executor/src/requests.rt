@@ -32,7 +32,8 @@ fn count_answer<B: Ledger, C: Ledger, N: Naming>(
 )
     ensures executed { executed.new.total ≡ executed.old.total + executes answer.now }
     ensures refused { refused.new.total ≡ refused.old.total + refuses answer.now }
-    ensures caller { caller.new ≡ calling caller.old.known caller.old.seen (caller.old.executed + executes answer.now) (caller.old.refused + refuses answer.now) }
+    ensures caller { caller.new ≡ calling caller.old.known caller.old.seen
+        (caller.old.executed + executes answer.now) (caller.old.refused + refuses answer.now) }
 {
     match answer {
         Answer::Executed { .. } => executed.add(&mut caller.executed, 1),
@@ -45,13 +46,14 @@ fn count_answer<B: Ledger, C: Ledger, N: Naming>(
 }
 
 impl<A: Ledger, B: Ledger, C: Ledger, N: Naming> Held<A, B, C, N> {
-    /// Gives out a new caller, which has seen nothing and knows the machine's entries. It is refused exactly if the board
-    /// has given out 4,096.
+    /// Gives out a new caller, which has seen nothing and knows the machine's entries. It is refused exactly if the
+    /// board has given out 4,096.
     ///
     /// Takes no memory.
     pub fn caller(&mut self, words: &Words) -> Result<Caller<B, C, N>, TooManyCallers>
         requires { words.now ≡ N.words }
-        ensures new { IfOk result (λ caller. IsNewCaller caller × (self.new ≡ held_model self.old.machine self.old.runners (self.old.callers + 1))) }
+        ensures new { IfOk result (λ caller. IsNewCaller caller
+            × (self.new ≡ held_model self.old.machine self.old.runners (self.old.callers + 1))) }
         ensures known { IfOk result (λ caller. KnowsMap (state_in self.old) caller) }
         ensures refused { OnErr result ((self.new ≡ self.old) × (self.old.callers ≡ MOST_CALLERS)) }
     {
@@ -83,7 +85,8 @@ impl<A: Ledger, B: Ledger, C: Ledger, N: Naming> Held<A, B, C, N> {
         ensures state { state_in self.new ≡ (happens (state_in self.old) (happening.Arrive shard server)).1 }
         ensures tickets { tickets_in result ≡ tickets_of shard server (played_by result) }
         ensures others { self.new ≡ held_model self.new.machine self.old.runners self.old.callers }
-        ensures caller { caller.new ≡ calling caller.old.known caller.old.seen (caller.old.executed + executes result) (caller.old.refused + refuses result) }
+        ensures caller { caller.new ≡ calling caller.old.known caller.old.seen
+            (caller.old.executed + executes result) (caller.old.refused + refuses result) }
     {
         let answer = self.machine.arrive(shard, server);
         count_answer(&mut self.executed, &mut self.refused, caller, &answer);
@@ -94,9 +97,11 @@ impl<A: Ledger, B: Ledger, C: Ledger, N: Naming> Held<A, B, C, N> {
     pub fn pass_on(&mut self, caller: &mut Caller<B, C, N>, ticket: Ticket) -> Answer
         ensures answer { (happens (state_in self.old) (happening.PassOn ticket)).0 ≡ Answered (played_by result) }
         ensures state { state_in self.new ≡ (happens (state_in self.old) (happening.PassOn ticket)).1 }
-        ensures tickets { tickets_in result ≡ (if spends (played_by result) then tickets_of ticket.shard ticket.target (played_by result) else ticket ∷ []) }
+        ensures tickets { tickets_in result ≡ (if spends
+            (played_by result) then tickets_of ticket.shard ticket.target (played_by result) else ticket ∷ []) }
         ensures others { self.new ≡ held_model self.new.machine self.old.runners self.old.callers }
-        ensures caller { caller.new ≡ calling caller.old.known caller.old.seen (caller.old.executed + executes result) (caller.old.refused + refuses result) }
+        ensures caller { caller.new ≡ calling caller.old.known caller.old.seen
+            (caller.old.executed + executes result) (caller.old.refused + refuses result) }
     {
         let answer = self.machine.pass_on(ticket);
         count_answer(&mut self.executed, &mut self.refused, caller, &answer);
@@ -118,7 +123,8 @@ impl<A: Ledger, B: Ledger, C: Ledger, N: Naming> Held<A, B, C, N> {
         ensures same { self.new ≡ self.old }
         ensures stood { HasStood N.words N.opened (state_in self.old) caller.old.seen }
         ensures known { KnowsMap (state_in self.old) caller.new }
-        ensures seen { caller.new ≡ calling caller.new.known ((shard, result) ∷ caller.old.seen) caller.old.executed caller.old.refused }
+        ensures seen { caller.new ≡ calling caller.new.known
+            ((shard, result) ∷ caller.old.seen) caller.old.executed caller.old.refused }
         ensures not_older { AllSameOrOlder caller.old.seen shard result }
     {
         words.meet_in(&mut self.publisher, &mut caller.pass, shard)

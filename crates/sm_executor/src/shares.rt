@@ -55,8 +55,10 @@ pub(crate) fn both_merged<B: Ledger, C: Ledger, N: Naming>(
     mut refused: Share<C>,
     mut callers: Vec<Caller<B, C, N>>,
 ) -> (Share<B>, Share<C>)
-    ensures executed { (result.0.parts ≡ executed.parts + length callers.items) × (result.0.amount ≡ executed.amount + sum (map (λ c. c.executed) callers.items)) }
-    ensures refused { (result.1.parts ≡ refused.parts + length callers.items) × (result.1.amount ≡ refused.amount + sum (map (λ c. c.refused) callers.items)) }
+    ensures executed { (result.0.parts ≡ executed.parts + length callers.items)
+        × (result.0.amount ≡ executed.amount + sum (map (λ c. c.executed) callers.items)) }
+    ensures refused { (result.1.parts ≡ refused.parts + length callers.items)
+        × (result.1.amount ≡ refused.amount + sum (map (λ c. c.refused) callers.items)) }
 {
     while let Some(caller) = callers.pop() {
         let Caller {

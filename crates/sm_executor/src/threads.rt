@@ -206,7 +206,8 @@ impl<A: Ledger> Lists<A> {
     /// Returns the streams of these runners, and two empty lists with room for all of them.
     fn new(alloc: Global, runners: &[Runner<A>]) -> Result<Lists<A>, AllocError>
         ensures streams { IfOk result (λ lists. lists.streams.items ≡ streams_run runners.now) }
-        ensures room { IfOk result (λ lists. (length runners.now ≤ vec_capacity lists.ended) × (length runners.now ≤ vec_capacity lists.left)) }
+        ensures room { IfOk result (λ lists. (length runners.now ≤ vec_capacity lists.ended)
+            × (length runners.now ≤ vec_capacity lists.left)) }
     {
         let streams = streams_of(alloc, runners)?;
         let ended = Vec::with_capacity(alloc, runners.len())?;
@@ -227,7 +228,8 @@ impl<A: Ledger> Lists<A> {
         runners: Vec<Runner<A>>,
     ) -> Result<(Lists<A>, Vec<Runner<A>>), RunFault<A>>
         ensures streams { IfOk result (λ r. r.0.streams.items ≡ streams_run runners.items) }
-        ensures room { IfOk result (λ r. (vec_len runners ≤ vec_capacity r.0.ended) × (vec_len runners ≤ vec_capacity r.0.left)) }
+        ensures room { IfOk result (λ r. (vec_len runners ≤ vec_capacity r.0.ended)
+            × (vec_len runners ≤ vec_capacity r.0.left)) }
         ensures runners { IfOk result (λ r. r.1 ≡ runners) }
         ensures memory { IfErr result (λ back. lacks_memory back ≡ true) }
         ensures back { IfErr result (λ back. (runners_back back ≡ runners.items) × (ends_back back ≡ [])) }
@@ -250,7 +252,8 @@ impl<A: Ledger> Lists<A> {
         ensures ended { IfOk result (λ ended. streams_ended ended.items ≡ self.streams.items) }
         ensures at { IfOk result (λ ended. All (HasEnded N.setup N.opened) ended.items) }
         ensures back_at { IfErr result (λ back. All (HasEnded N.setup N.opened) (ends_back back)) }
-        ensures unfinished { IfErr result (λ back. may_have_stepped back ≡ true → All (HasNotEnded N.setup N.opened) (runners_back back)) }
+        ensures unfinished { IfErr result (λ back. may_have_stepped back ≡ true
+            → All (HasNotEnded N.setup N.opened) (runners_back back)) }
         ensures back { IfErr result (ComesBack (vec_len runners)) }
         ensures memory { IfErr result (λ back. lacks_memory back ≡ false) }
     {
@@ -278,8 +281,8 @@ impl<A: Ledger> Lists<A> {
     }
 }
 
-/// Makes all steps of the runners' streams, each in a thread of its own, over the link in its runner's place. If there is
-/// no link in that place the stream loses no call. The answer is as that of `run`.
+/// Makes all steps of the runners' streams, each in a thread of its own, over the link in its runner's place. If there
+/// is no link in that place the stream loses no call. The answer is as that of `run`.
 fn run_lent<
     A: Ledger + Send + Sync,
     B: Ledger + Send + Sync,
@@ -299,7 +302,8 @@ fn run_lent<
     ensures ended { IfOk result (λ ended. streams_ended ended.items ≡ streams_run runners.items) }
     ensures at { IfOk result (λ ended. All (HasEnded N.setup N.opened) ended.items) }
     ensures back_at { IfErr result (λ back. All (HasEnded N.setup N.opened) (ends_back back)) }
-    ensures unfinished { IfErr result (λ back. may_have_stepped back ≡ true → All (HasNotEnded N.setup N.opened) (runners_back back)) }
+    ensures unfinished { IfErr result (λ back. may_have_stepped back ≡ true
+        → All (HasNotEnded N.setup N.opened) (runners_back back)) }
     ensures back { IfErr result (ComesBack (vec_len runners)) }
     ensures memory { IfErr result (λ back. lacks_memory back ≡ true → runners_back back ≡ runners.items) }
 {
@@ -342,7 +346,8 @@ pub fn run_over<
     ensures ended { IfOk result (λ ended. streams_ended ended.items ≡ streams_run runners.items) }
     ensures at { IfOk result (λ ended. All (HasEnded N.setup N.opened) ended.items) }
     ensures back_at { IfErr result (λ back. All (HasEnded N.setup N.opened) (ends_back back)) }
-    ensures unfinished { IfErr result (λ back. may_have_stepped back ≡ true → All (HasNotEnded N.setup N.opened) (runners_back back)) }
+    ensures unfinished { IfErr result (λ back. may_have_stepped back ≡ true
+        → All (HasNotEnded N.setup N.opened) (runners_back back)) }
     ensures back { IfErr result (ComesBack (vec_len runners)) }
     ensures memory { IfErr result (λ back. lacks_memory back ≡ true → runners_back back ≡ runners.items) }
 {
@@ -373,7 +378,8 @@ pub fn run<
     ensures ended { IfOk result (λ ended. streams_ended ended.items ≡ streams_run runners.items) }
     ensures at { IfOk result (λ ended. All (HasEnded N.setup N.opened) ended.items) }
     ensures back_at { IfErr result (λ back. All (HasEnded N.setup N.opened) (ends_back back)) }
-    ensures unfinished { IfErr result (λ back. may_have_stepped back ≡ true → All (HasNotEnded N.setup N.opened) (runners_back back)) }
+    ensures unfinished { IfErr result (λ back. may_have_stepped back ≡ true
+        → All (HasNotEnded N.setup N.opened) (runners_back back)) }
     ensures back { IfErr result (ComesBack (vec_len runners)) }
     ensures memory { IfErr result (λ back. lacks_memory back ≡ true → runners_back back ≡ runners.items) }
 {

@@ -12,8 +12,11 @@ use sm_reservation::StreamId;
 /// memory.
 fn push_unfinished(machine: &Machine, plan: u32, positions: &mut Vec<(StreamId, u32)>)
     requires known { plan < length (state_of machine.now).plans }
-    requires room { vec_len positions.old + length (unfinished_in (state_of machine.now) plan (stream_count (state_of machine.now) plan)) ≤ vec_capacity positions.old }
-    ensures items { positions.new.items ≡ positions.old.items ++ unfinished_in (state_of machine.now) plan (stream_count (state_of machine.now) plan) }
+    requires room { vec_len positions.old + length
+        (unfinished_in (state_of machine.now) plan (stream_count (state_of machine.now) plan)) ≤ vec_capacity
+        positions.old }
+    ensures items { positions.new.items ≡ positions.old.items
+        ++ unfinished_in (state_of machine.now) plan (stream_count (state_of machine.now) plan) }
     ensures capacity { vec_capacity positions.new ≡ vec_capacity positions.old }
 {
     machine.is_reached();

@@ -50,7 +50,8 @@ pub(crate) fn answer_to(shard: ShardId, server: ServerId, reply: Played) -> Answ
 pub(crate) fn answer_with(ticket: Ticket, reply: Played) -> Answer
     requires { IsTicketReply reply }
     ensures answer { played_by result ≡ reply }
-    ensures tickets { tickets_in result ≡ (if spends reply then tickets_of ticket.shard ticket.target reply else ticket ∷ []) }
+    ensures tickets { tickets_in result ≡ (if spends reply then tickets_of ticket.shard ticket.target reply else
+        ticket ∷ []) }
 {
     match reply {
         Played::LogFull => Answer::LogFull(Some(ticket)),

@@ -1,5 +1,6 @@
 //! A plan that was begun.
-ghost use Rattle.std.specs.Prelude.{◌≡◌, ◌<◌, ◌≤◌, ◌^◌, ◌+◌, ◌-◌, ◌==◌, count_by, not, is_some, IfSome, Some, None, true, false, length, slice_get, slice_index_or, sum_by};
+ghost use Rattle.std.specs.Prelude.{◌≡◌, ◌<◌, ◌≤◌, ◌^◌, ◌+◌, ◌-◌, ◌==◌, count_by, not, is_some, IfSome, Some, None};
+ghost use Rattle.std.specs.Prelude.{true, false, length, slice_get, slice_index_or, sum_by};
 ghost use Rattle.sm_reservation.specs.Hold.{minus, plus};
 ghost use Rattle.sm_reservation.specs.HoldOf.{hold_of};
 ghost use Rattle.sm_reservation.specs.CanJoin.{CanJoin};
@@ -123,7 +124,13 @@ impl Begun {
         requires courses { length courses.items ≡ length plan.streams }
         requires signals { length signals.items ≡ length plan.signals }
         requires mentioned { AreMentionedBy plan.streams mentioned.items }
-        ensures { result ≡ record { plan = plan; since = since; courses = courses.items; signals = signals.items; unfinished = length plan.streams } }
+        ensures { result ≡ record {
+          plan = plan;
+          since = since;
+          courses = courses.items;
+          signals = signals.items;
+          unfinished = length plan.streams;
+        } }
     {
         let unfinished = plan.streams().len() as u32;
         Begun {
@@ -163,7 +170,8 @@ impl Begun {
     /// Returns the instruction that a stream makes next.
     pub fn next_instruction(&self, stream: usize) -> Option<Instr>
         requires { stream < length self.now.plan.streams }
-        ensures { result ≡ slice_get (slice_index_or self.now.plan.streams stream no_stream).code (course_at self.now stream).progress.at }
+        ensures { result ≡ slice_get (slice_index_or self.now.plan.streams stream no_stream).code
+            (course_at self.now stream).progress.at }
     {
         let at = self.progress(stream).at;
         let parts = &self.plan.streams()[stream];
@@ -181,7 +189,9 @@ impl Begun {
     /// Returns the number of tries of calls that a stream may make.
     pub fn allowance(&self, stream: usize) -> u64
         requires { stream < length self.now.plan.streams }
-        ensures value { result ≡ (slice_index_or self.now.plan.streams stream no_stream).budget + (slice_index_or self.now.plan.streams stream no_stream).retries + (course_at self.now stream).progress.refills }
+        ensures value { result ≡ (slice_index_or self.now.plan.streams stream no_stream).budget +
+            (slice_index_or self.now.plan.streams stream no_stream).retries +
+            (course_at self.now stream).progress.refills }
         ensures within { result < 2 ^ 34 }
     {
         let refills = self.progress(stream).refills;
@@ -192,8 +202,12 @@ impl Begun {
     /// Returns the number of recorded steps that a stream makes on its way, with the tries that it has made.
     pub fn steps_made(&self, stream: usize) -> u64
         requires known { stream < length self.now.plan.streams }
-        requires tries { (course_at self.now stream).progress.tries ≤ (slice_index_or self.now.plan.streams stream no_stream).budget + (slice_index_or self.now.plan.streams stream no_stream).retries + (course_at self.now stream).progress.refills }
-        ensures { result ≡ (course_at self.now stream).progress.tries + count_by is_no_call (slice_index_or self.now.plan.streams stream no_stream).code + 1 }
+        requires tries { (course_at self.now stream).progress.tries ≤
+            (slice_index_or self.now.plan.streams stream no_stream).budget +
+            (slice_index_or self.now.plan.streams stream no_stream).retries +
+            (course_at self.now stream).progress.refills }
+        ensures { result ≡ (course_at self.now stream).progress.tries + count_by is_no_call
+            (slice_index_or self.now.plan.streams stream no_stream).code + 1 }
     {
         let _most = self.allowance(stream);
         let tries = self.progress(stream).tries;
@@ -205,7 +219,8 @@ impl Begun {
     pub fn set_progress(&mut self, stream: usize, progress: Progress)
         requires known { stream < length self.old.plan.streams }
         requires done { progress.done ≡ (course_at self.old stream).progress.done }
-        ensures value { self.new ≡ with_course self.old stream (record (course_at self.old stream) { progress = progress }) }
+        ensures value { self.new ≡ with_course self.old stream
+            (record (course_at self.old stream) { progress = progress }) }
         ensures parts { IsBegunParts self.old }
     {
         self.courses[stream].set_progress(progress);
@@ -225,7 +240,8 @@ impl Begun {
     /// Sets the log's length behind the last step of a stream.
     pub fn set_since(&mut self, stream: usize, since: u32)
         requires { stream < length self.old.plan.streams }
-        ensures value { self.new ≡ with_course self.old stream (record (course_at self.old stream) { since = Some since }) }
+        ensures value { self.new ≡ with_course self.old stream
+            (record (course_at self.old stream) { since = Some since }) }
         ensures parts { IsBegunParts self.old }
     {
         self.courses[stream].set_since(since);
@@ -238,9 +254,12 @@ impl Begun {
         requires known { IfSome (shard_of instr.now) (λ s. s < length config.now.shards) }
         requires own { IsOwn instr.now }
         requires can { CanTrade (sizes_of config.now) instr.now (course_at self.old stream).grant }
-        ensures others { self.new ≡ with_course self.old stream (record (course_at self.old stream) { grant = (course_at self.new stream).grant }) }
-        ensures traded { IsTradedBy (sizes_of config.now) instr.now (course_at self.old stream).grant (course_at self.new stream).grant }
-        ensures change { result ≡ exchange_of (sizes_of config.now) instr.now (hold_in (course_at self.old stream).grant) }
+        ensures others { self.new ≡ with_course self.old stream
+            (record (course_at self.old stream) { grant = (course_at self.new stream).grant }) }
+        ensures traded { IsTradedBy (sizes_of config.now) instr.now (course_at self.old stream).grant
+            (course_at self.new stream).grant }
+        ensures change { result ≡ exchange_of (sizes_of config.now) instr.now
+            (hold_in (course_at self.old stream).grant) }
         ensures parts { IsBegunParts self.old }
     {
         self.courses[stream].trade(config, instr)
@@ -289,13 +308,24 @@ impl Begun {
         requires signal { signal < length self.old.plan.signals }
         requires running { (course_at self.old stream).progress.done ≡ false }
         requires there { (carried_at self.old signal).mark.awaited ≡ false }
-        requires held { first_short (hold_in (course_at self.old stream).grant) (parcels_of self.old.plan.signals signal) ≡ None }
-        requires fits { CanJoin (hold_in (carried_at self.old signal).grant) (hold_of (parcels_of self.old.plan.signals signal)) }
+        requires held { first_short (hold_in (course_at self.old stream).grant)
+            (parcels_of self.old.plan.signals signal) ≡ None }
+        requires fits { CanJoin (hold_in (carried_at self.old signal).grant)
+            (hold_of (parcels_of self.old.plan.signals signal)) }
         requires capacity { HasCapacityIn (carried_at self.old signal).grant (parcels_of self.old.plan.signals signal) }
-        ensures others { self.new ≡ with_carried (with_course self.old stream (record (course_at self.old stream) { grant = (course_at self.new stream).grant })) signal (record { mark = record (carried_at self.old signal).mark { posted = true }; grant = (carried_at self.new signal).grant }) }
-        ensures hold { hold_in (carried_at self.new signal).grant ≡ plus (hold_in (carried_at self.old signal).grant) (parcels_of self.old.plan.signals signal) }
-        ensures left { hold_in (course_at self.new stream).grant ≡ minus (hold_in (course_at self.old stream).grant) (parcels_of self.old.plan.signals signal) }
-        ensures capacity { capacity_in (course_at self.new stream).grant ≡ capacity_in (course_at self.old stream).grant }
+        ensures others { self.new ≡ with_carried (with_course self.old stream
+            (record (course_at self.old stream) { grant = (course_at self.new stream).grant })) signal
+            (record {
+              mark = record (carried_at self.old signal).mark { posted = true };
+              grant =
+                  (carried_at self.new signal).grant;
+            }) }
+        ensures hold { hold_in (carried_at self.new signal).grant
+            ≡ plus (hold_in (carried_at self.old signal).grant) (parcels_of self.old.plan.signals signal) }
+        ensures left { hold_in (course_at self.new stream).grant
+            ≡ minus (hold_in (course_at self.old stream).grant) (parcels_of self.old.plan.signals signal) }
+        ensures capacity { capacity_in (course_at self.new stream).grant
+            ≡ capacity_in (course_at self.old stream).grant }
         ensures parts { IsBegunParts self.old }
     {
         let parcel = &self.plan.signals()[signal];
@@ -309,11 +339,17 @@ impl Begun {
         requires signal { signal < length self.old.plan.signals }
         requires running { (course_at self.old stream).progress.done ≡ false }
         requires there { (carried_at self.old signal).mark.awaited ≡ false }
-        requires fits { CanJoin (hold_in (course_at self.old stream).grant) (hold_in (carried_at self.old signal).grant) }
-        requires capacity { HasCapacityIn (course_at self.old stream).grant (rights_in (carried_at self.old signal).grant) }
-        ensures others { self.new ≡ with_carried (with_course self.old stream (record (course_at self.old stream) { grant = (course_at self.new stream).grant })) signal (record { mark = record (carried_at self.old signal).mark { awaited = true }; grant = None }) }
-        ensures hold { hold_in (course_at self.new stream).grant ≡ plus (hold_in (course_at self.old stream).grant) (rights_in (carried_at self.old signal).grant) }
-        ensures capacity { capacity_in (course_at self.new stream).grant ≡ capacity_in (course_at self.old stream).grant }
+        requires fits { CanJoin (hold_in (course_at self.old stream).grant)
+            (hold_in (carried_at self.old signal).grant) }
+        requires capacity { HasCapacityIn (course_at self.old stream).grant
+            (rights_in (carried_at self.old signal).grant) }
+        ensures others { self.new ≡ with_carried (with_course self.old stream
+            (record (course_at self.old stream) { grant = (course_at self.new stream).grant })) signal
+            (record { mark = record (carried_at self.old signal).mark { awaited = true }; grant = None }) }
+        ensures hold { hold_in (course_at self.new stream).grant
+            ≡ plus (hold_in (course_at self.old stream).grant) (rights_in (carried_at self.old signal).grant) }
+        ensures capacity { capacity_in (course_at self.new stream).grant
+            ≡ capacity_in (course_at self.old stream).grant }
         ensures parts { IsBegunParts self.old }
     {
         let course = &mut self.courses[stream];
@@ -325,7 +361,12 @@ impl Begun {
         requires known { stream < length self.old.plan.streams }
         requires running { (course_at self.old stream).progress.done ≡ false }
         ensures grant { (course_at self.old stream).grant ≡ Some result }
-        ensures after { self.new ≡ with_course self.old stream (record (course_at self.old stream) { progress = record (course_at self.old stream).progress { done = true }; grant = None }) }
+        ensures after { self.new ≡ with_course self.old stream
+            (record (course_at self.old stream) {
+              progress = record
+                  (course_at self.old stream).progress { done = true };
+              grant = None;
+            }) }
         ensures parts { IsBegunParts self.old }
     {
         self.courses[stream].end()
@@ -335,8 +376,10 @@ impl Begun {
     pub fn fill(&mut self, pool: &mut Pool)
         requires { CanFillAll self.old (pool_hold pool.old) }
         ensures others { self.new ≡ record self.old { courses = self.new.courses } }
-        ensures filled { AreFilled self.old.plan.streams (length self.old.plan.streams) self.old.courses self.new.courses }
-        ensures taken { pool_hold pool.new ≡ pool_left (pool_hold pool.old) self.old.plan.streams (length self.old.plan.streams) }
+        ensures filled { AreFilled self.old.plan.streams
+            (length self.old.plan.streams) self.old.courses self.new.courses }
+        ensures taken { pool_hold pool.new ≡ pool_left (pool_hold pool.old) self.old.plan.streams
+            (length self.old.plan.streams) }
         ensures size { SameSize pool.old pool.new }
     {
         let streams = self.plan.streams();

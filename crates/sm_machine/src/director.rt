@@ -24,8 +24,9 @@ use sm_protocol::{BeginFault, Event, Played};
 use std::alloc::Global;
 use std::marker::Model;
 
-/// A machine with all rights that it gives away: the token of each stream, the permit of each server that is down, and the
-/// ticket of each pass. So what happens is asked for by names alone, and nothing is kept beside the machine. Nobody halts it.
+/// A machine with all rights that it gives away: the token of each stream, the permit of each server that is down, and
+/// the ticket of each pass. So what happens is asked for by names alone, and nothing is kept beside the machine. Nobody
+/// halts it.
 pub struct Director {
     machine: Machine,
 }
@@ -50,11 +51,15 @@ impl Director {
         log_room: u32,
     ) -> Result<Director, (Placement, OpenFault)>
         requires { IsSettled (sizes_of placement.setup) (place_of placement) }
-        ensures state { IfOk result (λ d. state_of d ≡ opened (sizes_of placement.setup) (place_of placement) log_room) }
+        ensures state { IfOk result (λ d. state_of d
+            ≡ opened (sizes_of placement.setup) (place_of placement) log_room) }
         ensures setup { IfOk result (λ d. d.placement.setup ≡ placement.setup) }
-        ensures fits { OnOk result ((log_room ≤ MOST_PLACES) × (down_count (sizes_of placement.setup) (place_of placement) ≤ log_room)) }
+        ensures fits { OnOk result ((log_room ≤ MOST_PLACES)
+            × (down_count (sizes_of placement.setup) (place_of placement) ≤ log_room)) }
         ensures back { IfErr result (λ e. e.0 ≡ placement) }
-        ensures full { IfErr result (λ e. (e.1 ≡ LogFull) ↔ ((MOST_PLACES < log_room) ⊎ (log_room < down_count (sizes_of placement.setup) (place_of placement)))) }
+        ensures full { IfErr result (λ e. (e.1 ≡ LogFull) ↔
+            ((MOST_PLACES < log_room) ⊎ (log_room < down_count (sizes_of placement.setup)
+            (place_of placement)))) }
     {
         let (machine, permits) = Machine::open(alloc, placement, log_room)?;
         close_permits(permits);
@@ -83,9 +88,11 @@ impl Director {
     /// not start, it comes back ready.
     pub fn start(&mut self, ready: ReadyPlan) -> Result<u32, (ReadyPlan, BeginFault)>
         requires { ready.setup ≡ self.old.placement.setup }
-        ensures started { IfOk result (λ number. IsDirected self.old (happening.Begin ready.plan) (played.Begun number) self.new) }
+        ensures started { IfOk result (λ number. IsDirected self.old (happening.Begin ready.plan)
+            (played.Begun number) self.new) }
         ensures latest { IfOk result (λ number. number ≡ length (state_of self.old).plans) }
-        ensures refused { IfErr result (λ e. IsDirected self.old (happening.Begin ready.plan) (played.NotBegun e.1) self.new) }
+        ensures refused { IfErr result (λ e. IsDirected self.old (happening.Begin ready.plan)
+            (played.NotBegun e.1) self.new) }
         ensures memory { IfErr result (λ e. e.1 ≢ fault.NoMemory) }
         ensures unchanged { OnErr result (self.new ≡ self.old) }
         ensures back { IfErr result (λ e. e.0 ≡ ready) }

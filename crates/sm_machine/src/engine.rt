@@ -1,6 +1,7 @@
 #![tactic(auto, unfolding(crate::specs::State::whole_of))]
 //! The fields of a machine, read and written one at a time.
-ghost use Rattle.std.specs.Prelude.{◌≡◌, ◌<◌, ◌≤◌, ◌-◌, ◌∷◌, suc, not, Some, None, Ok, IsOk, [], replicate, reverse, vec_capacity, true, false, length, slice_index_or};
+ghost use Rattle.std.specs.Prelude.{◌≡◌, ◌<◌, ◌≤◌, ◌-◌, ◌∷◌, suc, not, Some, None, Ok, IsOk, [], replicate, reverse};
+ghost use Rattle.std.specs.Prelude.{vec_capacity, true, false, length, slice_index_or};
 ghost use Rattle.std.specs.Option.{ForSome};
 ghost use Rattle.sm_placement.specs.Sums.{put};
 ghost use Rattle.sm_placement.specs.Rows.{IsKnownCall};
@@ -197,7 +198,8 @@ impl Engine {
     pub fn record_step(&mut self, id: StreamId, answer: Played)
         requires known { is_begun (state_of self.old) id ≡ true }
         requires room { length (state_of self.old).log < (state_of self.old).room }
-        ensures { whole_of self.new ≡ with_state (whole_of self.old) (recorded (state_of self.old) (event.Step id) answer) }
+        ensures { whole_of self.new ≡ with_state (whole_of self.old)
+            (recorded (state_of self.old) (event.Step id) answer) }
     {
         let _room = self.journal.room();
         let plan = id.plan as usize;
@@ -228,7 +230,8 @@ impl Engine {
     /// Sets a shard's highest handover number.
     pub fn set_number(&mut self, shard: ShardId, number: u64)
         requires { shard < (state_of self.old).sizes.shards }
-        ensures { whole_of self.new ≡ with_state (whole_of self.old) (record (state_of self.old) { numbers = put (state_of self.old).numbers shard number }) }
+        ensures { whole_of self.new ≡ with_state (whole_of self.old)
+            (record (state_of self.old) { numbers = put (state_of self.old).numbers shard number }) }
     {
         self.numbers[shard.number() as usize] = number;
     }
@@ -242,7 +245,8 @@ impl Engine {
 
     /// Sets the number of the next call.
     pub fn set_next_number(&mut self, number: u64)
-        ensures { whole_of self.new ≡ with_state (whole_of self.old) (record (state_of self.old) { next_number = number }) }
+        ensures { whole_of self.new ≡ with_state (whole_of self.old)
+            (record (state_of self.old) { next_number = number }) }
     {
         self.next_number = number;
     }
@@ -253,9 +257,13 @@ impl Engine {
         requires server { call.now.server < (state_of self.old).sizes.servers }
         requires party { IsKnownCall (state_of self.old).sizes.servers call.now.call }
         requires number { 1 ≤ number }
-        requires served { IsOk (called_numbered (state_of self.old).sizes (state_of self.old).place call.now.shard call.now.server call.now.call number) }
-        ensures effect { called_numbered (state_of self.old).sizes (state_of self.old).place call.now.shard call.now.server call.now.call number ≡ Ok (record { place = (state_of self.new).place; fresh = result }) }
-        ensures whole { whole_of self.new ≡ with_state (whole_of self.old) (record (state_of self.old) { place = (state_of self.new).place }) }
+        requires served { IsOk (called_numbered (state_of self.old).sizes
+            (state_of self.old).place call.now.shard call.now.server call.now.call number) }
+        ensures effect { called_numbered (state_of self.old).sizes
+            (state_of self.old).place call.now.shard call.now.server call.now.call number
+            ≡ Ok (record { place = (state_of self.new).place; fresh = result }) }
+        ensures whole { whole_of self.new ≡ with_state (whole_of self.old)
+            (record (state_of self.old) { place = (state_of self.new).place }) }
     {
         match self
             .placement
@@ -273,7 +281,13 @@ impl Engine {
         requires version { (state_of self.old).place.version shard < VERSIONS_END }
         requires room { length (state_of self.old).entries < length (state_of self.old).log }
         requires within { length (state_of self.old).log ≤ (state_of self.old).room }
-        ensures { whole_of self.new ≡ with_state (whole_of self.old) (record (state_of self.old) { place = publish (state_of self.old).place shard listed; entries = (shard, record { server = listed; version = suc ((state_of self.old).place.version shard) }) ∷ (state_of self.old).entries }) }
+        ensures { whole_of self.new ≡ with_state (whole_of self.old)
+            (record (state_of self.old) {
+              place = publish (state_of self.old).place shard listed;
+              entries =
+                  (shard, record { server = listed; version = suc ((state_of self.old).place.version shard) })
+                  ∷ (state_of self.old).entries;
+            }) }
     {
         self.placement.publish(shard, listed);
         let entry = self.placement.entry(shard);
@@ -307,8 +321,10 @@ impl Engine {
     /// Returns what holds up a plan that was checked for the machine's configuration.
     pub fn holding(&self, checked: &Checked) -> Option<Holding>
         requires setup { checked.now.setup ≡ self.now.placement.setup }
-        requires true_pool { (key : Key) → IsIn (whole_of self.now).pool (true_rights (state_of self.now).sizes (state_of self.now).place) key }
-        ensures { result ≡ first_holding (state_of self.now).sizes (state_of self.now).place (whole_of self.now).pool checked.now.plan }
+        requires true_pool { (key : Key) → IsIn (whole_of self.now).pool
+            (true_rights (state_of self.now).sizes (state_of self.now).place) key }
+        ensures { result ≡ first_holding (state_of self.now).sizes (state_of self.now).place
+            (whole_of self.now).pool checked.now.plan }
     {
         let _plan = checked.plan().streams();
         match admit_from_true_pool(checked, &self.pool, &self.placement) {
@@ -321,7 +337,8 @@ impl Engine {
     pub fn add_plan(&mut self, ready: ReadyPlan) -> Vec<StreamToken>
         requires fill { CanFillAll (begun_of ready 0) (whole_of self.old).pool }
         requires few { length (state_of self.old).plans ≤ MOST_NUMBER }
-        requires place { length (unfinished_below (whole_of self.old).unfinished (length (state_of self.old).plans)) < MOST_PLANS }
+        requires place { length (unfinished_below (whole_of self.old).unfinished (length (state_of self.old).plans))
+            < MOST_PLANS }
         ensures begun { IsBegunIn (whole_of self.old) ready (whole_of self.new) }
         ensures none { result.items ≡ [] }
         ensures room { length ready.plan.streams ≤ vec_capacity result }

@@ -1,5 +1,6 @@
 //! Hands: what lists of events are played with.
-ghost use Rattle.std.specs.Prelude.{◌≡◌, ◌≤◌, ◌<◌, ◌+◌, ◌++◌, ◌==◌, ◌^◌, ℕ, Some, None, OnOk, IfSome, find, slice_index_or, vec_len, vec_capacity};
+ghost use Rattle.std.specs.Prelude.{◌≡◌, ◌≤◌, ◌<◌, ◌+◌, ◌++◌, ◌==◌, ◌^◌, ℕ, Some, None, OnOk, IfSome, find};
+ghost use Rattle.std.specs.Prelude.{slice_index_or, vec_len, vec_capacity};
 ghost use Rattle.std.specs.List.{sum_by};
 ghost use Rattle.sm_placement.specs.Setup.{sizes_of};
 ghost use Rattle.sm_verifier.specs.Checked.{CheckedModel};
@@ -132,7 +133,8 @@ fn token_count(plan: &Option<ReadyPlan>) -> usize
 /// Returns the number of tokens that the starts of all plans of a hand give, if a list has room for that many.
 pub(crate) fn token_room(plans: &[Option<ReadyPlan>]) -> usize
     ensures room { result < 2 ^ 63 → sum_by token_count plans.now ≤ result }
-    ensures checked { (place : ℕ) (p : CheckedModel) → slice_index_or plans.now place None ≡ Some p → IsCheckedPlan (sizes_of p.setup) p.plan }
+    ensures checked { (place : ℕ) (p : CheckedModel) → slice_index_or plans.now place None ≡ Some p
+        → IsCheckedPlan (sizes_of p.setup) p.plan }
 {
     let mut room: usize = 0;
     for plan in plans {

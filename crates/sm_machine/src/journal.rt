@@ -45,7 +45,13 @@ impl TicketParts {
 
     /// Returns the request, passed on once more by the server that it was passed to.
     fn passed_on(&self, to: ServerId, number: u64, place: u32) -> TicketParts
-        ensures { result ≡ record { place = place; shard = self.now.shard; sender = self.now.target; target = to; number = number } }
+        ensures { result ≡ record {
+          place = place;
+          shard = self.now.shard;
+          sender = self.now.target;
+          target = to;
+          number = number;
+        } }
     {
         TicketParts {
             place,

@@ -1,5 +1,6 @@
 //! Machines.
-ghost use Rattle.std.specs.Prelude.{◌≡◌, ◌≢◌, ◌≤◌, ◌<◌, ◌↔◌, ◌⊎◌, IfOk, OnOk, IfErr, OnErr, length, true, false, ◌∷◌, [], if◌then◌else◌, ◌+◌, Some};
+ghost use Rattle.std.specs.Prelude.{◌≡◌, ◌≢◌, ◌≤◌, ◌<◌, ◌↔◌, ◌⊎◌, IfOk, OnOk, IfErr, OnErr, length, true, false, ◌∷◌};
+ghost use Rattle.std.specs.Prelude.{[], if◌then◌else◌, ◌+◌, Some};
 ghost use Rattle.sm_placement.specs.Place.{down_count};
 ghost use Rattle.sm_placement.specs.Lead.{IsSettled};
 ghost use Rattle.sm_protocol.specs.State.{opened};
@@ -78,12 +79,17 @@ impl Machine {
         log_room: u32,
     ) -> Result<(Machine, Vec<Permit>), (Placement, OpenFault)>
         requires { IsSettled (sizes_of placement.setup) (place_of placement) }
-        ensures state { IfOk result (λ r. state_of r.0 ≡ opened (sizes_of placement.setup) (place_of placement) log_room) }
+        ensures state { IfOk result (λ r. state_of r.0
+            ≡ opened (sizes_of placement.setup) (place_of placement) log_room) }
         ensures setup { IfOk result (λ r. r.0.placement.setup ≡ placement.setup) }
-        ensures permits { IfOk result (λ r. r.1.items ≡ filter_below (place_of placement).down (length placement.setup.servers)) }
-        ensures fits { OnOk result ((log_room ≤ MOST_PLACES) × (down_count (sizes_of placement.setup) (place_of placement) ≤ log_room)) }
+        ensures permits { IfOk result (λ r. r.1.items
+            ≡ filter_below (place_of placement).down (length placement.setup.servers)) }
+        ensures fits { OnOk result ((log_room ≤ MOST_PLACES)
+            × (down_count (sizes_of placement.setup) (place_of placement) ≤ log_room)) }
         ensures back { IfErr result (λ e. e.0 ≡ placement) }
-        ensures full { IfErr result (λ e. (e.1 ≡ LogFull) ↔ ((MOST_PLACES < log_room) ⊎ (log_room < down_count (sizes_of placement.setup) (place_of placement)))) }
+        ensures full { IfErr result (λ e. (e.1 ≡ LogFull) ↔
+            ((MOST_PLACES < log_room) ⊎ (log_room < down_count (sizes_of placement.setup)
+            (place_of placement)))) }
     {
         let servers = placement.config().server_count();
         if log_room > MOST_PLACES || log_room < placement.down_count() {
@@ -132,9 +138,12 @@ impl Machine {
         checked: Checked,
     ) -> Result<Vec<StreamToken>, (Checked, BeginFault)>
         requires { checked.setup ≡ self.old.placement.setup }
-        ensures answer { OnOk result ((happens (state_of self.old) (happening.Begin checked.plan)).0 ≡ Answered (played.Begun (length (state_of self.old).plans))) }
-        ensures state { OnOk result (state_of self.new ≡ (happens (state_of self.old) (happening.Begin checked.plan)).1) }
-        ensures tokens { IfOk result (λ tokens. AreTokens (length (state_of self.old).plans) (length checked.plan.streams) tokens.items) }
+        ensures answer { OnOk result ((happens (state_of self.old) (happening.Begin checked.plan)).0
+            ≡ Answered (played.Begun (length (state_of self.old).plans))) }
+        ensures state { OnOk result (state_of self.new
+            ≡ (happens (state_of self.old) (happening.Begin checked.plan)).1) }
+        ensures tokens { IfOk result (λ tokens. AreTokens (length (state_of self.old).plans)
+            (length checked.plan.streams) tokens.items) }
         ensures fault { IfErr result (λ e. e.1 ≢ fault.NoMemory → IsNotStarted (state_of self.old) checked.plan e.1) }
         ensures unchanged { OnErr result (self.new ≡ self.old) }
         ensures back { IfErr result (λ e. e.0 ≡ checked) }
@@ -156,9 +165,11 @@ impl Machine {
     /// Takes no memory.
     pub fn start(&mut self, ready: ReadyPlan) -> Result<Vec<StreamToken>, (ReadyPlan, BeginFault)>
         requires { ready.setup ≡ self.old.placement.setup }
-        ensures answer { OnOk result ((happens (state_of self.old) (happening.Begin ready.plan)).0 ≡ Answered (played.Begun (length (state_of self.old).plans))) }
+        ensures answer { OnOk result ((happens (state_of self.old) (happening.Begin ready.plan)).0
+            ≡ Answered (played.Begun (length (state_of self.old).plans))) }
         ensures state { OnOk result (state_of self.new ≡ (happens (state_of self.old) (happening.Begin ready.plan)).1) }
-        ensures tokens { IfOk result (λ tokens. AreTokens (length (state_of self.old).plans) (length ready.plan.streams) tokens.items) }
+        ensures tokens { IfOk result (λ tokens. AreTokens (length (state_of self.old).plans)
+            (length ready.plan.streams) tokens.items) }
         ensures fault { IfErr result (λ e. IsNotStarted (state_of self.old) ready.plan e.1) }
         ensures memory { IfErr result (λ e. e.1 ≢ fault.NoMemory) }
         ensures unchanged { OnErr result (self.new ≡ self.old) }
@@ -188,7 +199,8 @@ impl Machine {
     ///
     /// Takes no memory.
     pub fn step_over<L: Link>(&mut self, token: &mut StreamToken, link: &mut L) -> Step
-        ensures over { IsStepOver L.asked link.old link.new (state_of self.old) token.old (played_of result) (state_of self.new) }
+        ensures over { IsStepOver L.asked link.old link.new (state_of self.old) token.old (played_of result)
+            (state_of self.new) }
         ensures count { L.losses link.new ≡ L.losses link.old + bit (is_lost_answer (played_of result)) }
         ensures token { token.new ≡ token.old }
         ensures setup { self.new.placement.setup ≡ self.old.placement.setup }
@@ -207,7 +219,8 @@ impl Machine {
     /// Takes no memory.
     pub fn refill(&mut self, token: &mut StreamToken, more: u32) -> Result<(), RefillFault>
         requires { more ≤ MOST_CALLS }
-        ensures answer { (happens (state_of self.old) (happening.Refill token.old more)).0 ≡ Answered (refill_answer result) }
+        ensures answer { (happens (state_of self.old) (happening.Refill token.old more)).0
+            ≡ Answered (refill_answer result) }
         ensures state { state_of self.new ≡ (happens (state_of self.old) (happening.Refill token.old more)).1 }
         ensures token { token.new ≡ token.old }
         ensures setup { self.new.placement.setup ≡ self.old.placement.setup }
@@ -237,7 +250,8 @@ impl Machine {
     pub fn pass_on(&mut self, ticket: Ticket) -> Answer
         ensures answer { (happens (state_of self.old) (happening.PassOn ticket)).0 ≡ Answered (played_by result) }
         ensures state { state_of self.new ≡ (happens (state_of self.old) (happening.PassOn ticket)).1 }
-        ensures tickets { tickets_in result ≡ (if spends (played_by result) then tickets_of ticket.shard ticket.target (played_by result) else ticket ∷ []) }
+        ensures tickets { tickets_in result ≡ (if spends
+            (played_by result) then tickets_of ticket.shard ticket.target (played_by result) else ticket ∷ []) }
         ensures setup { self.new.placement.setup ≡ self.old.placement.setup }
     {
         let reply = self.pass_on_named(ticket.parts());

@@ -7,7 +7,8 @@ ghost use Rattle.sm_plan_code.specs.After.{to_list};
 ghost use Rattle.sm_plan_code.specs.Instr.{shard_of};
 ghost use Rattle.sm_reservation.specs.Pool.{leads_of};
 ghost use Rattle.sm_protocol.specs.State.{is_begun, numbers_end, signal_count};
-ghost use Rattle.sm_protocol.specs.Next.{blocked_on, entry_by, entry_listing, instruction_before, next_call_of, next_entry_of, unposted};
+ghost use Rattle.sm_protocol.specs.Next.{blocked_on, entry_by, entry_listing, instruction_before, next_call_of};
+ghost use Rattle.sm_protocol.specs.Next.{next_entry_of, unposted};
 ghost use Rattle.sm_machine.specs.State.{whole_of, state_of};
 ghost use Rattle.sm_machine.specs.Working.{IsWorking};
 
@@ -76,7 +77,8 @@ impl Engine {
     /// Returns the entry that an instruction adds to the published map, None if it adds none.
     fn entry_by(&self, instr: &Instr) -> Option<(ShardId, Entry)>
         requires shard { IfSome (shard_of instr.now) (λ s. s < (state_of self.now).sizes.shards) }
-        requires versions { (s : ℕ) → s < (state_of self.now).sizes.shards → (state_of self.now).place.version s < VERSIONS_END }
+        requires versions { (s : ℕ) → s < (state_of self.now).sizes.shards
+            → (state_of self.now).place.version s < VERSIONS_END }
         ensures { result ≡ entry_by (state_of self.now) (Some instr.now) }
     {
         match *instr {

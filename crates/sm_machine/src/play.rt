@@ -6,7 +6,8 @@ ghost use Rattle.sm_protocol.specs.Hand.{play, plays};
 ghost use Rattle.sm_protocol.specs.Laws.{NamesKnown, IsPlayed};
 ghost use Rattle.sm_protocol.specs.Steps.{Answered};
 ghost use Rattle.sm_machine.specs.State.{state_of};
-ghost use Rattle.sm_machine.specs.Hand.{AreFor, AreLeft, HasHandRoom, StartsNoPlan, TellsRight, IsSameHand, IsTurn, game_of};
+ghost use Rattle.sm_machine.specs.Hand.{AreFor, AreLeft, HasHandRoom, StartsNoPlan, TellsRight, IsSameHand, IsTurn};
+ghost use Rattle.sm_machine.specs.Hand.{game_of};
 ghost use Rattle.sm_plan_code.specs.declared.limits.TheConstants.{MOST_CALLS};
 
 use crate::answers::Answers;
@@ -112,7 +113,8 @@ impl Machine {
     ) -> Result<Vec<Played>, AllocError>
         requires names { AllByRecursion (NamesKnown (state_of self.old).sizes) events.now }
         requires plans { AreFor self.old.placement.setup hand.old.plans.items }
-        ensures answers { IfOk result (λ answers. map Answered answers.items ≡ plays events.now (game_of self.old hand.old)) }
+        ensures answers { IfOk result (λ answers. map Answered answers.items
+            ≡ plays events.now (game_of self.old hand.old)) }
         ensures game { OnOk result (game_of self.new hand.new ≡ play events.now (game_of self.old hand.old)) }
         ensures setup { self.new.placement.setup ≡ self.old.placement.setup }
         ensures left { AreLeft hand.old.plans.items hand.new.plans.items }
@@ -173,7 +175,8 @@ impl Machine {
     ) -> Result<Vec<Played>, AllocError>
         requires names { AllByRecursion (NamesKnown (state_of self.old).sizes) events.now }
         requires plans { AreFor self.old.placement.setup hand.old.plans.items }
-        ensures answers { IfOk result (λ answers. map Answered answers.items ≡ plays events.now (game_of self.old hand.old)) }
+        ensures answers { IfOk result (λ answers. map Answered answers.items
+            ≡ plays events.now (game_of self.old hand.old)) }
         ensures game { OnOk result (game_of self.new hand.new ≡ play events.now (game_of self.old hand.old)) }
         ensures setup { self.new.placement.setup ≡ self.old.placement.setup }
         ensures left { AreLeft hand.old.plans.items hand.new.plans.items }

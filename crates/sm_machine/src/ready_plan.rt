@@ -5,7 +5,8 @@ ghost use Rattle.sm_plan_code.specs.Plan.{IsSmallParcel};
 ghost use Rattle.sm_placement.specs.Setup.{sizes_of};
 ghost use Rattle.sm_machine.specs.Servers.{AreMentionedBy};
 ghost use Rattle.sm_machine.specs.Started.{ArePeaksOf};
-ghost use Rattle.sm_machine.specs.Starts.{IsEmptyCourse, IsEmptyCarried, ready_course, ready_signal, ready_courses, ready_signals, begun_of};
+ghost use Rattle.sm_machine.specs.Starts.{IsEmptyCourse, IsEmptyCarried, ready_course, ready_signal, ready_courses};
+ghost use Rattle.sm_machine.specs.Starts.{ready_signals, begun_of};
 
 use crate::begun::Begun;
 use crate::carried::Carried;
@@ -118,7 +119,8 @@ fn add_signal(alloc: Global, signals: &mut Vec<Carried>, parcel: &Parcel) -> Res
 /// Makes the streams of a checked plan, each with an empty grant that has capacity for all that it holds on its way.
 fn make_courses(alloc: Global, checked: &Checked) -> Result<Vec<Course>, AllocError>
     ensures courses { IfOk result (λ courses. courses.items ≡ ready_courses checked.now) }
-    ensures peaks { OnOk result (ArePeaksOf (sizes_of checked.now.setup) checked.now (length checked.now.plan.streams)) }
+    ensures peaks { OnOk result (ArePeaksOf (sizes_of checked.now.setup) checked.now
+        (length checked.now.plan.streams)) }
 {
     let count = checked.plan().streams().len();
     let mut courses = Vec::new(alloc);
@@ -161,7 +163,8 @@ fn make_parts(
     ensures courses { IfOk result (λ r. r.0.items ≡ ready_courses checked.now) }
     ensures signals { IfOk result (λ r. r.1.items ≡ ready_signals checked.now) }
     ensures mentioned { IfOk result (λ r. AreMentionedBy checked.now.plan.streams r.2.items) }
-    ensures peaks { OnOk result (ArePeaksOf (sizes_of checked.now.setup) checked.now (length checked.now.plan.streams)) }
+    ensures peaks { OnOk result (ArePeaksOf (sizes_of checked.now.setup) checked.now
+        (length checked.now.plan.streams)) }
 {
     let mentioned = MentionedServers::of_each(alloc, checked.plan().streams())?;
     let courses = make_courses(alloc, checked)?;

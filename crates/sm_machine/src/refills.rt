@@ -41,7 +41,11 @@ impl Engine {
         requires small { (progress_of (state_of self.old) id).refills + more < 2 ^ 32 }
         requires places { more + 1 ≤ (whole_of self.old).free }
         requires room { length (state_of self.old).log < (state_of self.old).room }
-        ensures { whole_of self.new ≡ record (whole_of self.old) { state = (refilled (state_of self.old) id more None).1; free = (whole_of self.old).free - (more + 1) } }
+        ensures { whole_of self.new ≡ record (whole_of self.old) {
+          state = (refilled (state_of self.old) id more None).1;
+          free = (whole_of self.old).free -
+              (more + 1);
+        } }
     {
         let progress = self.progress(id);
         self.set_progress(id, progress.refilled(more));
@@ -54,7 +58,8 @@ impl Engine {
     pub fn refill(&mut self, id: StreamId, more: u32) -> Result<(), RefillFault>
         requires working { IsWorking (whole_of self.old) }
         requires more { more ≤ MOST_CALLS }
-        ensures { HasHappened (whole_of self.old) (happening.Refill id more) (refill_answer result) (whole_of self.new) }
+        ensures { HasHappened (whole_of self.old) (happening.Refill id more) (refill_answer result)
+            (whole_of self.new) }
     {
         if let Some(fault) = self.refill_fault(id, more) {
             return Err(fault);

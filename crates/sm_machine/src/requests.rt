@@ -11,7 +11,8 @@ use sm_server::{Cell, ServerId, ShardId};
 
 /// Returns what a server that is prepared by an owner, under a number, answers to a request that was passed on.
 fn answer_prepared(owner: ServerId, number: u64, server: ServerId, sent: TicketParts) -> Played
-    ensures { result ≡ (if (owner == sent.sender) && (number == sent.number) then played.Executed server else played.NotOwner) }
+    ensures { result ≡ (if (owner == sent.sender) &&
+        (number == sent.number) then played.Executed server else played.NotOwner) }
 {
     if owner == sent.sender && number == sent.number {
         Played::Executed { server }
@@ -49,7 +50,8 @@ pub(crate) fn reply(
 ) -> Played
     requires shard { shard < length placement.now.setup.shards }
     requires server { server < length placement.now.setup.servers }
-    ensures { result ≡ (if (place_of placement.now).down server then played.Unavailable else answer_by ((place_of placement.now).cells shard server) server sent place) }
+    ensures { result ≡ (if (place_of placement.now).down server then played.Unavailable else answer_by
+        ((place_of placement.now).cells shard server) server sent place) }
 {
     if placement.is_down(server) {
         return Played::Unavailable;

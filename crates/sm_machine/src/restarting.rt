@@ -27,7 +27,8 @@ impl Engine {
     pub fn start_restart(&mut self, server: ServerId)
         requires working { IsWorking (whole_of self.old) }
         requires server { server < (state_of self.old).sizes.servers }
-        requires granted { denial (state_of self.old).sizes (state_of self.old).place (whole_of self.old).pool (engaged (state_of self.old) server) (whole_of self.old).free server ≡ None }
+        requires granted { denial (state_of self.old).sizes (state_of self.old).place (whole_of self.old).pool
+            (engaged (state_of self.old) server) (whole_of self.old).free server ≡ None }
         ensures { whole_of self.new ≡ approved_whole (whole_of self.old) server }
     {
         self.record(Event::Approve { server }, Played::Approved);

@@ -38,7 +38,8 @@ impl Rooms {
     pub fn of(alloc: Global, placement: &Placement, room: u32) -> Result<Rooms, AllocError>
         requires { IsSettled (sizes_of placement.now.setup) (place_of placement.now) }
         ensures opening { IfOk result (λ rooms. place_of_rows rooms.opening ≡ forget_numbers (place_of placement.now)) }
-        ensures pool { IfOk result (λ rooms. pool_hold rooms.pool ≡ true_rights (sizes_of placement.now.setup) (place_of placement.now)) }
+        ensures pool { IfOk result (λ rooms. pool_hold rooms.pool
+            ≡ true_rights (sizes_of placement.now.setup) (place_of placement.now)) }
         ensures shards { IfOk result (λ rooms. rooms.pool.shards ≡ length placement.now.setup.shards) }
         ensures servers { IfOk result (λ rooms. rooms.pool.servers ≡ length placement.now.setup.servers) }
         ensures entries { IfOk result (λ rooms. rooms.entries.items ≡ []) }

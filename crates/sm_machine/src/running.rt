@@ -90,7 +90,8 @@ impl Engine {
     fn make_try(&mut self, id: StreamId, passage: Passage, instr: &Instr, call: &ServerCall) -> Step
         requires at { IsAt (whole_of self.old) id (Some instr.now) }
         requires call { is_call instr.now ≡ true }
-        requires makes { call_to_make (state_of self.old) (progress_of (state_of self.old) id) instr.now ≡ Some call.now }
+        requires makes { call_to_make (state_of self.old) (progress_of (state_of self.old) id) instr.now
+            ≡ Some call.now }
         requires unspent { ((progress_of (state_of self.old) id).tries == allowance (state_of self.old) id) ≡ false }
         requires few { (progress_of (state_of self.old) id).tries < 2 ^ 64 - 1 }
         ensures { IsStepped (whole_of self.old) id passage (played_of result) (whole_of self.new) }

@@ -14,8 +14,10 @@ use sm_server::{ServerId, ShardId};
 /// Takes a spare replica of each shard that is live at the server out of the pool. Takes no memory.
 pub(crate) fn pay_live(pool: &mut Pool, placement: &Placement, server: ServerId)
     requires server { server < length placement.now.setup.servers }
-    requires spare { CanPayLive (pool_hold pool.old) (live_there (place_of placement.now) server) (length placement.now.setup.shards) }
-    ensures hold { pool_hold pool.new ≡ pay_live (pool_hold pool.old) (live_there (place_of placement.now) server) (length placement.now.setup.shards) }
+    requires spare { CanPayLive (pool_hold pool.old) (live_there (place_of placement.now) server)
+        (length placement.now.setup.shards) }
+    ensures hold { pool_hold pool.new ≡ pay_live (pool_hold pool.old) (live_there (place_of placement.now) server)
+        (length placement.now.setup.shards) }
     ensures size { SameSize pool.old pool.new }
 {
     for number in 0..placement.config().shard_count() {
@@ -30,8 +32,10 @@ pub(crate) fn pay_live(pool: &mut Pool, placement: &Placement, server: ServerId)
 pub(crate) fn get_live(pool: &mut Pool, placement: &Placement, server: ServerId)
     requires server { server < length placement.now.setup.servers }
     requires size { HasSize (sizes_of placement.now.setup) pool.old }
-    requires fits { CanGetLive (pool_hold pool.old) (live_there (place_of placement.now) server) (length placement.now.setup.shards) }
-    ensures hold { pool_hold pool.new ≡ get_live (pool_hold pool.old) (live_there (place_of placement.now) server) (length placement.now.setup.shards) }
+    requires fits { CanGetLive (pool_hold pool.old) (live_there (place_of placement.now) server)
+        (length placement.now.setup.shards) }
+    ensures hold { pool_hold pool.new ≡ get_live (pool_hold pool.old) (live_there (place_of placement.now) server)
+        (length placement.now.setup.shards) }
     ensures size { SameSize pool.old pool.new }
 {
     for number in 0..placement.config().shard_count() {

@@ -1,5 +1,6 @@
 //! Starts of plans.
-ghost use Rattle.std.specs.Prelude.{◌≡◌, ◌≢◌, nat_lt, ◌≤◌, ◌<◌, ◌+◌, [], Some, None, IfOk, OnErr, IfErr, length, vec_capacity};
+ghost use Rattle.std.specs.Prelude.{◌≡◌, ◌≢◌, nat_lt, ◌≤◌, ◌<◌, ◌+◌, [], Some, None, IfOk, OnErr, IfErr, length};
+ghost use Rattle.std.specs.Prelude.{vec_capacity};
 ghost use Rattle.sm_plan_code.specs.declared.limits.TheConstants.{MOST_PLANS, MOST_STREAMS};
 ghost use Rattle.sm_protocol.specs.State.{places_of};
 ghost use Rattle.sm_protocol.specs.declared.event.BeginFault.TheVariants as fault;
@@ -57,7 +58,8 @@ impl Engine {
     /// Counts another unfinished plan with this many streams, and sets the number of free places of the log.
     fn count_start(&mut self, free: u64, streams: usize)
         requires { (whole_of self.old).running < MOST_PLANS }
-        ensures { whole_of self.new ≡ record (whole_of self.old) { free = free; running = (whole_of self.old).running + bit (nat_lt 0 streams) } }
+        ensures { whole_of self.new ≡ record (whole_of self.old)
+            { free = free; running = (whole_of self.old).running + bit (nat_lt 0 streams) } }
     {
         self.set_free(free);
         if streams > 0 {

@@ -29,7 +29,8 @@ impl Engine {
     /// Publishes another entry of a shard in the map, for a stream's instruction.
     pub fn step_publish(&mut self, id: StreamId, shard: ShardId, listed: Option<ServerId>)
         requires { IsReadyToPublish (state_of self.old) id shard listed }
-        ensures { whole_of self.new ≡ with_state (whole_of self.old) (entry_added (state_of self.old) id shard listed).1 }
+        ensures { whole_of self.new ≡ with_state (whole_of self.old)
+            (entry_added (state_of self.old) id shard listed).1 }
     {
         self.entries_fit();
         self.go_on(id);
@@ -39,9 +40,19 @@ impl Engine {
     /// Posts a signal, for a stream.
     pub fn step_signal(&mut self, id: StreamId, signal: u32)
         requires { IsReadyToPost (whole_of self.old) id signal }
-        ensures whole { whole_of self.new ≡ record (whole_of self.old) { state = (posted (state_of self.old) id signal).1; grants = put2 (whole_of self.old).grants id.plan id.stream (grant_of self.new id); parcels = put2 (whole_of self.old).parcels id.plan signal ((whole_of self.new).parcels id.plan signal) } }
-        ensures sent { hold_in ((whole_of self.new).parcels id.plan signal) ≡ plus (hold_in ((whole_of self.old).parcels id.plan signal)) (parcel_at (state_of self.old) id.plan signal) }
-        ensures left { hold_in (grant_of self.new id) ≡ minus (hold_in (grant_of self.old id)) (parcel_at (state_of self.old) id.plan signal) }
+        ensures whole { whole_of self.new ≡ record
+            (whole_of self.old) {
+              state = (posted (state_of self.old) id signal).1;
+              grants = put2
+                  (whole_of self.old).grants id.plan id.stream (grant_of self.new id);
+              parcels = put2
+                  (whole_of self.old).parcels id.plan signal ((whole_of self.new).parcels id.plan signal);
+            } }
+        ensures sent { hold_in ((whole_of self.new).parcels id.plan signal)
+            ≡ plus (hold_in ((whole_of self.old).parcels id.plan signal))
+            (parcel_at (state_of self.old) id.plan signal) }
+        ensures left { hold_in (grant_of self.new id)
+            ≡ minus (hold_in (grant_of self.old id)) (parcel_at (state_of self.old) id.plan signal) }
         ensures kept { capacity_in (grant_of self.new id) ≡ capacity_in (grant_of self.old id) }
     {
         self.post(id, signal);
@@ -51,8 +62,16 @@ impl Engine {
     /// Gives a stream the parcel of a signal that was posted.
     pub fn step_wait(&mut self, id: StreamId, signal: u32)
         requires { IsReadyToTake (whole_of self.old) id signal }
-        ensures whole { whole_of self.new ≡ record (whole_of self.old) { state = taken (state_of self.old) id signal; grants = put2 (whole_of self.old).grants id.plan id.stream (grant_of self.new id); parcels = put2 (whole_of self.old).parcels id.plan signal None } }
-        ensures hold { hold_in (grant_of self.new id) ≡ plus (hold_in (grant_of self.old id)) (rights_in ((whole_of self.old).parcels id.plan signal)) }
+        ensures whole { whole_of self.new ≡ record
+            (whole_of self.old) {
+              state = taken (state_of self.old) id signal;
+              grants = put2
+                  (whole_of self.old).grants id.plan id.stream (grant_of self.new id);
+              parcels = put2
+                  (whole_of self.old).parcels id.plan signal None;
+            } }
+        ensures hold { hold_in (grant_of self.new id)
+            ≡ plus (hold_in (grant_of self.old id)) (rights_in ((whole_of self.old).parcels id.plan signal)) }
         ensures kept { capacity_in (grant_of self.new id) ≡ capacity_in (grant_of self.old id) }
     {
         self.wait(id, signal);

@@ -16,7 +16,8 @@ ghost use Rattle.sm_protocol.specs.State.{fresh};
 ghost use Rattle.sm_machine.specs.Trade.{CanTrade, IsTradedBy};
 ghost use Rattle.sm_machine.specs.Starts.{CanFillAt, IsFilledBy};
 ghost use Rattle.sm_machine.specs.Returns.{held_in_course, CanTakeBack, HasTakenBack};
-ghost use Rattle.sm_machine.specs.Course.{hold_in, rights_in, capacity_in, HasCapacityIn, HasCapacityAfterIn, IsCourse, IsGrantInOrder};
+ghost use Rattle.sm_machine.specs.Course.{hold_in, rights_in, capacity_in, HasCapacityIn, HasCapacityAfterIn, IsCourse};
+ghost use Rattle.sm_machine.specs.Course.{IsGrantInOrder};
 
 use crate::progress::Progress;
 use sm_placement::Config;
@@ -111,10 +112,13 @@ impl Course {
     fn exchange(&mut self, change: &Change)
         requires running { self.old.progress.done ≡ false }
         requires held { first_short (hold_in self.old.grant) (portion_rights change.now.out) ≡ None }
-        requires fits { CanJoin (minus (hold_in self.old.grant) (portion_rights change.now.out)) (hold_of (portion_rights change.now.got)) }
-        requires capacity { HasCapacityAfterIn self.old.grant (portion_rights change.now.out) (portion_rights change.now.got) }
+        requires fits { CanJoin (minus (hold_in self.old.grant) (portion_rights change.now.out))
+            (hold_of (portion_rights change.now.got)) }
+        requires capacity { HasCapacityAfterIn self.old.grant (portion_rights change.now.out)
+            (portion_rights change.now.got) }
         ensures others { self.new ≡ record self.old { grant = self.new.grant } }
-        ensures hold { hold_in self.new.grant ≡ plus (minus (hold_in self.old.grant) (portion_rights change.now.out)) (portion_rights change.now.got) }
+        ensures hold { hold_in self.new.grant ≡ plus
+            (minus (hold_in self.old.grant) (portion_rights change.now.out)) (portion_rights change.now.got) }
         ensures capacity { capacity_in self.new.grant ≡ capacity_in self.old.grant }
     {
         match &mut self.grant {
@@ -195,7 +199,8 @@ impl Course {
     pub fn end(&mut self) -> Grant
         requires { self.old.progress.done ≡ false }
         ensures grant { self.old.grant ≡ Some result }
-        ensures after { self.new ≡ record self.old { progress = record self.old.progress { done = true }; grant = None } }
+        ensures after { self.new ≡ record self.old
+            { progress = record self.old.progress { done = true }; grant = None } }
     {
         self.progress = self.progress.ended();
         match self.grant.take() {

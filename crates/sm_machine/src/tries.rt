@@ -1,11 +1,13 @@
 //! Tries of calls.
-ghost use Rattle.std.specs.Prelude.{◌≡◌, ◌<◌, ◌+◌, ◌-◌, ◌^◌, ◌==◌, if◌then◌else◌, ℕ, Some, None, Ok, IfSome, true, false};
+ghost use Rattle.std.specs.Prelude.{◌≡◌, ◌<◌, ◌+◌, ◌-◌, ◌^◌, ◌==◌, if◌then◌else◌, ℕ, Some, None, Ok, IfSome, true};
+ghost use Rattle.std.specs.Prelude.{false};
 ghost use Rattle.sm_placement.specs.Sums.{put2};
 ghost use Rattle.sm_placement.specs.Place.{called_numbered};
 ghost use Rattle.sm_plan_code.specs.Instr.{shard_of, IsOwn};
 ghost use Rattle.sm_plan_code.specs.Acts.{numbers_after};
 ghost use Rattle.sm_protocol.specs.State.{is_begun, progress_of, numbers_end};
-ghost use Rattle.sm_protocol.specs.Steps.{call_number, number_after_try, call_to_make, served_try, call_lost, behind_call, ahead_of_call};
+ghost use Rattle.sm_protocol.specs.Steps.{call_number, number_after_try, call_to_make, served_try, call_lost};
+ghost use Rattle.sm_protocol.specs.Steps.{behind_call, ahead_of_call};
 ghost use Rattle.sm_protocol.specs.declared.event.Event.TheVariants as event;
 ghost use Rattle.sm_protocol.specs.declared.event.Played.TheVariants as played;
 ghost use Rattle.sm_machine.specs.State.{whole_of, state_of, grant_of, with_state};
@@ -65,7 +67,8 @@ impl Engine {
     /// Counts a try, which uses its number up.
     fn count_try(&mut self, progress: Progress)
         requires { (state_of self.old).next_number < numbers_end }
-        ensures { whole_of self.new ≡ with_state (whole_of self.old) (record (state_of self.old) { next_number = number_after_try (state_of self.old) progress }) }
+        ensures { whole_of self.new ≡ with_state (whole_of self.old)
+            (record (state_of self.old) { next_number = number_after_try (state_of self.old) progress }) }
     {
         if progress.pending == 0 {
             let number = self.next_number();
@@ -77,7 +80,8 @@ impl Engine {
     fn raise_numbers(&mut self, instr: &Instr)
         requires shard { IfSome (shard_of instr.now) (λ s. s < (state_of self.old).sizes.shards) }
         requires numbers { (s : ℕ) → (state_of self.old).numbers s < numbers_end }
-        ensures { whole_of self.new ≡ with_state (whole_of self.old) (record (state_of self.old) { numbers = numbers_after (state_of self.old).numbers instr.now }) }
+        ensures { whole_of self.new ≡ with_state (whole_of self.old)
+            (record (state_of self.old) { numbers = numbers_after (state_of self.old).numbers instr.now }) }
     {
         if let Instr::PrepareAdd { shard, .. } = *instr {
             let number = self.number(shard);
@@ -92,8 +96,13 @@ impl Engine {
         requires known { IfSome (shard_of instr.now) (λ s. s < (state_of self.old).sizes.shards) }
         requires own { IsOwn instr.now }
         requires can { CanTradeUnless ahead (state_of self.old).sizes instr.now (grant_of self.old id) }
-        ensures whole { whole_of self.new ≡ record (whole_of self.old) { grants = put2 (whole_of self.old).grants id.plan id.stream (grant_of self.new id) } }
-        ensures traded { IsTradedUnless ahead (state_of self.old).sizes instr.now (grant_of self.old id) (grant_of self.new id) }
+        ensures whole { whole_of self.new ≡ record
+            (whole_of self.old) {
+              grants = put2 (whole_of self.old).grants id.plan id.stream
+                  (grant_of self.new id);
+            } }
+        ensures traded { IsTradedUnless ahead (state_of self.old).sizes instr.now (grant_of self.old id)
+            (grant_of self.new id) }
     {
         if !ahead {
             let _change = self.trade(id, instr);
@@ -116,9 +125,24 @@ impl Engine {
         requires call { CanServe (state_of self.old) progress call.now }
         requires numbers { (s : ℕ) → (state_of self.old).numbers s < numbers_end }
         requires next { (state_of self.old).next_number < numbers_end }
-        ensures effect { called_numbered (state_of self.old).sizes (state_of self.old).place call.now.shard call.now.server call.now.call (call_number (state_of self.old) progress) ≡ Ok (record { place = (state_of self.new).place; fresh = result }) }
-        ensures whole { whole_of self.new ≡ record (whole_of self.old) { state = record (state_of self.old) { place = (state_of self.new).place; numbers = if result then numbers_after (state_of self.old).numbers instr.now else (state_of self.old).numbers; next_number = number_after_try (state_of self.old) progress }; grants = put2 (whole_of self.old).grants id.plan id.stream (grant_of self.new id) } }
-        ensures traded { IsTradedUnless progress.ahead (state_of self.old).sizes instr.now (grant_of self.old id) (grant_of self.new id) }
+        ensures effect { called_numbered (state_of self.old).sizes
+            (state_of self.old).place call.now.shard call.now.server call.now.call
+            (call_number (state_of self.old) progress)
+            ≡ Ok (record { place = (state_of self.new).place; fresh = result }) }
+        ensures whole { whole_of self.new ≡ record
+            (whole_of self.old) {
+              state = record (state_of self.old) {
+                place = (state_of self.new).place;
+                numbers = if result then numbers_after
+                    (state_of self.old).numbers instr.now else
+                    (state_of self.old).numbers;
+                next_number = number_after_try (state_of self.old) progress;
+              };
+              grants =
+                  put2 (whole_of self.old).grants id.plan id.stream (grant_of self.new id);
+            } }
+        ensures traded { IsTradedUnless progress.ahead (state_of self.old).sizes instr.now (grant_of self.old id)
+            (grant_of self.new id) }
     {
         let number = self.call_number(progress);
         let fresh = self.serve(call, number);
@@ -133,9 +157,21 @@ impl Engine {
     /// Makes a call that comes to its server, and whose answer comes back. Returns whether it has its effect now.
     pub fn call_through(&mut self, id: StreamId, instr: &Instr, call: &ServerCall) -> bool
         requires { IsReadyToCall (whole_of self.old) id instr.now call.now }
-        ensures effect { called_numbered (state_of self.old).sizes (state_of self.old).place call.now.shard call.now.server call.now.call (call_number (state_of self.old) (progress_of (state_of self.old) id)) ≡ Ok (record { place = (state_of self.new).place; fresh = result }) }
-        ensures whole { whole_of self.new ≡ record (whole_of self.old) { state = served_try (state_of self.old) id instr.now (record { place = (state_of self.new).place; fresh = result }) (behind_call (progress_of (state_of self.old) id) result) (event.Step id) played.Moved; grants = put2 (whole_of self.old).grants id.plan id.stream (grant_of self.new id) } }
-        ensures traded { IsTradedUnless (progress_of (state_of self.old) id).ahead (state_of self.old).sizes instr.now (grant_of self.old id) (grant_of self.new id) }
+        ensures effect { called_numbered (state_of self.old).sizes
+            (state_of self.old).place call.now.shard call.now.server call.now.call
+            (call_number (state_of self.old) (progress_of (state_of self.old) id))
+            ≡ Ok (record { place = (state_of self.new).place; fresh = result }) }
+        ensures whole { whole_of self.new ≡ record
+            (whole_of self.old) {
+              state = served_try (state_of self.old) id instr.now
+                  (record { place = (state_of self.new).place; fresh = result })
+                  (behind_call (progress_of (state_of self.old) id) result)
+                  (event.Step id) played.Moved;
+              grants = put2 (whole_of self.old).grants id.plan id.stream
+                  (grant_of self.new id);
+            } }
+        ensures traded { IsTradedUnless (progress_of (state_of self.old) id).ahead
+            (state_of self.old).sizes instr.now (grant_of self.old id) (grant_of self.new id) }
     {
         let progress = self.progress(id);
         let fresh = self.serve_try(id, progress, instr, call);
@@ -147,9 +183,21 @@ impl Engine {
     /// Makes a call that comes to its server, and whose answer is lost. Returns whether it has its effect now.
     pub fn call_unanswered(&mut self, id: StreamId, instr: &Instr, call: &ServerCall) -> bool
         requires { IsReadyToCall (whole_of self.old) id instr.now call.now }
-        ensures effect { called_numbered (state_of self.old).sizes (state_of self.old).place call.now.shard call.now.server call.now.call (call_number (state_of self.old) (progress_of (state_of self.old) id)) ≡ Ok (record { place = (state_of self.new).place; fresh = result }) }
-        ensures whole { whole_of self.new ≡ record (whole_of self.old) { state = served_try (state_of self.old) id instr.now (record { place = (state_of self.new).place; fresh = result }) (ahead_of_call (state_of self.old) (progress_of (state_of self.old) id) result) (event.Lose id true) played.Lost; grants = put2 (whole_of self.old).grants id.plan id.stream (grant_of self.new id) } }
-        ensures traded { IsTradedUnless (progress_of (state_of self.old) id).ahead (state_of self.old).sizes instr.now (grant_of self.old id) (grant_of self.new id) }
+        ensures effect { called_numbered (state_of self.old).sizes
+            (state_of self.old).place call.now.shard call.now.server call.now.call
+            (call_number (state_of self.old) (progress_of (state_of self.old) id))
+            ≡ Ok (record { place = (state_of self.new).place; fresh = result }) }
+        ensures whole { whole_of self.new ≡ record
+            (whole_of self.old) {
+              state = served_try (state_of self.old) id instr.now
+                  (record { place = (state_of self.new).place; fresh = result })
+                  (ahead_of_call (state_of self.old) (progress_of (state_of self.old) id) result)
+                  (event.Lose id true) played.Lost;
+              grants = put2 (whole_of self.old).grants id.plan id.stream
+                  (grant_of self.new id);
+            } }
+        ensures traded { IsTradedUnless (progress_of (state_of self.old) id).ahead
+            (state_of self.old).sizes instr.now (grant_of self.old id) (grant_of self.new id) }
     {
         let progress = self.progress(id);
         let number = self.call_number(progress);

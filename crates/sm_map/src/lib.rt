@@ -1,7 +1,7 @@
 //! The published map of shards, one word for each shard.
 //!
-//! One publisher stores the words, and clients load them without a lock. A client never sees an older entry than it has seen,
-//! or than had been stored when its pass was made.
+//! One publisher stores the words, and clients load them without a lock. A client never sees an older entry than it has
+//! seen, or than had been stored when its pass was made.
 #![tactic(auto)]
 
 mod entry;

@@ -122,7 +122,12 @@ impl Words {
     pub fn look(&self, pass: &mut Pass, shard: ShardId) -> Entry
         requires pass { pass.old.words ≡ self.now }
         requires shard { shard < length self.now.opening }
-        ensures seen { pass.new ≡ record { words = self.now; since = pass.old.since; seen = (shard, result) ∷ pass.old.seen } }
+        ensures seen { pass.new ≡ record {
+          words = self.now;
+          since = pass.old.since;
+          seen = (shard, result)
+              ∷ pass.old.seen;
+        } }
         ensures not_older { AllSameOrOlder pass.old.seen shard result }
         ensures not_before { IsNotBefore self.now.opening pass.old.since shard result }
         ensures in_range { IsInRange self.now.servers result }
@@ -153,7 +158,12 @@ impl Words {
         requires pass { pass.old.words ≡ self.now }
         requires shard { shard < length self.now.opening }
         ensures same { publisher.new ≡ publisher.old }
-        ensures seen { pass.new ≡ record { words = self.now; since = publisher.old.stores; seen = (shard, result) ∷ pass.old.seen } }
+        ensures seen { pass.new ≡ record {
+          words = self.now;
+          since = publisher.old.stores;
+          seen = (shard, result)
+              ∷ pass.old.seen;
+        } }
         ensures last { newest (history publisher.old shard) ≡ Some result }
         ensures earlier { IsSince publisher.old pass.old }
         ensures stand { HasAllSeen publisher.old pass.old }
@@ -180,7 +190,12 @@ impl Words {
         requires pass { pass.words ≡ self.now }
         requires shard { shard < length self.now.opening }
         ensures same { result.0 ≡ publisher }
-        ensures seen { result.1 ≡ record { words = self.now; since = publisher.stores; seen = (shard, result.2) ∷ pass.seen } }
+        ensures seen { result.1 ≡ record {
+          words = self.now;
+          since = publisher.stores;
+          seen = (shard, result.2)
+              ∷ pass.seen;
+        } }
         ensures last { newest (history publisher shard) ≡ Some result.2 }
         ensures earlier { IsSince publisher pass }
         ensures stand { HasAllSeen publisher pass }

@@ -16,7 +16,7 @@
 //! - A load parts a pass from the publisher (`Parts`, as a `Split`). The pass has what was seen: nothing if it is new. It knows too what
 //!   is stored by then.
 //! - A pass joins the publisher (`Parts`, as a `Join`), and the two load a shard's word as one (`Meet`).
-//!   They then know that the entry is the newest. The pass's old seat stays behind, with nothing stored and nothing seen.
+//! They then know that the entry is the newest. The pass's old seat stays behind, with nothing stored and nothing seen.
 use atomic_table::{Join, Play, Split, TableRule};
 use sm_placement::Entry;
 use sm_server::ShardId;

@@ -1,11 +1,13 @@
 //! The servers and shards that placements are of.
-ghost use Rattle.std.specs.Prelude.{◌≡◌, ◌≢◌, ◌≤◌, ◌<◌, ◌-◌, ◌++◌, ◌∷◌, ◌&&◌, [], true, false, not, map, Some, None, length, position, string_bytes, is_none, IsTrue, IfOk, OnOk, IfErr, IfSome};
+ghost use Rattle.std.specs.Prelude.{◌≡◌, ◌≢◌, ◌≤◌, ◌<◌, ◌-◌, ◌++◌, ◌∷◌, ◌&&◌, [], true, false, not, map, Some, None};
+ghost use Rattle.std.specs.Prelude.{length, position, string_bytes, is_none, IsTrue, IfOk, OnOk, IfErr, IfSome};
 ghost use Rattle.std.specs.List.{list_any, list_all};
 ghost use Rattle.std.specs.Cmp.Lexicographic.{pointwise};
 ghost use Rattle.std.specs.Str.{bytes_eq};
 ghost use Rattle.sm_placement.specs.declared.config.ConfigFault.TheVariants.{NoMemory};
 ghost use Rattle.sm_placement.specs.Names.{is_name_byte, is_name, has_double};
-ghost use Rattle.sm_placement.specs.Setup.{is_too_large, is_well_named_server, is_well_named_shard, has_good_names, is_good_server, is_good_shard, has_good_numbers, same_server, same_shard};
+ghost use Rattle.sm_placement.specs.Setup.{is_too_large, is_well_named_server, is_well_named_shard, has_good_names};
+ghost use Rattle.sm_placement.specs.Setup.{is_good_server, is_good_shard, has_good_numbers, same_server, same_shard};
 ghost use Rattle.sm_placement.specs.Config.{server_row, shard_row, setup_of, server_names, shard_names};
 
 use crate::limits::{MOST_LOAD, MOST_NAME_BYTES, MOST_REPLICAS, MOST_SERVERS, MOST_SHARDS};
@@ -239,8 +241,10 @@ impl Names {
 /// Puts a name last in a table, and says whether it was new there.
 #[tactic(auto, using(crate::proofs::ConfigLemmas::any_name))]
 fn insert_name(alloc: Global, names: &mut Names, name: &str) -> Result<bool, AllocError>
-    ensures added { IfOk result (λ added. added ≡ not (list_any (bytes_eq name.now) (map string_bytes names.old.table.keys))) }
-    ensures names { IfOk result (λ added. IsTrue added → map string_bytes names.new.table.keys ≡ map string_bytes names.old.table.keys ++ name.now ∷ []) }
+    ensures added { IfOk result (λ added. added
+        ≡ not (list_any (bytes_eq name.now) (map string_bytes names.old.table.keys))) }
+    ensures names { IfOk result (λ added. IsTrue added
+        → map string_bytes names.new.table.keys ≡ map string_bytes names.old.table.keys ++ name.now ∷ []) }
 {
     Ok(names.table.insert(String::from_str(alloc, name)?)?)
 }
@@ -249,7 +253,8 @@ fn insert_name(alloc: Global, names: &mut Names, name: &str) -> Result<bool, All
 #[tactic(auto, using(crate::proofs::DoubleLemmas::server_names_more, crate::proofs::DoubleLemmas::server_single_more, crate::proofs::DoubleLemmas::server_double_here))]
 fn server_table(alloc: Global, servers: &[Server]) -> Result<Option<Names>, AllocError>
     ensures double { IfOk result (λ table. is_none table ≡ has_double (server_names servers.now)) }
-    ensures names { IfOk result (λ table. IfSome table (λ names. map string_bytes names.table.keys ≡ server_names servers.now)) }
+    ensures names { IfOk result (λ table. IfSome table
+        (λ names. map string_bytes names.table.keys ≡ server_names servers.now)) }
 {
     let mut names = Names {
         table: IndexSet::new(alloc),
@@ -266,7 +271,8 @@ fn server_table(alloc: Global, servers: &[Server]) -> Result<Option<Names>, Allo
 #[tactic(auto, using(crate::proofs::DoubleLemmas::shard_names_more, crate::proofs::DoubleLemmas::shard_single_more, crate::proofs::DoubleLemmas::shard_double_here))]
 fn shard_table(alloc: Global, shards: &[Shard]) -> Result<Option<Names>, AllocError>
     ensures double { IfOk result (λ table. is_none table ≡ has_double (shard_names shards.now)) }
-    ensures names { IfOk result (λ table. IfSome table (λ names. map string_bytes names.table.keys ≡ shard_names shards.now)) }
+    ensures names { IfOk result (λ table. IfSome table
+        (λ names. map string_bytes names.table.keys ≡ shard_names shards.now)) }
 {
     let mut names = Names {
         table: IndexSet::new(alloc),
@@ -358,8 +364,11 @@ impl Config {
     pub fn new(alloc: Global, servers: &[Server], shards: &[Shard]) -> Result<Config, ConfigFault>
         ensures ok { IfOk result (λ config. config ≡ setup_of servers.now shards.now) }
         ensures valid { OnOk result (config_fault (setup_of servers.now shards.now) ≡ None) }
-        ensures refused { IfErr result (λ why. why ≢ ConfigFault.NoMemory → config_fault (setup_of servers.now shards.now) ≡ Some why) }
-        ensures early { IfErr result (λ why. why ≡ ConfigFault.NoMemory → (is_too_large (setup_of servers.now shards.now) ≡ false) × (has_good_names (setup_of servers.now shards.now) ≡ true)) }
+        ensures refused { IfErr result (λ why. why ≢ ConfigFault.NoMemory
+            → config_fault (setup_of servers.now shards.now) ≡ Some why) }
+        ensures early { IfErr result (λ why. why ≡ ConfigFault.NoMemory
+            → (is_too_large (setup_of servers.now shards.now) ≡ false)
+            × (has_good_names (setup_of servers.now shards.now) ≡ true)) }
     {
         if is_too_large(servers, shards) {
             return Err(ConfigFault::TooMany);

@@ -27,7 +27,8 @@ fn has_bad_lead(table: &Table, shard: ShardId) -> bool
 /// Returns the lowest shard with a bad lead.
 #[tactic(auto, using(crate::proofs::Searches::find_range_more))]
 pub fn first_bad_lead(table: &Table) -> Option<ShardId>
-    ensures { result ≡ first_below (length table.now.setup.shards) (λ s. has_bad_lead (length table.now.setup.servers) (cells_of table.now s)) }
+    ensures { result ≡ first_below (length table.now.setup.shards)
+        (λ s. has_bad_lead (length table.now.setup.servers) (cells_of table.now s)) }
 {
     for number in 0..table.config().shard_count() {
         if has_bad_lead(table, ShardId::new(number)) {
@@ -54,7 +55,8 @@ fn has_bad_listing(table: &Table, shard: ShardId, listed: Option<ServerId>) -> b
 pub fn first_bad_listing(table: &Table, listed: &[Option<ServerId>]) -> Option<ShardId>
     requires len { length listed.now ≡ length table.now.setup.shards }
     requires known { (s v : ℕ) → entries_of None listed.now s ≡ Some v → v < length table.now.setup.servers }
-    ensures { result ≡ first_below (length table.now.setup.shards) (λ s. has_bad_listing (cells_of table.now s) (entries_of None listed.now s)) }
+    ensures { result ≡ first_below (length table.now.setup.shards)
+        (λ s. has_bad_listing (cells_of table.now s) (entries_of None listed.now s)) }
 {
     for number in 0..table.config().shard_count() {
         if has_bad_listing(table, ShardId::new(number), listed[number as usize]) {
@@ -75,7 +77,8 @@ fn is_over_room(table: &Table, server: ServerId) -> bool
 /// Returns the lowest server whose load is above its room.
 #[tactic(auto, using(crate::proofs::Searches::find_range_more))]
 pub fn first_over_room(table: &Table) -> Option<ServerId>
-    ensures { result ≡ first_below (length table.now.setup.servers) (is_over_room (sizes_of table.now.setup) (cells_of table.now)) }
+    ensures { result ≡ first_below (length table.now.setup.servers)
+        (is_over_room (sizes_of table.now.setup) (cells_of table.now)) }
 {
     for number in 0..table.config().server_count() {
         if is_over_room(table, ServerId::new(number)) {
@@ -96,7 +99,8 @@ fn is_short(table: &Table, shard: ShardId) -> bool
 /// Returns the lowest shard with fewer live replicas than its floor.
 #[tactic(auto, using(crate::proofs::Searches::find_range_more))]
 pub fn first_short(table: &Table) -> Option<ShardId>
-    ensures { result ≡ first_below (length table.now.setup.shards) (is_short (sizes_of table.now.setup) (cells_of table.now) (down_of table.now)) }
+    ensures { result ≡ first_below (length table.now.setup.shards)
+        (is_short (sizes_of table.now.setup) (cells_of table.now) (down_of table.now)) }
 {
     for number in 0..table.config().shard_count() {
         if is_short(table, ShardId::new(number)) {

@@ -2,7 +2,8 @@
 //! laws.
 ghost use Rattle.std.specs.Prelude.{◌≡◌, ◌≤◌, ◌↔◌, ℕ, Ok};
 ghost use Rattle.sm_placement.specs.Setup.{Setup, IsSetup, Sizes, sizes_of};
-ghost use Rattle.sm_placement.specs.Place.{Place, load_at, answer_at, IsAllowed, NumberedAsCalled, LooksAtNoLasts, LiveMoves};
+ghost use Rattle.sm_placement.specs.Place.{Place, load_at, answer_at, IsAllowed, NumberedAsCalled, LooksAtNoLasts};
+ghost use Rattle.sm_placement.specs.Place.{LiveMoves};
 ghost use Rattle.sm_placement.specs.Lead.{LeadWhereDescribed, ServingByLead};
 ghost use Rattle.sm_placement.specs.declared.limits.TheConstants.{MOST_LOAD, MOST_REPLICAS};
 
@@ -11,14 +12,16 @@ use sm_server::{Call, Cell, leads_where_led};
 /// States that a call is answered with a next cell exactly if it is allowed, and leads to that cell.
 #[tactic(auto, using(crate::proofs::Calls::allowed_answer))]
 pub fn answered_where_allowed()
-    ensures { (c : Sizes) (p : Place) (s v : ℕ) (call : Call) (to : Cell) → load_at c p v ≤ c.room v → ((answer_at c p s v call ≡ Ok to) ↔ IsAllowed c p s v call to) }
+    ensures { (c : Sizes) (p : Place) (s v : ℕ) (call : Call) (to : Cell) → load_at c p v ≤ c.room v
+        → ((answer_at c p s v call ≡ Ok to) ↔ IsAllowed c p s v call to) }
 {
     leads_where_led();
 }
 
 /// States that a numbered call is the call itself once, and nothing when it is tried again. A call looks at no numbers.
 pub fn numbered_as_called()
-    ensures numbered { (c : Sizes) (p : Place) (s v : ℕ) (call : Call) (number : ℕ) → NumberedAsCalled c p s v call number }
+    ensures numbered { (c : Sizes) (p : Place) (s v : ℕ) (call : Call) (number : ℕ)
+        → NumberedAsCalled c p s v call number }
     ensures called { (c : Sizes) (p : Place) → LooksAtNoLasts c p }
 {}
 

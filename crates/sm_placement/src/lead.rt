@@ -29,7 +29,8 @@ pub enum Lead {
 #[tactic(auto, using(crate::proofs::Searches::find_range_more))]
 fn next_part(table: &Table, shard: ShardId, from: u32) -> Option<ServerId>
     requires { shard < length table.now.setup.shards }
-    ensures next { result ≡ find (λ v. has_part (cells_of table.now shard v)) (range_with_len from (length table.now.setup.servers - from)) }
+    ensures next { result ≡ find (λ v. has_part (cells_of table.now shard v))
+        (range_with_len from (length table.now.setup.servers - from)) }
     ensures within { IfSome result (λ v. v < length table.now.setup.servers) }
     ensures bound { length table.now.setup.servers ≤ MOST_SERVERS }
 {

@@ -1,12 +1,16 @@
 //! Opening a placement.
-ghost use Rattle.std.specs.Prelude.{◌≡◌, ◌≢◌, ◌↔◌, false, All, IsTrue, Some, None, OnOk, IfErr, ◌≤◌, ◌<◌, ◌+◌, ◌*◌, ◌||◌, ◌==◌, not, nat_lt, length, IfOk, count_by};
+ghost use Rattle.std.specs.Prelude.{◌≡◌, ◌≢◌, ◌↔◌, false, All, IsTrue, Some, None, OnOk, IfErr, ◌≤◌, ◌<◌, ◌+◌, ◌*◌};
+ghost use Rattle.std.specs.Prelude.{◌||◌, ◌==◌, not, nat_lt, length, IfOk, count_by};
 ghost use Rattle.std.specs.List.{list_any};
 ghost use Rattle.sm_server.specs.Cell.{is_primary};
 ghost use Rattle.sm_placement.specs.Setup.{sizes_of};
 ghost use Rattle.sm_placement.specs.Sums.{bit, first_from};
 ghost use Rattle.sm_placement.specs.Layout.{grid_of, entries_of, place_of};
 ghost use Rattle.sm_placement.specs.Grid.{cells_of, lasts_of, down_of};
-ghost use Rattle.sm_placement.specs.Opening.{is_of, is_unknown, is_unknown_cell, AreKnown, IsNamedOnce, first_below, double_of, is_handing, lead_cells, put_all, cell_named, opened_place, has_bad_lead, is_wrong_size, has_unknown_id, first_fault, list_faults, standing_faults, open_fault, unpublished};
+ghost use Rattle.sm_placement.specs.Opening.{is_of, is_unknown, is_unknown_cell, AreKnown, IsNamedOnce, first_below};
+ghost use Rattle.sm_placement.specs.Opening.{double_of, is_handing, lead_cells, put_all, cell_named, opened_place};
+ghost use Rattle.sm_placement.specs.Opening.{has_bad_lead, is_wrong_size, has_unknown_id, first_fault, list_faults};
+ghost use Rattle.sm_placement.specs.Opening.{standing_faults, open_fault, unpublished};
 
 use crate::config::Config;
 use crate::faults;
@@ -118,7 +122,8 @@ fn count_pairs(
     requires few { length cells.now ≤ MOST_CELLS }
     requires known { AreKnown (length config.now.shards) (length config.now.servers) cells.now }
     ensures len { IfOk result (λ counts. length counts.items ≡ length config.now.shards * length config.now.servers) }
-    ensures counts { IfOk result (λ counts. grid_of (length config.now.servers) 0 counts.items ≡ (λ s v. count_by (is_of s v) cells.now)) }
+    ensures counts { IfOk result (λ counts. grid_of (length config.now.servers) 0 counts.items
+        ≡ (λ s v. count_by (is_of s v) cells.now)) }
 {
     let shards = config.shard_count() as usize;
     let servers = config.server_count() as usize;
@@ -170,7 +175,8 @@ fn first_double(
 ) -> Result<Option<OpenFault>, AllocError>
     requires few { length cells.now ≤ MOST_CELLS }
     requires known { AreKnown (length config.now.shards) (length config.now.servers) cells.now }
-    ensures { IfOk result (λ fault. fault ≡ first_from 0 (length config.now.shards) (double_of (length config.now.servers) cells.now)) }
+    ensures { IfOk result (λ fault. fault ≡ first_from 0 (length config.now.shards)
+        (double_of (length config.now.servers) cells.now)) }
 {
     if is_named_once(alloc, config, cells)? {
         return Ok(None);
@@ -226,7 +232,8 @@ fn count_leads(
     requires few { length cells.now ≤ MOST_CELLS }
     requires known { AreKnown (length config.now.shards) (length config.now.servers) cells.now }
     ensures len { IfOk result (λ counts. length counts.items ≡ length config.now.shards) }
-    ensures counts { IfOk result (λ counts. entries_of (record { primaries = 0; handing = 0 }) counts.items ≡ lead_cells cells.now) }
+    ensures counts { IfOk result (λ counts. entries_of (record { primaries = 0; handing = 0 }) counts.items
+        ≡ lead_cells cells.now) }
 {
     let none = LeadCells {
         primaries: 0,
@@ -249,7 +256,8 @@ fn first_bad_lead(
     requires few { length cells.now ≤ MOST_CELLS }
     requires known { AreKnown (length config.now.shards) (length config.now.servers) cells.now }
     requires once { IsNamedOnce cells.now }
-    ensures { IfOk result (λ shard. shard ≡ first_below (length config.now.shards) (λ s. has_bad_lead (length config.now.servers) (cell_named cells.now s))) }
+    ensures { IfOk result (λ shard. shard ≡ first_below (length config.now.shards)
+        (λ s. has_bad_lead (length config.now.servers) (cell_named cells.now s))) }
 {
     let counts = count_leads(alloc, config, cells)?;
     for number in 0..config.shard_count() {
@@ -319,9 +327,16 @@ fn check_lists(
     down: &[ServerId],
     limit: u32,
 ) -> Result<(), OpenFault>
-    ensures ok { OnOk result (first_fault (list_faults (sizes_of config.now) (record { cells = cells.now; listed = listed.now; down = down.now; limit = limit })) ≡ None) }
-    ensures refused { IfErr result (λ why. why ≢ OpenFault.NoMemory → first_fault (list_faults (sizes_of config.now) (record { cells = cells.now; listed = listed.now; down = down.now; limit = limit })) ≡ Some why) }
-    ensures early { IfErr result (λ why. why ≡ OpenFault.NoMemory → (is_wrong_size (sizes_of config.now) (record { cells = cells.now; listed = listed.now; down = down.now; limit = limit }) ≡ false) × (has_unknown_id (sizes_of config.now) (record { cells = cells.now; listed = listed.now; down = down.now; limit = limit }) ≡ false)) }
+    ensures ok { OnOk result (first_fault (list_faults (sizes_of config.now)
+        (record { cells = cells.now; listed = listed.now; down = down.now; limit = limit })) ≡ None) }
+    ensures refused { IfErr result (λ why. why ≢ OpenFault.NoMemory
+        → first_fault (list_faults (sizes_of config.now)
+        (record { cells = cells.now; listed = listed.now; down = down.now; limit = limit })) ≡ Some why) }
+    ensures early { IfErr result (λ why. why ≡ OpenFault.NoMemory
+        → (is_wrong_size (sizes_of config.now) (record
+        { cells = cells.now; listed = listed.now; down = down.now; limit = limit }) ≡ false)
+        × (has_unknown_id (sizes_of config.now) (record
+        { cells = cells.now; listed = listed.now; down = down.now; limit = limit }) ≡ false)) }
 {
     if cells.len() > MOST_CELLS || listed.len() != config.shard_count() as usize {
         return Err(OpenFault::TooMany);
@@ -345,7 +360,8 @@ fn check_lists(
 fn standing_fault(table: &Table, listed: &[Option<ServerId>], limit: u32) -> Option<OpenFault>
     requires len { length listed.now ≡ length table.now.setup.shards }
     requires known { list_any (is_unknown (length table.now.setup.servers)) listed.now ≡ false }
-    ensures { result ≡ first_fault (standing_faults (sizes_of table.now.setup) (unpublished table.now listed.now limit)) }
+    ensures { result ≡ first_fault (standing_faults (sizes_of table.now.setup)
+        (unpublished table.now listed.now limit)) }
 {
     if let Some(shard) = faults::first_bad_listing(table, listed) {
         return Some(OpenFault::BadListing { shard });
@@ -373,8 +389,10 @@ fn stand(
     requires known { list_any (is_unknown (length table.setup.servers)) listed.now ≡ false }
     ensures ok { IfOk result (λ p. place_of p ≡ unpublished table listed.now limit) }
     ensures setup { IfOk result (λ p. p.setup ≡ table.setup) }
-    ensures valid { OnOk result (first_fault (standing_faults (sizes_of table.setup) (unpublished table listed.now limit)) ≡ None) }
-    ensures refused { IfErr result (λ why. why ≢ OpenFault.NoMemory → first_fault (standing_faults (sizes_of table.setup) (unpublished table listed.now limit)) ≡ Some why) }
+    ensures valid { OnOk result (first_fault (standing_faults (sizes_of table.setup)
+        (unpublished table listed.now limit)) ≡ None) }
+    ensures refused { IfErr result (λ why. why ≢ OpenFault.NoMemory
+        → first_fault (standing_faults (sizes_of table.setup) (unpublished table listed.now limit)) ≡ Some why) }
 {
     if let Some(fault) = standing_fault(&table, listed, limit) {
         return Err(fault);
@@ -399,12 +417,20 @@ impl Placement {
         down: &[ServerId],
         limit: u32,
     ) -> Result<Placement, OpenFault>
-        ensures ok { IfOk result (λ p. place_of p ≡ opened_place (record { cells = cells.now; listed = listed.now; down = down.now; limit = limit })) }
+        ensures ok { IfOk result (λ p. place_of p
+            ≡ opened_place (record { cells = cells.now; listed = listed.now; down = down.now; limit = limit })) }
         ensures setup { IfOk result (λ p. p.setup ≡ config.now) }
-        ensures valid { OnOk result (open_fault (sizes_of config.now) (record { cells = cells.now; listed = listed.now; down = down.now; limit = limit }) ≡ None) }
+        ensures valid { OnOk result (open_fault (sizes_of config.now)
+            (record { cells = cells.now; listed = listed.now; down = down.now; limit = limit }) ≡ None) }
         ensures settled { IfOk result (λ p. IsSettled (sizes_of config.now) (place_of p)) }
-        ensures refused { IfErr result (λ why. why ≢ OpenFault.NoMemory → open_fault (sizes_of config.now) (record { cells = cells.now; listed = listed.now; down = down.now; limit = limit }) ≡ Some why) }
-        ensures early { IfErr result (λ why. why ≡ OpenFault.NoMemory → (is_wrong_size (sizes_of config.now) (record { cells = cells.now; listed = listed.now; down = down.now; limit = limit }) ≡ false) × (has_unknown_id (sizes_of config.now) (record { cells = cells.now; listed = listed.now; down = down.now; limit = limit }) ≡ false)) }
+        ensures refused { IfErr result (λ why. why ≢ OpenFault.NoMemory
+            → open_fault (sizes_of config.now) (record
+            { cells = cells.now; listed = listed.now; down = down.now; limit = limit }) ≡ Some why) }
+        ensures early { IfErr result (λ why. why ≡ OpenFault.NoMemory
+            → (is_wrong_size (sizes_of config.now) (record
+            { cells = cells.now; listed = listed.now; down = down.now; limit = limit }) ≡ false)
+            × (has_unknown_id (sizes_of config.now) (record
+            { cells = cells.now; listed = listed.now; down = down.now; limit = limit }) ≡ false)) }
     {
         check_lists(alloc, config, cells, listed, down, limit)?;
         let table = placed(alloc, config, cells, down)?;

@@ -128,7 +128,8 @@ impl Parties {
     /// Sets the party of a slot. Takes no memory.
     pub fn set(&mut self, slot: usize, party: Party)
         requires { slot < length self.old.starts * BLOCK }
-        ensures parties { party_at self.new.starts self.new.parties ≡ put (party_at self.old.starts self.old.parties) slot party }
+        ensures parties { party_at self.new.starts self.new.parties
+            ≡ put (party_at self.old.starts self.old.parties) slot party }
         ensures blocks { length self.new.starts ≡ length self.old.starts }
     {
         let start = self.start_of(slot / BLOCK);

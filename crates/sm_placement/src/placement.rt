@@ -67,11 +67,14 @@ fn are_low(versions: &[u64]) -> bool
 }
 
 impl Placement {
-    ghost use Rattle.std.specs.Prelude.{◌≤◌, ◌-◌, ◌&&◌, ◌↔◌, true, false, IsTrue, IfSome, IfOk, OnOk, OnErr, IfErr, Ok, Err};
+    ghost use Rattle.std.specs.Prelude.{◌≤◌, ◌-◌, ◌&&◌, ◌↔◌, true, false, IsTrue, IfSome, IfOk, OnOk, OnErr, IfErr, Ok};
+    ghost use Rattle.std.specs.Prelude.{Err};
     ghost use Rattle.sm_server.specs.Cell.{is_forwarding};
     ghost use Rattle.sm_placement.specs.Setup.{sizes_of};
     ghost use Rattle.sm_placement.specs.Rows.{IsKnownCall, serves, serving_in, serving_of};
-    ghost use Rattle.sm_placement.specs.Place.{entry_at, load_at, is_live_at, live_at, down_count, set_cell, set_last, answer_at, numbered_answer_at, set_down, publish, forget_numbers, called, called_numbered};
+    ghost use Rattle.sm_placement.specs.Place.{entry_at, load_at, is_live_at, live_at, down_count, set_cell, set_last};
+    ghost use Rattle.sm_placement.specs.Place.{answer_at, numbered_answer_at, set_down, publish, forget_numbers};
+    ghost use Rattle.sm_placement.specs.Place.{called, called_numbered};
     ghost use Rattle.sm_placement.specs.Layout.{PlacementModel, place_of, IsPlacement};
     ghost use Rattle.std.specs.Option.{ForSome};
     ghost use Rattle.sm_placement.specs.Lead.{IsSettled, lead_of};
@@ -86,8 +89,27 @@ impl Placement {
     ) -> Placement
         requires listed { length listed.items ≡ length table.setup.shards }
         requires versions { length versions.items ≡ length table.setup.shards }
-        requires placement { IsPlacement (sizes_of table.setup) (place_of (record { setup = table.setup; cells = table.cells; lasts = table.lasts; down = table.down; listed = listed.items; versions = versions.items; limit = limit })) }
-        ensures { result ≡ record { setup = table.setup; cells = table.cells; lasts = table.lasts; down = table.down; listed = listed.items; versions = versions.items; limit = limit } }
+        requires placement { IsPlacement (sizes_of table.setup)
+            (place_of (record {
+              setup = table.setup;
+              cells = table.cells;
+              lasts = table.lasts;
+              down =
+                  table.down;
+              listed = listed.items;
+              versions = versions.items;
+              limit = limit;
+            })) }
+        ensures { result ≡ record {
+          setup = table.setup;
+          cells = table.cells;
+          lasts = table.lasts;
+          down =
+              table.down;
+          listed = listed.items;
+          versions = versions.items;
+          limit = limit;
+        } }
     {
         Placement {
             table,
@@ -300,7 +322,8 @@ impl Placement {
     /// Returns the room that a server has left.
     fn free_room(&self, server: ServerId) -> u64
         requires { server < length self.now.setup.servers }
-        ensures { result ≡ (sizes_of self.now.setup).room server - load_at (sizes_of self.now.setup) (place_of self.now) server }
+        ensures { result ≡ (sizes_of self.now.setup).room server - load_at (sizes_of self.now.setup)
+            (place_of self.now) server }
     {
         let room = self.table.config().room(server);
         room.saturating_sub(self.table.load(server))
@@ -312,8 +335,10 @@ impl Placement {
         requires shard { shard < length self.now.setup.shards }
         requires party { IsKnownCall (length self.now.setup.servers) call }
         ensures answer { result ≡ answer_at (sizes_of self.now.setup) (place_of self.now) shard server call }
-        ensures kept { IfOk result (λ next. IsPlacement (sizes_of self.now.setup) (set_cell (place_of self.now) shard server next)) }
-        ensures forwards { IfOk result (λ next. (is_forwarding ((place_of self.now).cells shard server) && is_forwarding next) ≡ false) }
+        ensures kept { IfOk result (λ next. IsPlacement (sizes_of self.now.setup)
+            (set_cell (place_of self.now) shard server next)) }
+        ensures forwards { IfOk result (λ next. (is_forwarding
+            ((place_of self.now).cells shard server) && is_forwarding next) ≡ false) }
     {
         let cell = self.table.cell(shard, server);
         let load = self.table.config().load(shard);
@@ -338,8 +363,10 @@ impl Placement {
         requires server { server < length self.old.setup.servers }
         requires shard { shard < length self.old.setup.shards }
         requires party { IsKnownCall (length self.old.setup.servers) call }
-        ensures ok { OnOk result (called (sizes_of self.old.setup) (place_of self.old) shard server call ≡ Ok (place_of self.new)) }
-        ensures refused { IfErr result (λ why. called (sizes_of self.old.setup) (place_of self.old) shard server call ≡ Err why) }
+        ensures ok { OnOk result (called (sizes_of self.old.setup) (place_of self.old) shard server call
+            ≡ Ok (place_of self.new)) }
+        ensures refused { IfErr result (λ why. called (sizes_of self.old.setup)
+            (place_of self.old) shard server call ≡ Err why) }
         ensures setup { self.new.setup ≡ self.old.setup }
         ensures unchanged { OnErr result (self.new ≡ self.old) }
     {
@@ -360,10 +387,15 @@ impl Placement {
         requires shard { shard < length self.now.setup.shards }
         requires party { IsKnownCall (length self.now.setup.servers) call }
         requires number { 1 ≤ number }
-        ensures answer { result ≡ numbered_answer_at (sizes_of self.now.setup) (place_of self.now) shard server call number }
-        ensures kept { IfOk result (λ served. IsTrue served.fresh → IsPlacement (sizes_of self.now.setup) (set_cell (place_of self.now) shard server served.cell)) }
-        ensures forwards { IfOk result (λ served. IsTrue served.fresh → (is_forwarding ((place_of self.now).cells shard server) && is_forwarding served.cell) ≡ false) }
-        ensures again { IfOk result (λ served. served.fresh ≡ false → set_last (set_cell (place_of self.now) shard server served.cell) shard server served.last ≡ place_of self.now) }
+        ensures answer { result ≡ numbered_answer_at (sizes_of self.now.setup)
+            (place_of self.now) shard server call number }
+        ensures kept { IfOk result (λ served. IsTrue served.fresh
+            → IsPlacement (sizes_of self.now.setup) (set_cell (place_of self.now) shard server served.cell)) }
+        ensures forwards { IfOk result (λ served. IsTrue served.fresh
+            → (is_forwarding ((place_of self.now).cells shard server) && is_forwarding served.cell) ≡ false) }
+        ensures again { IfOk result (λ served. served.fresh ≡ false
+            → set_last (set_cell (place_of self.now) shard server served.cell) shard server served.last
+            ≡ place_of self.now) }
     {
         let cell = self.table.cell(shard, server);
         let last = self.table.last(shard, server);
@@ -395,8 +427,11 @@ impl Placement {
         requires shard { shard < length self.old.setup.shards }
         requires party { IsKnownCall (length self.old.setup.servers) call }
         requires number { 1 ≤ number }
-        ensures ok { IfOk result (λ fresh. called_numbered (sizes_of self.old.setup) (place_of self.old) shard server call number ≡ Ok (record { place = place_of self.new; fresh = fresh })) }
-        ensures refused { IfErr result (λ why. called_numbered (sizes_of self.old.setup) (place_of self.old) shard server call number ≡ Err why) }
+        ensures ok { IfOk result (λ fresh. called_numbered (sizes_of self.old.setup)
+            (place_of self.old) shard server call number
+            ≡ Ok (record { place = place_of self.new; fresh = fresh })) }
+        ensures refused { IfErr result (λ why. called_numbered (sizes_of self.old.setup)
+            (place_of self.old) shard server call number ≡ Err why) }
         ensures setup { self.new.setup ≡ self.old.setup }
         ensures unchanged { OnErr result (self.new ≡ self.old) }
     {

@@ -26,7 +26,8 @@ impl Replicas {
     /// Makes an entry for each of these servers and shards, with no replica.
     pub fn new(alloc: Global, servers: usize, shards: usize) -> Result<Replicas, AllocError>
         requires { servers * shards < 2 ^ 32 }
-        ensures { IfOk result (λ replicas. replicas ≡ record { held = replicate (servers * shards) false; shards = shards }) }
+        ensures { IfOk result (λ replicas. replicas
+            ≡ record { held = replicate (servers * shards) false; shards = shards }) }
     {
         Ok(Replicas {
             held: vec![in alloc; false; servers * shards]?,

@@ -17,7 +17,8 @@ pub struct Counts {
     pub serving: u32,
 }
 
-ghost use Rattle.sm_placement.specs.Counts.{counts_in, counts_at, has_replica, part_of, target_of, party_of, CanCorrect, corrected};
+ghost use Rattle.sm_placement.specs.Counts.{counts_in, counts_at, has_replica, part_of, target_of, party_of};
+ghost use Rattle.sm_placement.specs.Counts.{CanCorrect, corrected};
 ghost use Rattle.sm_placement.specs.declared.limits.TheConstants.{MOST_SERVERS};
 
 /// Tells whether the cell forwards to the server under the number.
@@ -94,8 +95,11 @@ fn target(cell: &Cell) -> Option<ServerId>
 #[tactic(auto, unfolding(crate::specs::Layout::entries_of))]
 fn counts_at_one(row: Row<'_>, down: &[bool], server: ServerId) -> Counts
     requires { server < length down.now }
-    ensures live { result.live ≡ bit (is_live (grid_of row.entry.servers Cell.Absent row.entry.cells.now row.entry.shard) (entries_of false down.now) server) }
-    ensures serving { result.serving ≡ bit (serves (grid_of row.entry.servers Cell.Absent row.entry.cells.now row.entry.shard) server) }
+    ensures live { result.live ≡ bit (is_live
+        (grid_of row.entry.servers Cell.Absent row.entry.cells.now row.entry.shard)
+        (entries_of false down.now) server) }
+    ensures serving { result.serving ≡ bit (serves
+        (grid_of row.entry.servers Cell.Absent row.entry.cells.now row.entry.shard) server) }
 {
     let is_up = !down[server.number() as usize];
     Counts {
@@ -116,7 +120,8 @@ fn party_of(old: &Cell, next: &Cell, server: ServerId) -> ServerId
 fn counts_at(row: Row<'_>, down: &[bool], server: ServerId, other: ServerId) -> Counts
     requires server { server < length down.now }
     requires other { other < length down.now }
-    ensures { result ≡ counts_at (grid_of row.entry.servers Cell.Absent row.entry.cells.now row.entry.shard) (entries_of false down.now) server other }
+    ensures { result ≡ counts_at (grid_of row.entry.servers Cell.Absent row.entry.cells.now row.entry.shard)
+        (entries_of false down.now) server other }
 {
     let own = counts_at_one(row, down, server);
     if other == server {
@@ -145,7 +150,11 @@ fn set_replicas(replicas: &mut Replicas, row: Row<'_>, server: ServerId, other: 
     requires shard { row.shard < replicas.old.shards }
     requires server { server * replicas.old.shards + row.shard < length replicas.old.held }
     requires other { other * replicas.old.shards + row.shard < length replicas.old.held }
-    ensures held { replicas_by replicas.new ≡ put2 (put2 (replicas_by replicas.old) server row.entry.shard (has_replica (grid_of row.entry.servers Cell.Absent row.entry.cells.now row.entry.shard) server)) other row.entry.shard (has_replica (grid_of row.entry.servers Cell.Absent row.entry.cells.now row.entry.shard) other) }
+    ensures held { replicas_by replicas.new ≡ put2
+        (put2 (replicas_by replicas.old) server row.entry.shard
+        (has_replica (grid_of row.entry.servers Cell.Absent row.entry.cells.now row.entry.shard) server)) other
+        row.entry.shard (has_replica (grid_of row.entry.servers Cell.Absent row.entry.cells.now row.entry.shard)
+        other) }
     ensures length { length replicas.new.held ≡ length replicas.old.held }
     ensures shards { replicas.new.shards ≡ replicas.old.shards }
 {
@@ -173,14 +182,20 @@ pub fn set_cell(
     requires server { server < length down.now }
     requires known { IsKnownCell (length down.now) (grid_of (length down.now) Cell.Absent cells.old shard server) }
     requires next { IsKnownCell (length down.now) cell }
-    requires one_forwards { (is_forwarding (grid_of (length down.now) Cell.Absent cells.old shard server) && is_forwarding cell) ≡ false }
-    requires counts { counts ≡ counts_in (length down.now) (grid_of (length down.now) Cell.Absent cells.old shard) (entries_of false down.now) }
+    requires one_forwards { (is_forwarding (grid_of (length down.now) Cell.Absent cells.old shard server) &&
+        is_forwarding cell) ≡ false }
+    requires counts { counts ≡ counts_in (length down.now) (grid_of (length down.now) Cell.Absent cells.old shard)
+        (entries_of false down.now) }
     requires replicas_shard { shard < replicas.old.shards }
     requires replicas_length { length replicas.old.held ≡ length down.now * replicas.old.shards }
-    requires replicas { (v : ℕ) → replicas_by replicas.old v shard ≡ has_replica (grid_of (length down.now) Cell.Absent cells.old shard) v }
+    requires replicas { (v : ℕ) → replicas_by replicas.old v shard
+        ≡ has_replica (grid_of (length down.now) Cell.Absent cells.old shard) v }
     ensures cells { cells.new ≡ slice_set cells.old (shard * length down.now + server) cell }
-    ensures counts { result ≡ counts_in (length down.now) (put (grid_of (length down.now) Cell.Absent cells.old shard) server cell) (entries_of false down.now) }
-    ensures replicas { replicas_by replicas.new ≡ (λ v. put (replicas_by replicas.old v) shard (has_replica (put (grid_of (length down.now) Cell.Absent cells.old shard) server cell) v)) }
+    ensures counts { result ≡ counts_in (length down.now)
+        (put (grid_of (length down.now) Cell.Absent cells.old shard) server cell) (entries_of false down.now) }
+    ensures replicas { replicas_by replicas.new
+        ≡ (λ v. put (replicas_by replicas.old v) shard
+        (has_replica (put (grid_of (length down.now) Cell.Absent cells.old shard) server cell) v)) }
     ensures replicas_length { length replicas.new.held ≡ length replicas.old.held }
     ensures replicas_shards { replicas.new.shards ≡ replicas.old.shards }
 {

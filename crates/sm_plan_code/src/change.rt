@@ -8,9 +8,16 @@ ghost use Rattle.sm_reservation.specs.CanJoin.{AreApart};
 ghost use Rattle.sm_reservation.specs.Change.{portion_rights};
 ghost use Rattle.sm_reservation.specs.Short.{first_short};
 ghost use Rattle.sm_plan_code.specs.Instr.{shard_of, IsOwn};
-ghost use Rattle.sm_plan_code.specs.After.{after, comes_to, first_why, unless_refused, line_of, to_list, lead_held, listed_of, prepare_add_line, prepare_drop_line, add_secondary_line, add_primary_line, drop_held_line, drop_led_line, to_primary_line, to_secondary_line, publish_line, unlist_line};
+ghost use Rattle.sm_plan_code.specs.After.{after, comes_to, first_why, unless_refused, line_of, to_list, lead_held};
+ghost use Rattle.sm_plan_code.specs.After.{listed_of, prepare_add_line, prepare_drop_line, add_secondary_line};
+ghost use Rattle.sm_plan_code.specs.After.{add_primary_line, drop_held_line, drop_led_line, to_primary_line};
+ghost use Rattle.sm_plan_code.specs.After.{to_secondary_line, publish_line, unlist_line};
 ghost use Rattle.sm_reservation.specs.declared.right.PlainCell.TheVariants as plain;
-ghost use Rattle.sm_plan_code.specs.Table.{portion, cell, crown, room, held_crown, exchanged, exchange_of, no_exchange, IsSmallPortion, prepare_add_exchange, prepare_drop_exchange, add_secondary_exchange, add_primary_exchange, drop_held_exchange, drop_led_exchange, to_primary_exchange, to_secondary_exchange, publish_exchange, unlist_exchange};
+ghost use Rattle.sm_plan_code.specs.Table.{portion, cell, crown, room, held_crown, exchanged, exchange_of, no_exchange};
+ghost use Rattle.sm_plan_code.specs.Table.{IsSmallPortion, prepare_add_exchange, prepare_drop_exchange};
+ghost use Rattle.sm_plan_code.specs.Table.{add_secondary_exchange, add_primary_exchange, drop_held_exchange};
+ghost use Rattle.sm_plan_code.specs.Table.{drop_led_exchange, to_primary_exchange, to_secondary_exchange};
+ghost use Rattle.sm_plan_code.specs.Table.{publish_exchange, unlist_exchange};
 
 use crate::{Instr, Why};
 use sm_placement::{Config, Lead};
@@ -87,7 +94,9 @@ fn absent_with_room(
     server: ServerId,
 ) -> Result<(Option<CellRight>, Option<Room>), Why>
     requires { shard < length config.now.shards }
-    ensures { result ≡ unless_refused (first_why (comes_to (sizes_of config.now) shard server (hold_of hold.now.rights))) (cell shard server plain.Absent, room server ((sizes_of config.now).load shard)) }
+    ensures { result ≡ unless_refused (first_why
+        (comes_to (sizes_of config.now) shard server (hold_of hold.now.rights)))
+        (cell shard server plain.Absent, room server ((sizes_of config.now).load shard)) }
 {
     match hold.cell(shard, server) {
         None => return Err(Why::NoRight),
@@ -111,7 +120,9 @@ fn prepare_add(
     owner: ServerId,
 ) -> Result<Change, Why>
     requires { shard < length config.now.shards }
-    ensures { result ≡ exchanged (prepare_add_line (sizes_of config.now) shard server owner (hold_of hold.now.rights)) (prepare_add_exchange (sizes_of config.now) shard server owner (listed_of ((hold_of hold.now.rights).crowns shard))) }
+    ensures { result ≡ exchanged (prepare_add_line (sizes_of config.now) shard server owner
+        (hold_of hold.now.rights)) (prepare_add_exchange (sizes_of config.now) shard server owner
+        (listed_of ((hold_of hold.now.rights).crowns shard))) }
 {
     let crown = crown_of(hold, shard).ok_or(Why::NoCrown)?;
     if crown.lead != Lead::At(owner) {
@@ -132,7 +143,8 @@ fn prepare_drop(
     server: ServerId,
     new_owner: ServerId,
 ) -> Result<Change, Why>
-    ensures { result ≡ exchanged (prepare_drop_line shard server new_owner (hold_of hold.now.rights)) (prepare_drop_exchange shard server new_owner (listed_of ((hold_of hold.now.rights).crowns shard))) }
+    ensures { result ≡ exchanged (prepare_drop_line shard server new_owner (hold_of hold.now.rights))
+        (prepare_drop_exchange shard server new_owner (listed_of ((hold_of hold.now.rights).crowns shard))) }
 {
     let crown = crown_of(hold, shard).ok_or(Why::NoCrown)?;
     if crown.lead != Lead::Ready(server, new_owner) {
@@ -153,7 +165,8 @@ fn add_secondary(
     server: ServerId,
 ) -> Result<Change, Why>
     requires { shard < length config.now.shards }
-    ensures { result ≡ exchanged (add_secondary_line (sizes_of config.now) shard server (hold_of hold.now.rights)) (add_secondary_exchange (sizes_of config.now) shard server) }
+    ensures { result ≡ exchanged (add_secondary_line (sizes_of config.now) shard server (hold_of hold.now.rights))
+        (add_secondary_exchange (sizes_of config.now) shard server) }
 {
     let (absent, room) = absent_with_room(config, hold, shard, server)?;
     let secondary = cell(shard, server, PlainCell::Secondary);
@@ -174,7 +187,9 @@ fn add_first(
 ) -> Result<Change, Why>
     requires shard { shard < length config.now.shards }
     requires crown { (crown.now.shard ≡ shard) × (crown.now.lead ≡ Lead.Gone) }
-    ensures { result ≡ exchanged (add_primary_line (sizes_of config.now) shard server (hold_of hold.now.rights) (Some Lead.Gone)) (add_primary_exchange (sizes_of config.now) shard server crown.now.listed (Some Lead.Gone)) }
+    ensures { result ≡ exchanged (add_primary_line (sizes_of config.now) shard server (hold_of hold.now.rights)
+        (Some Lead.Gone)) (add_primary_exchange (sizes_of config.now) shard server crown.now.listed
+        (Some Lead.Gone)) }
 {
     let (absent, room) = absent_with_room(config, hold, shard, server)?;
     let at = led(crown, Lead::At(server));
@@ -193,7 +208,11 @@ fn add_primary(
     server: ServerId,
 ) -> Result<Change, Why>
     requires { shard < length config.now.shards }
-    ensures { result ≡ exchanged (add_primary_line (sizes_of config.now) shard server (hold_of hold.now.rights) (lead_held ((hold_of hold.now.rights).crowns shard))) (add_primary_exchange (sizes_of config.now) shard server (listed_of ((hold_of hold.now.rights).crowns shard)) (lead_held ((hold_of hold.now.rights).crowns shard))) }
+    ensures { result ≡ exchanged (add_primary_line (sizes_of config.now) shard server (hold_of hold.now.rights)
+        (lead_held ((hold_of hold.now.rights).crowns shard)))
+        (add_primary_exchange (sizes_of config.now) shard server
+        (listed_of ((hold_of hold.now.rights).crowns shard))
+        (lead_held ((hold_of hold.now.rights).crowns shard))) }
 {
     let crown = crown_of(hold, shard).ok_or(Why::NoCrown)?;
     let lead = crown.lead;
@@ -223,7 +242,8 @@ fn drop_held(
 ) -> Result<Change, Why>
     requires shard { shard < length config.now.shards }
     requires held { (hold_of hold.now.rights).cells shard server ≡ Some state }
-    ensures { result ≡ exchanged (drop_held_line (sizes_of config.now) shard server (hold_of hold.now.rights)) (drop_held_exchange (sizes_of config.now) shard server) }
+    ensures { result ≡ exchanged (drop_held_line (sizes_of config.now) shard server (hold_of hold.now.rights))
+        (drop_held_exchange (sizes_of config.now) shard server) }
 {
     if state != PlainCell::Secondary {
         return Err(Why::WrongState);
@@ -252,7 +272,12 @@ fn part_dropped(
     spare: Option<Spare>,
 ) -> Change
     requires { held.now.shard < length config.now.shards }
-    ensures { result ≡ record { out = portion None (Some held.now) None spare; got = portion (cell held.now.shard server PlainCell.Absent) (crown held.now.shard next held.now.listed) (room server ((sizes_of config.now).load held.now.shard)) None } }
+    ensures { result ≡ record {
+      out = portion None (Some held.now) None spare;
+      got = portion
+          (cell held.now.shard server PlainCell.Absent) (crown held.now.shard next held.now.listed)
+          (room server ((sizes_of config.now).load held.now.shard)) None;
+    } }
 {
     let absent = cell(held.shard, server, PlainCell::Absent);
     let amount = config.load(held.shard);
@@ -266,7 +291,11 @@ fn part_dropped(
 /// Drops what a server has by its part in the lead.
 fn drop_led(config: &Config, hold: &Hold, shard: ShardId, server: ServerId) -> Result<Change, Why>
     requires { shard < length config.now.shards }
-    ensures { result ≡ exchanged (drop_led_line (sizes_of config.now) shard server (hold_of hold.now.rights) (lead_held ((hold_of hold.now.rights).crowns shard))) (drop_led_exchange (sizes_of config.now) shard server (listed_of ((hold_of hold.now.rights).crowns shard)) (lead_held ((hold_of hold.now.rights).crowns shard))) }
+    ensures { result ≡ exchanged (drop_led_line (sizes_of config.now) shard server (hold_of hold.now.rights)
+        (lead_held ((hold_of hold.now.rights).crowns shard)))
+        (drop_led_exchange (sizes_of config.now) shard server
+        (listed_of ((hold_of hold.now.rights).crowns shard))
+        (lead_held ((hold_of hold.now.rights).crowns shard))) }
 {
     let crown = crown_of(hold, shard).ok_or(Why::NoRight)?;
     let lead = crown.lead;
@@ -305,7 +334,8 @@ fn drop_led(config: &Config, hold: &Hold, shard: ShardId, server: ServerId) -> R
 
 /// Makes a secondary the primary of a shard that has none.
 fn to_primary(hold: &Hold, shard: ShardId, server: ServerId) -> Result<Change, Why>
-    ensures { result ≡ exchanged (to_primary_line shard server (hold_of hold.now.rights)) (to_primary_exchange shard server (listed_of ((hold_of hold.now.rights).crowns shard))) }
+    ensures { result ≡ exchanged (to_primary_line shard server (hold_of hold.now.rights))
+        (to_primary_exchange shard server (listed_of ((hold_of hold.now.rights).crowns shard))) }
 {
     let crown = crown_of(hold, shard).ok_or(Why::NoCrown)?;
     if crown.lead != Lead::Gone {
@@ -326,7 +356,8 @@ fn to_primary(hold: &Hold, shard: ShardId, server: ServerId) -> Result<Change, W
 
 /// Makes the primary a secondary.
 fn to_secondary(hold: &Hold, shard: ShardId, server: ServerId) -> Result<Change, Why>
-    ensures { result ≡ exchanged (to_secondary_line shard server (hold_of hold.now.rights)) (to_secondary_exchange shard server) }
+    ensures { result ≡ exchanged (to_secondary_line shard server (hold_of hold.now.rights))
+        (to_secondary_exchange shard server) }
 {
     let crown = crown_of(hold, shard).ok_or(Why::NoCrown)?;
     if crown.lead != Lead::At(server) {
@@ -359,7 +390,10 @@ pub fn listed_under(lead: Lead) -> Option<ServerId>
 
 /// Writes the server that serves requests into the published map.
 fn publish(hold: &Hold, shard: ShardId) -> Result<Change, Why>
-    ensures { result ≡ exchanged (publish_line shard (hold_of hold.now.rights) (lead_held ((hold_of hold.now.rights).crowns shard))) (publish_exchange shard (listed_of ((hold_of hold.now.rights).crowns shard)) (lead_held ((hold_of hold.now.rights).crowns shard))) }
+    ensures { result ≡ exchanged (publish_line shard (hold_of hold.now.rights)
+        (lead_held ((hold_of hold.now.rights).crowns shard)))
+        (publish_exchange shard (listed_of ((hold_of hold.now.rights).crowns shard))
+        (lead_held ((hold_of hold.now.rights).crowns shard))) }
 {
     let crown = crown_of(hold, shard).ok_or(Why::NoCrown)?;
     let listed = listed_under(crown.lead);
@@ -371,7 +405,10 @@ fn publish(hold: &Hold, shard: ShardId) -> Result<Change, Why>
 
 /// Takes the shard's server out of the published map.
 fn unlist(hold: &Hold, shard: ShardId) -> Result<Change, Why>
-    ensures { result ≡ exchanged (unlist_line shard (hold_of hold.now.rights) (lead_held ((hold_of hold.now.rights).crowns shard))) (unlist_exchange shard (listed_of ((hold_of hold.now.rights).crowns shard)) (lead_held ((hold_of hold.now.rights).crowns shard))) }
+    ensures { result ≡ exchanged (unlist_line shard (hold_of hold.now.rights)
+        (lead_held ((hold_of hold.now.rights).crowns shard)))
+        (unlist_exchange shard (listed_of ((hold_of hold.now.rights).crowns shard))
+        (lead_held ((hold_of hold.now.rights).crowns shard))) }
 {
     let crown = crown_of(hold, shard).ok_or(Why::NoCrown)?;
     Ok(Change {
@@ -383,7 +420,9 @@ fn unlist(hold: &Hold, shard: ShardId) -> Result<Change, Why>
 /// Drops whatever a server has.
 fn drop(config: &Config, hold: &Hold, shard: ShardId, server: ServerId) -> Result<Change, Why>
     requires { shard < length config.now.shards }
-    ensures { (signals : ℕ → Rights) → result ≡ exchanged (line_of (sizes_of config.now) signals (Instr.Drop shard server) (hold_of hold.now.rights)) (exchange_of (sizes_of config.now) (Instr.Drop shard server) (hold_of hold.now.rights)) }
+    ensures { (signals : ℕ → Rights) → result
+        ≡ exchanged (line_of (sizes_of config.now) signals (Instr.Drop shard server) (hold_of hold.now.rights))
+        (exchange_of (sizes_of config.now) (Instr.Drop shard server) (hold_of hold.now.rights)) }
 {
     match hold.cell(shard, server) {
         Some(state) => drop_held(config, hold, shard, server, state),
@@ -400,7 +439,9 @@ fn add(
     role: Role,
 ) -> Result<Change, Why>
     requires { shard < length config.now.shards }
-    ensures { (signals : ℕ → Rights) → result ≡ exchanged (line_of (sizes_of config.now) signals (Instr.Add shard server role) (hold_of hold.now.rights)) (exchange_of (sizes_of config.now) (Instr.Add shard server role) (hold_of hold.now.rights)) }
+    ensures { (signals : ℕ → Rights) → result
+        ≡ exchanged (line_of (sizes_of config.now) signals (Instr.Add shard server role) (hold_of hold.now.rights))
+        (exchange_of (sizes_of config.now) (Instr.Add shard server role) (hold_of hold.now.rights)) }
 {
     match role {
         Role::Primary => add_primary(config, hold, shard, server),
@@ -410,7 +451,9 @@ fn add(
 
 /// Changes a replica to a role.
 fn change(hold: &Hold, shard: ShardId, server: ServerId, to: Role) -> Result<Change, Why>
-    ensures { (c : Sizes) (signals : ℕ → Rights) → result ≡ exchanged (line_of c signals (Instr.Change shard server to) (hold_of hold.now.rights)) (exchange_of c (Instr.Change shard server to) (hold_of hold.now.rights)) }
+    ensures { (c : Sizes) (signals : ℕ → Rights)
+        → result ≡ exchanged (line_of c signals (Instr.Change shard server to) (hold_of hold.now.rights))
+        (exchange_of c (Instr.Change shard server to) (hold_of hold.now.rights)) }
 {
     match to {
         Role::Primary => to_primary(hold, shard, server),
@@ -421,7 +464,9 @@ fn change(hold: &Hold, shard: ShardId, server: ServerId, to: Role) -> Result<Cha
 /// Returns the line of an instruction. A signal or a wait exchanges nothing beside its parcel.
 fn exchange(config: &Config, instr: &Instr, hold: &Hold) -> Result<Change, Why>
     requires { IfSome (shard_of instr.now) (λ s. s < length config.now.shards) }
-    ensures own { (signals : ℕ → Rights) → IsOwn instr.now → result ≡ exchanged (line_of (sizes_of config.now) signals instr.now (hold_of hold.now.rights)) (exchange_of (sizes_of config.now) instr.now (hold_of hold.now.rights)) }
+    ensures own { (signals : ℕ → Rights) → IsOwn instr.now
+        → result ≡ exchanged (line_of (sizes_of config.now) signals instr.now (hold_of hold.now.rights))
+        (exchange_of (sizes_of config.now) instr.now (hold_of hold.now.rights)) }
     ensures other { ¬ IsOwn instr.now → result ≡ Ok no_exchange }
 {
     match *instr {
@@ -457,12 +502,17 @@ fn exchange(config: &Config, instr: &Instr, hold: &Hold) -> Result<Change, Why>
 /// A signal or a wait exchanges nothing beside its parcel.
 pub fn change_of(config: &Config, instr: &Instr, hold: &Hold) -> Result<Change, Why>
     requires { IfSome (shard_of instr.now) (λ s. s < length config.now.shards) }
-    ensures change { IfOk result (λ change. change ≡ exchange_of (sizes_of config.now) instr.now (hold_of hold.now.rights)) }
+    ensures change { IfOk result (λ change. change
+        ≡ exchange_of (sizes_of config.now) instr.now (hold_of hold.now.rights)) }
     ensures held { IfOk result (λ change. first_short (hold_of hold.now.rights) (portion_rights change.out) ≡ None) }
-    ensures apart { IfOk result (λ change. AreApart (minus (hold_of hold.now.rights) (portion_rights change.out)) (hold_of (portion_rights change.got))) }
-    ensures left { IfOk result (λ change. IsOwn instr.now → (signals : ℕ → Rights) → after (sizes_of config.now) signals instr.now (hold_of hold.now.rights) ≡ Ok (plus (minus (hold_of hold.now.rights) (portion_rights change.out)) (portion_rights change.got))) }
+    ensures apart { IfOk result (λ change. AreApart (minus (hold_of hold.now.rights) (portion_rights change.out))
+        (hold_of (portion_rights change.got))) }
+    ensures left { IfOk result (λ change. IsOwn instr.now → (signals : ℕ → Rights)
+        → after (sizes_of config.now) signals instr.now (hold_of hold.now.rights)
+        ≡ Ok (plus (minus (hold_of hold.now.rights) (portion_rights change.out)) (portion_rights change.got))) }
     ensures small { IfOk result (λ change. IsSmallPortion change.got) }
-    ensures refused { IfErr result (λ why. (signals : ℕ → Rights) → after (sizes_of config.now) signals instr.now (hold_of hold.now.rights) ≡ Err why) }
+    ensures refused { IfErr result (λ why. (signals : ℕ → Rights)
+        → after (sizes_of config.now) signals instr.now (hold_of hold.now.rights) ≡ Err why) }
 {
     let _servers = config.server_count();
     exchange(config, instr, hold)

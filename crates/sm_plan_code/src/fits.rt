@@ -1,7 +1,8 @@
 //! Tests whether all ids of a plan are below the counts of a configuration.
 ghost use Rattle.std.specs.Prelude.{◌↔◌, ◌<◌, IsTrue, IfSome, All};
 ghost use Rattle.sm_plan_code.specs.Instr.{shard_of};
-ghost use Rattle.sm_plan_code.specs.Plan.{IsKnownCellRight, IsKnownLead, IsKnownCrown, IsKnownParcel, IsKnownInstr, IsKnownStream, IsKnownPlan};
+ghost use Rattle.sm_plan_code.specs.Plan.{IsKnownCellRight, IsKnownLead, IsKnownCrown, IsKnownParcel, IsKnownInstr};
+ghost use Rattle.sm_plan_code.specs.Plan.{IsKnownStream, IsKnownPlan};
 
 use crate::plan::{Plan, Stream};
 use crate::{Instr, names};

@@ -1,6 +1,7 @@
 //! The limits of a plan, and which signals it knows.
 ghost use Rattle.std.specs.Prelude.{◌↔◌, ◌≤◌, IsTrue, All};
-ghost use Rattle.sm_plan_code.specs.Plan.{IsSmallParcel, IsSmallStream, IsSmallPlan, IsOrderedParcel, HasOrderedParcels, KnowsSignal, KnowsSignals};
+ghost use Rattle.sm_plan_code.specs.Plan.{IsSmallParcel, IsSmallStream, IsSmallPlan, IsOrderedParcel};
+ghost use Rattle.sm_plan_code.specs.Plan.{HasOrderedParcels, KnowsSignal, KnowsSignals};
 ghost use Rattle.sm_plan_code.specs.Parts.{parts_of};
 
 use crate::Instr;

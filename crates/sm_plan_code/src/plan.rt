@@ -117,8 +117,8 @@ impl Plan {
     /// Makes a plan. Parts that are none come back with the first fault in the order of `PlanFault`.
     ///
     /// A plan has at most 64 streams, 256 signals and a budget of 262,144. A stream has at most 4,096 instructions, and
-    /// its budget and its retries are at most 262,144 each. A parcel, a stream's or a signal's, has at most 4,096 entries
-    /// in each of its lists, and amounts up to 4,294,967,295.
+    /// its budget and its retries are at most 262,144 each. A parcel, a stream's or a signal's, has at most 4,096
+    /// entries in each of its lists, and amounts up to 4,294,967,295.
     pub fn new(parts: Parts) -> Result<Plan, (Parts, PlanFault)>
         ensures ok { IfOk result (λ plan. plan ≡ parts_of parts) }
         ensures valid { OnOk result (IsPlan (parts_of parts)) }

@@ -1,6 +1,7 @@
 //! The calls of a document.
 ghost use Rattle.std.specs.Prelude.{◌≡◌, map, option_map, IfSome};
-ghost use Rattle.sm_plan_text.specs.Words.{view, Scope, row_of, worded_faults, call_word, call_table, call_worded, call_in};
+ghost use Rattle.sm_plan_text.specs.Words.{view, Scope, row_of, worded_faults, call_word, call_table, call_worded};
+ghost use Rattle.sm_plan_text.specs.Words.{call_in};
 ghost use Rattle.sm_plan_text.specs.declared.member.Member.TheVariants as members;
 
 use crate::rule::{Form, OTHER, ROLE, Rule, SERVER, SHARD};
@@ -17,7 +18,8 @@ const NUMBER: Rule = Rule::One(Member::Number, Form::Whole(MOST_NUMBER));
 
 /// Returns the members of a call with this word.
 fn rules_of(word: &str) -> Option<&'static [Rule]>
-    ensures { (scope : Scope) → option_map (λ rules. map (row_of scope) rules.now) result ≡ option_map (call_table scope.shards.now scope.servers.now) (call_word word.now) }
+    ensures { (scope : Scope) → option_map (λ rules. map (row_of scope) rules.now) result
+        ≡ option_map (call_table scope.shards.now scope.servers.now) (call_word word.now) }
 {
     match word {
         "add" => Some(&[SHARD, SERVER, ROLE]),
@@ -30,7 +32,8 @@ fn rules_of(word: &str) -> Option<&'static [Rule]>
 
 /// Reads the call that an object says by its word, which is one of a call.
 fn call_of(word: &str, cursor: &Cursor<'_, '_>) -> Call
-    ensures { IfSome (call_word word.now) (λ w. result ≡ call_worded cursor.now.scope.servers.now (view cursor.now.tree.now) w) }
+    ensures { IfSome (call_word word.now) (λ w. result
+        ≡ call_worded cursor.now.scope.servers.now (view cursor.now.tree.now) w) }
 {
     let other = cursor.server(Member::Other);
     let number = u64::from(cursor.number(Member::Number, MOST_NUMBER));

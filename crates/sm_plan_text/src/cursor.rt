@@ -1,7 +1,9 @@
 //! Cursors: places where a text is read. A member that is not in its form is read as 0, false or an empty value; a
 //! missing one is read as that, or as a default.
 ghost use Rattle.std.specs.Prelude.{◌≡◌, [], option_map, option_and_then, map, false, IfOk, string_bytes};
-ghost use Rattle.sm_plan_text.specs.Words.{view, found, whole_number_of, text_in, role_named, role_in, after_named, flag_in, number_in, number_or, number_below, items_of, entries_in, id_of, id_named, id_in, plain_named};
+ghost use Rattle.sm_plan_text.specs.Words.{view, found, whole_number_of, text_in, role_named, role_in, after_named};
+ghost use Rattle.sm_plan_text.specs.Words.{flag_in, number_in, number_or, number_below, items_of, entries_in, id_of};
+ghost use Rattle.sm_plan_text.specs.Words.{id_named, id_in, plain_named};
 
 use crate::{Member, Names};
 use json_tree::Tree;
@@ -9,7 +11,8 @@ use sm_reservation::PlainCell;
 use sm_server::{Role, ServerId, ShardId};
 use std::alloc::{AllocError, Global};
 
-/// The names of the shards and servers, how many signals the plan has, and whether its streams may say how many retries they have.
+/// The names of the shards and servers, how many signals the plan has, and whether its streams may say how many retries
+/// they have.
 #[derive(Clone, Copy)]
 pub struct Scope<'p> {
     pub shards: &'p Names,
@@ -130,7 +133,8 @@ impl<'p, 't> Cursor<'p, 't> {
 
     /// Returns the server that a member names, if it names one.
     pub fn server_found(&self, member: Member) -> Option<ServerId>
-        ensures { result ≡ option_and_then (id_named self.now.scope.servers.now) (found member (view self.now.tree.now)) }
+        ensures { result ≡ option_and_then (id_named self.now.scope.servers.now)
+            (found member (view self.now.tree.now)) }
     {
         let server = id_named(self.find(member)?, self.scope.servers)?;
         Some(ServerId::new(server))

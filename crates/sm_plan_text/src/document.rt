@@ -1,6 +1,10 @@
 //! A document, from its text.
 ghost use Rattle.std.specs.Prelude.{◌≡◌, ◌≢◌, [], Option, Some, None, Ok, Err, IfOk, IfErr, OnOk, unwrap_or, map};
-ghost use Rattle.sm_plan_text.specs.Words.{Data, view, noted, Scope, HasIds, row_of, id_named, setup_of, config_fault, sizes_of, place_of, IsSettled, opened_place, open_fault, opening_of, document_table, document_faults, rows_in, IsDocument, AreKept, IsWork, work_noted, IsOutlined, IsOutline, data_of, read_data, read, rows_of, rows_of_parts};
+ghost use Rattle.sm_plan_text.specs.Words.{Data, view, noted, Scope, HasIds, row_of, id_named, setup_of, config_fault};
+ghost use Rattle.sm_plan_text.specs.Words.{sizes_of, place_of, IsSettled, opened_place, open_fault, opening_of};
+ghost use Rattle.sm_plan_text.specs.Words.{document_table, document_faults, rows_in, IsDocument, AreKept, IsWork};
+ghost use Rattle.sm_plan_text.specs.Words.{work_noted, IsOutlined, IsOutline, data_of, read_data, read, rows_of};
+ghost use Rattle.sm_plan_text.specs.Words.{rows_of_parts};
 
 use crate::cursor::id_named;
 use crate::limits::{DOWN_LIMIT, LOG_PLACES, MOST_EVENTS};
@@ -35,7 +39,8 @@ pub struct Document {
     pub plan: Option<Plan>,
     /// The plans to run beside each other.
     pub plans: Option<Vec<Plan>>,
-    /// The events that are to happen, one after the other. They name a plan by its place among the plans of the document.
+    /// The events that are to happen, one after the other. They name a plan by its place among the plans of the
+    /// document.
     pub events: Option<Vec<Event>>,
     /// The moves to make a plan for.
     pub moves: Option<Vec<Move>>,
@@ -73,7 +78,8 @@ impl Document {
         ensures setup { IfOk result (λ p. p.setup ≡ self.now.config) }
         ensures valid { OnOk result (open_fault (sizes_of self.now.config) (opening_of (rows_of self.now)) ≡ None) }
         ensures settled { IfOk result (λ p. IsSettled (sizes_of self.now.config) (place_of p)) }
-        ensures refused { IfErr result (λ why. why ≢ OpenFault.NoMemory → open_fault (sizes_of self.now.config) (opening_of (rows_of self.now)) ≡ Some why) }
+        ensures refused { IfErr result (λ why. why ≢ OpenFault.NoMemory
+            → open_fault (sizes_of self.now.config) (opening_of (rows_of self.now)) ≡ Some why) }
     {
         Placement::open(
             alloc,
@@ -181,9 +187,12 @@ fn read_work(
     faults: &mut Faults,
 ) -> Result<Work, AllocError>
     ensures work { (calls events : Option Data) → AreKept cursor.now.scope early (view cursor.now.tree.now) calls events
-        → IfOk result (λ work. HasIds cursor.now.scope → faults.new.lowest ≡ None → IsWork cursor.now.scope (view cursor.now.tree.now) calls events work) }
-    ensures faults { (calls events : Option Data) → AreKept cursor.now.scope early (view cursor.now.tree.now) calls events
-        → OnOk result (faults.new.lowest ≡ work_noted cursor.now.scope (view cursor.now.tree.now) calls events faults.old.lowest) }
+        → IfOk result (λ work. HasIds cursor.now.scope → faults.new.lowest ≡ None
+        → IsWork cursor.now.scope (view cursor.now.tree.now) calls events work) }
+    ensures faults { (calls events : Option Data)
+        → AreKept cursor.now.scope early (view cursor.now.tree.now) calls events
+        → OnOk result (faults.new.lowest ≡ work_noted cursor.now.scope
+        (view cursor.now.tree.now) calls events faults.old.lowest) }
 {
     let (calls, events) = match early {
         Some(early) => (early.calls, early.events),
@@ -209,8 +218,10 @@ fn read_parts(
     early: Option<Early>,
     faults: &mut Faults,
 ) -> Result<(Servers, Shards, Work), AllocError>
-    ensures rows { (d : Data) → IsOutlined early (view tree.now) d → IfOk result (λ parts. faults.new.lowest ≡ None → rows_of_parts parts ≡ rows_in d) }
-    ensures faults { (d : Data) → IsOutlined early (view tree.now) d → OnOk result (faults.new.lowest ≡ noted faults.old.lowest (document_faults d)) }
+    ensures rows { (d : Data) → IsOutlined early (view tree.now) d
+        → IfOk result (λ parts. faults.new.lowest ≡ None → rows_of_parts parts ≡ rows_in d) }
+    ensures faults { (d : Data) → IsOutlined early (view tree.now) d
+        → OnOk result (faults.new.lowest ≡ noted faults.old.lowest (document_faults d)) }
 {
     // Some members of the document name what stands in its lists, and their faults come before those of the lists.
     let mut listed = Faults { lowest: None };
@@ -242,7 +253,8 @@ fn configuration(alloc: Global, servers: &[Server], shards: &[Shard]) -> Result<
 /// Reads the document of an outline: of a tree, and of the lists that were read early.
 fn from_outline(alloc: Global, tree: &Tree<'_>, early: Option<Early>) -> Result<Document, TextFault>
     requires { (d : Data) × IsOutlined early (view tree.now) d }
-    ensures ok { (d : Data) → IsOutlined early (view tree.now) d → IfOk result (λ document. read_data (Some d) ≡ Ok (rows_of document)) }
+    ensures ok { (d : Data) → IsOutlined early (view tree.now) d
+        → IfOk result (λ document. read_data (Some d) ≡ Ok (rows_of document)) }
     ensures refused { (d : Data) → IsOutlined early (view tree.now) d
         → IfErr result (λ why. why ≢ TextFault.NoMemory → read_data (Some d) ≡ Err why) }
     ensures known { IfOk result (λ document. IsDocument (rows_of document)) }

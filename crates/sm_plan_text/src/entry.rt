@@ -1,6 +1,7 @@
 //! Entries: values that stand in a list, or in a member, and are each read as one.
 ghost use Rattle.std.specs.Prelude.{◌≡◌, [], List, Option, None, map, option_map, IfOk, OnOk};
-ghost use Rattle.sm_plan_text.specs.Words.{Data, view, TextFault, Member, Scope, noted, found, list_in, items_of, entries_in, entries_found, walked, faults_within, HasIds, IsKept};
+ghost use Rattle.sm_plan_text.specs.Words.{Data, view, TextFault, Member, Scope, noted, found, list_in, items_of};
+ghost use Rattle.sm_plan_text.specs.Words.{entries_in, entries_found, walked, faults_within, HasIds, IsKept};
 
 use crate::outline::EarlyList;
 use crate::{Cursor, Faults, Member};
@@ -16,8 +17,10 @@ pub trait Entry: Drop {
 
     /// Reads it where the cursor is, and notes what is wrong with it.
     fn read(cursor: &Cursor<'_, '_>, faults: &mut Faults) -> Result<Self, AllocError>
-        ensures value { IfOk result (λ read. HasIds cursor.now.scope → faults.new.lowest ≡ None → read ≡ value cursor.now.scope (view cursor.now.tree.now)) }
-        ensures faults { OnOk result (faults.new.lowest ≡ noted faults.old.lowest (faults_of cursor.now.scope cursor.now.member (view cursor.now.tree.now))) };
+        ensures value { IfOk result (λ read. HasIds cursor.now.scope → faults.new.lowest ≡ None
+            → read ≡ value cursor.now.scope (view cursor.now.tree.now)) }
+        ensures faults { OnOk result (faults.new.lowest
+            ≡ noted faults.old.lowest (faults_of cursor.now.scope cursor.now.member (view cursor.now.tree.now))) };
 }
 
 impl<'p, 't> Cursor<'p, 't> {
@@ -30,7 +33,8 @@ impl<'p, 't> Cursor<'p, 't> {
         ensures value { IfOk result (λ inner. HasIds self.now.scope → faults.new.lowest ≡ None
             → inner ≡ option_map (T.value self.now.scope) (found member (view self.now.tree.now))) }
         ensures faults { OnOk result (faults.new.lowest
-            ≡ noted faults.old.lowest (faults_within (T.faults_of self.now.scope member) (found member (view self.now.tree.now)))) }
+            ≡ noted faults.old.lowest (faults_within (T.faults_of self.now.scope member)
+            (found member (view self.now.tree.now)))) }
     {
         let Some(tree) = self.find(member) else {
             return Ok(None);
@@ -48,7 +52,8 @@ impl<'p, 't> Cursor<'p, 't> {
         ensures list { IfOk result (λ list. HasIds self.now.scope → faults.new.lowest ≡ None
             → list.items ≡ map (T.value self.now.scope) (entries_in member (view self.now.tree.now))) }
         ensures faults { OnOk result (faults.new.lowest
-            ≡ noted faults.old.lowest (walked (λ _ entry. T.faults_of self.now.scope member entry) [] (entries_in member (view self.now.tree.now)))) }
+            ≡ noted faults.old.lowest (walked (λ _ entry. T.faults_of self.now.scope member entry) []
+            (entries_in member (view self.now.tree.now)))) }
     {
         let items = self.entries(member);
         let mut list = Vec::with_capacity(self.alloc, items.len())?;
@@ -70,9 +75,11 @@ impl<'p, 't> Cursor<'p, 't> {
         faults: &mut Faults,
     ) -> Result<Option<Vec<T>>, AllocError>
         ensures list { IfOk result (λ list. HasIds self.now.scope → faults.new.lowest ≡ None
-            → option_map (λ list. list.items) list ≡ option_map (map (T.value self.now.scope)) (list_in member (view self.now.tree.now))) }
+            → option_map (λ list. list.items) list ≡ option_map (map (T.value self.now.scope))
+            (list_in member (view self.now.tree.now))) }
         ensures faults { OnOk result (faults.new.lowest
-            ≡ noted faults.old.lowest (walked (λ _ entry. T.faults_of self.now.scope member entry) [] (entries_in member (view self.now.tree.now)))) }
+            ≡ noted faults.old.lowest (walked (λ _ entry. T.faults_of self.now.scope member entry) []
+            (entries_in member (view self.now.tree.now)))) }
     {
         match self.find(member) {
             Some(_) => Ok(Some(self.list(member, faults)?)),
@@ -87,12 +94,16 @@ impl<'p, 't> Cursor<'p, 't> {
         early: Option<EarlyList<T>>,
         faults: &mut Faults,
     ) -> Result<Option<Vec<T>>, AllocError>
-        ensures list { (whole : Option Data) → IsKept (λ _ entry. T.faults_of self.now.scope member entry) (T.value self.now.scope) (HasIds self.now.scope) early (found member (view self.now.tree.now)) whole
+        ensures list { (whole : Option Data) → IsKept (λ _ entry. T.faults_of self.now.scope member entry)
+            (T.value self.now.scope) (HasIds self.now.scope) early (found member (view self.now.tree.now)) whole
             → IfOk result (λ list. HasIds self.now.scope → faults.new.lowest ≡ None
-            → option_map (λ list. list.items) list ≡ option_map (map (T.value self.now.scope)) (option_map items_of whole)) }
-        ensures faults { (whole : Option Data) → IsKept (λ _ entry. T.faults_of self.now.scope member entry) (T.value self.now.scope) (HasIds self.now.scope) early (found member (view self.now.tree.now)) whole
+            → option_map (λ list. list.items) list ≡ option_map (map (T.value self.now.scope))
+            (option_map items_of whole)) }
+        ensures faults { (whole : Option Data) → IsKept (λ _ entry. T.faults_of self.now.scope member entry)
+            (T.value self.now.scope) (HasIds self.now.scope) early (found member (view self.now.tree.now)) whole
             → OnOk result (faults.new.lowest
-            ≡ noted faults.old.lowest (walked (λ _ entry. T.faults_of self.now.scope member entry) [] (entries_found whole))) }
+            ≡ noted faults.old.lowest (walked (λ _ entry. T.faults_of self.now.scope member entry) []
+            (entries_found whole))) }
     {
         let Some(early) = early else {
             return self.list_or_none(member, faults);

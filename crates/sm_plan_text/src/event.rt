@@ -1,7 +1,9 @@
-//! The events of a document: those of the protocol, whose streams name a plan by its place among the plans of the document.
+//! The events of a document: those of the protocol, whose streams name a plan by its place among the plans of the
+//! document.
 ghost use Rattle.std.specs.Prelude.{◌≡◌, ◌++◌, map, option_map, IfOk, IfSome, OnOk};
 ghost use Rattle.std.specs.List.{flat_map};
-ghost use Rattle.sm_plan_text.specs.Words.{view, noted, Scope, row_of, worded_faults, event_word, event_table, event_in};
+ghost use Rattle.sm_plan_text.specs.Words.{view, noted, Scope, row_of, worded_faults, event_word, event_table};
+ghost use Rattle.sm_plan_text.specs.Words.{event_in};
 ghost use Rattle.sm_plan_text.specs.Tables.{one, maybe, whole, row_faults};
 ghost use Rattle.sm_plan_text.specs.Events.{stream_id_in, event_of};
 ghost use Rattle.sm_plan_text.specs.declared.member.Member.TheVariants as members;
@@ -29,7 +31,8 @@ const MORE: Rule = Rule::One(Member::More, Form::Whole(MOST_CALLS));
 
 /// Returns the members of an event with this word.
 fn rules_of(word: &str) -> Option<&'static [Rule]>
-    ensures { (scope : Scope) → option_map (λ rules. map (row_of scope) rules.now) result ≡ option_map (event_table scope.shards.now scope.servers.now) (event_word word.now) }
+    ensures { (scope : Scope) → option_map (λ rules. map (row_of scope) rules.now) result
+        ≡ option_map (event_table scope.shards.now scope.servers.now) (event_word word.now) }
 {
     match word {
         "step" => Some(&[PLAN, STREAM]),
@@ -47,7 +50,8 @@ fn rules_of(word: &str) -> Option<&'static [Rule]>
 #[tactic(auto, using(crate::proofs::WalkLemmas::noted_append))]
 fn take_stream(cursor: &Cursor<'_, '_>, faults: &mut Faults) -> StreamId
     ensures stream { result ≡ stream_id_in (view cursor.now.tree.now) }
-    ensures faults { faults.new.lowest ≡ noted faults.old.lowest (row_faults (view cursor.now.tree.now) (maybe members.Plan (whole MOST_NUMBER))
+    ensures faults { faults.new.lowest ≡ noted faults.old.lowest
+        (row_faults (view cursor.now.tree.now) (maybe members.Plan (whole MOST_NUMBER))
         ++ row_faults (view cursor.now.tree.now) (one members.Stream (whole MOST_NUMBER))) }
 {
     StreamId {
@@ -56,13 +60,15 @@ fn take_stream(cursor: &Cursor<'_, '_>, faults: &mut Faults) -> StreamId
     }
 }
 
-/// Returns the event that an object says by its word, which is one of an event, and notes what is wrong with its members.
+/// Returns the event that an object says by its word, which is one of an event, and notes what is wrong with its
+/// members.
 #[tactic(auto, using(crate::proofs::WalkLemmas::noted_append))]
 fn event_of(word: &str, cursor: &Cursor<'_, '_>, faults: &mut Faults) -> Result<Event, AllocError>
     ensures event { IfOk result (λ event. IfSome (event_word word.now)
         (λ w. event ≡ event_of cursor.now.scope.shards.now cursor.now.scope.servers.now (view cursor.now.tree.now) w)) }
     ensures faults { OnOk result (IfSome (event_word word.now) (λ w. faults.new.lowest ≡ noted faults.old.lowest
-        (flat_map (row_faults (view cursor.now.tree.now)) (event_table cursor.now.scope.shards.now cursor.now.scope.servers.now w)))) }
+        (flat_map (row_faults (view cursor.now.tree.now))
+        (event_table cursor.now.scope.shards.now cursor.now.scope.servers.now w)))) }
 {
     let event = match word {
         "step" => Event::Step {

@@ -83,7 +83,8 @@ impl Faults {
     /// Takes the faults of a part of the walk, which were noted apart.
     #[tactic(auto, using(crate::proofs::Lowest::part_none, crate::proofs::Lowest::part_some))]
     pub fn append(&mut self, part: Faults)
-        ensures { (faults : List TextFault) → part.lowest ≡ answered faults → self.new.lowest ≡ noted self.old.lowest faults }
+        ensures { (faults : List TextFault) → part.lowest ≡ answered faults
+            → self.new.lowest ≡ noted self.old.lowest faults }
     {
         if let Some(fault) = part.lowest {
             self.note(fault);

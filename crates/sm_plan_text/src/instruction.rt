@@ -1,7 +1,8 @@
 //! The instructions of a plan.
 ghost use Rattle.std.specs.Prelude.{◌≡◌, ◌++◌, map, option_map, IfOk, IfSome, OnOk};
 ghost use Rattle.std.specs.List.{flat_map};
-ghost use Rattle.sm_plan_text.specs.Words.{view, noted, id_in, Scope, row_of, worded_faults, instr_word, instr_table, instr_of, instr_in};
+ghost use Rattle.sm_plan_text.specs.Words.{view, noted, id_in, Scope, row_of, worded_faults, instr_word, instr_table};
+ghost use Rattle.sm_plan_text.specs.Words.{instr_of, instr_in};
 ghost use Rattle.sm_plan_text.specs.Tables.{one, known, row_faults};
 ghost use Rattle.sm_plan_text.specs.declared.member.Member.TheVariants as members;
 
@@ -17,7 +18,8 @@ const SIGNAL: Rule = Rule::One(Member::Signal, Form::Signal);
 
 /// Returns the members of an instruction with this word.
 fn rules_of(word: &str) -> Option<&'static [Rule]>
-    ensures { (scope : Scope) → option_map (λ rules. map (row_of scope) rules.now) result ≡ option_map (instr_table scope.shards.now scope.servers.now scope.signals) (instr_word word.now) }
+    ensures { (scope : Scope) → option_map (λ rules. map (row_of scope) rules.now) result
+        ≡ option_map (instr_table scope.shards.now scope.servers.now scope.signals) (instr_word word.now) }
 {
     match word {
         "prepare_add" | "prepare_drop" => Some(&[SHARD, SERVER, OTHER]),
@@ -35,21 +37,24 @@ fn rules_of(word: &str) -> Option<&'static [Rule]>
 fn take_cell(cursor: &Cursor<'_, '_>, faults: &mut Faults) -> (ShardId, ServerId)
     ensures shard { result.0 ≡ id_in cursor.now.scope.shards.now members.Shard (view cursor.now.tree.now) }
     ensures server { result.1 ≡ id_in cursor.now.scope.servers.now members.Server (view cursor.now.tree.now) }
-    ensures faults { faults.new.lowest ≡ noted faults.old.lowest (row_faults (view cursor.now.tree.now) (one members.Shard (known cursor.now.scope.shards.now))
+    ensures faults { faults.new.lowest ≡ noted faults.old.lowest
+        (row_faults (view cursor.now.tree.now) (one members.Shard (known cursor.now.scope.shards.now))
         ++ row_faults (view cursor.now.tree.now) (one members.Server (known cursor.now.scope.servers.now))) }
 {
     let shard = cursor.take_shard(Member::Shard, faults);
     (shard, cursor.take_server(Member::Server, faults))
 }
 
-/// Returns the instruction that an object says by its word, which is one of an instruction, and notes what is wrong with
-/// its members.
+/// Returns the instruction that an object says by its word, which is one of an instruction, and notes what is wrong
+/// with its members.
 #[tactic(auto, using(crate::proofs::WalkLemmas::noted_append))]
 fn instr_of(word: &str, cursor: &Cursor<'_, '_>, faults: &mut Faults) -> Result<Instr, AllocError>
     ensures instr { IfOk result (λ instr. IfSome (instr_word word.now)
-        (λ w. instr ≡ instr_of cursor.now.scope.shards.now cursor.now.scope.servers.now cursor.now.scope.signals (view cursor.now.tree.now) w)) }
+        (λ w. instr ≡ instr_of cursor.now.scope.shards.now cursor.now.scope.servers.now cursor.now.scope.signals
+        (view cursor.now.tree.now) w)) }
     ensures faults { OnOk result (IfSome (instr_word word.now) (λ w. faults.new.lowest ≡ noted faults.old.lowest
-        (flat_map (row_faults (view cursor.now.tree.now)) (instr_table cursor.now.scope.shards.now cursor.now.scope.servers.now cursor.now.scope.signals w)))) }
+        (flat_map (row_faults (view cursor.now.tree.now))
+        (instr_table cursor.now.scope.shards.now cursor.now.scope.servers.now cursor.now.scope.signals w)))) }
 {
     let instr = match word {
         "prepare_add" => {

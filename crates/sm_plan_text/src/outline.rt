@@ -1,6 +1,8 @@
-//! A document's text, read so that its longest lists are never kept as trees: each of their entries is read as it comes.
+//! A document's text, read so that its longest lists are never kept as trees: each of their entries is read as it
+//! comes.
 ghost use Rattle.std.specs.Prelude.{◌≡◌, ◌<◌, ◌≤◌, [], None, Some, map, length, IfOk, IfSome, OnOk};
-ghost use Rattle.sm_plan_text.specs.Words.{view, members_view, answered, entries, names_in, walked, HasIds, IsEarly, IsPartialOutline, IsOutline};
+ghost use Rattle.sm_plan_text.specs.Words.{view, members_view, answered, entries, names_in, walked, HasIds, IsEarly};
+ghost use Rattle.sm_plan_text.specs.Words.{IsPartialOutline, IsOutline};
 ghost use Rattle.json.specs.Json.{value, items, members};
 ghost use Rattle.serde_json.specs.Data.{Data, Items, Members, array, put};
 ghost use Rattle.serde_json.specs.Read.{of_json, of_members, converted, read as read_text};
@@ -51,10 +53,12 @@ fn read_list<T: Entry>(
     member: Member,
     scope: Scope<'_>,
 ) -> Result<EarlyList<T>, ReadFault>
-    ensures ok { IfOk result (λ list. (ds : Items) × (converted of_json (value MOST_DEPTH reader.old) ≡ Some (array ds, reader.new))
+    ensures ok { IfOk result (λ list. (ds : Items)
+        × (converted of_json (value MOST_DEPTH reader.old) ≡ Some (array ds, reader.new))
         × (list.faults.lowest ≡ answered (walked (λ _ entry. T.faults_of scope.entry member entry) [] (entries ds)))
         × (length (entries ds) ≤ MOST_EVENTS)
-        × (HasIds scope.entry → list.faults.lowest ≡ None → list.values.items ≡ map (T.value scope.entry) (entries ds))) }
+        × (HasIds scope.entry → list.faults.lowest ≡ None
+        → list.values.items ≡ map (T.value scope.entry) (entries ds))) }
     ensures shorter { OnOk result (length reader.new < length reader.old) }
 {
     let Some(Token::BeginArray) = reader.next() else {
@@ -95,7 +99,8 @@ fn names_of(alloc: Global, items: &[Tree<'_>]) -> Result<Names, AllocError>
 impl Early {
     /// Returns the names of the shards and servers among these members, if both stand there.
     fn begin<'a>(alloc: Global, members: &[(&'a str, Tree<'a>)]) -> Result<Option<Self>, AllocError>
-        ensures { IfOk result (λ found. IfSome found (λ early. IsEarly early (members_view members.now) (members_view members.now))) }
+        ensures { IfOk result (λ found. IfSome found
+            (λ early. IsEarly early (members_view members.now) (members_view members.now))) }
     {
         let shards = find_member(members, "shards");
         let (Some(shards), Some(servers)) = (shards, find_member(members, "servers")) else {
@@ -117,8 +122,10 @@ impl Early {
         reader: &mut Reader<'a>,
         name: &str,
     ) -> Result<Tree<'a>, ReadFault>
-        ensures ok { IfOk result (λ tree. (d : Data) × (converted of_json (value MOST_DEPTH reader.old) ≡ Some (d, reader.new))
-            × ((kept whole : Members) → IsEarly self.old kept whole → IsEarly self.new (put name.now (view tree) kept) (put name.now d whole))) }
+        ensures ok { IfOk result (λ tree. (d : Data)
+            × (converted of_json (value MOST_DEPTH reader.old) ≡ Some (d, reader.new))
+            × ((kept whole : Members) → IsEarly self.old kept whole
+            → IsEarly self.new (put name.now (view tree) kept) (put name.now d whole))) }
         ensures shorter { OnOk result (length reader.new < length reader.old) }
     {
         let scope = Scope {
@@ -141,7 +148,8 @@ impl<'a> PartialOutline<'a> {
     /// Finds the names that a list with this name needs, if they have been read.
     fn find_names(&mut self, alloc: Global, name: &str) -> Result<(), AllocError>
         ensures members { self.new.members ≡ self.old.members }
-        ensures same { OnOk result ((whole : Members) → IsPartialOutline self.old whole → IsPartialOutline self.new whole) }
+        ensures same { OnOk result ((whole : Members) → IsPartialOutline self.old whole
+            → IsPartialOutline self.new whole) }
     {
         if self.early.is_none() && (name == "calls" || name == "events") {
             self.early = Early::begin(alloc, self.members.as_slice())?;
@@ -157,7 +165,8 @@ impl<'a> PartialOutline<'a> {
         name: &'a str,
     ) -> Result<(), ReadFault>
         ensures ok { OnOk result ((d : Data) × (converted of_json (value MOST_DEPTH reader.old) ≡ Some (d, reader.new))
-            × ((whole : Members) → IsPartialOutline self.old whole → IsPartialOutline self.new (put name.now d whole))) }
+            × ((whole : Members) → IsPartialOutline self.old whole
+            → IsPartialOutline self.new (put name.now d whole))) }
         ensures shorter { OnOk result (length reader.new < length reader.old) }
     {
         self.find_names(alloc, name)?;
@@ -173,8 +182,10 @@ impl<'a> PartialOutline<'a> {
 
     /// Reads all members, to the end of the object.
     fn read_members(&mut self, alloc: Global, reader: &mut Reader<'a>) -> Result<(), ReadFault>
-        ensures { OnOk result ((whole : Members) → IsPartialOutline self.old whole → (found : Members) × IsPartialOutline self.new found
-            × (converted (λ ms. of_members ms whole) (members (value MOST_DEPTH) (length reader.old) reader.old) ≡ Some (found, reader.new))) }
+        ensures { OnOk result ((whole : Members) → IsPartialOutline self.old whole
+            → (found : Members) × IsPartialOutline self.new found
+            × (converted (λ ms. of_members ms whole) (members (value MOST_DEPTH) (length reader.old) reader.old)
+            ≡ Some (found, reader.new))) }
     {
         'members: while let Some(name) = reader.next_key()? {
             self.read_member(alloc, reader, name)?;

@@ -1,6 +1,9 @@
 //! The parcels of a plan.
 ghost use Rattle.std.specs.Prelude.{◌≡◌, [], map, option_map, IfOk, IfSome};
-ghost use Rattle.sm_plan_text.specs.Words.{view, Scope, row_of, own_faults, worded_faults, no_rights, IsOnce, rights_of, in_order, right_table, right_in, lead_word, crown_table, lead_worded, crown_in, room_table, room_in, spare_table, spare_in, parcel_faults, parcel_in};
+ghost use Rattle.sm_plan_text.specs.Words.{view, Scope, row_of, own_faults, worded_faults, no_rights, IsOnce};
+ghost use Rattle.sm_plan_text.specs.Words.{rights_of, in_order, right_table, right_in, lead_word, crown_table};
+ghost use Rattle.sm_plan_text.specs.Words.{lead_worded, crown_in, room_table, room_in, spare_table, spare_in};
+ghost use Rattle.sm_plan_text.specs.Words.{parcel_faults, parcel_in};
 ghost use Rattle.sm_plan_text.specs.declared.member.Member.TheVariants as members;
 
 use crate::cursor::state_of;
@@ -40,7 +43,8 @@ impl Entry for CellRight {
 
 /// Returns the members of a crown with this word.
 fn rules_of(word: &str) -> Option<&'static [Rule]>
-    ensures { (scope : Scope) → option_map (λ rules. map (row_of scope) rules.now) result ≡ option_map (crown_table scope.shards.now scope.servers.now) (lead_word word.now) }
+    ensures { (scope : Scope) → option_map (λ rules. map (row_of scope) rules.now) result
+        ≡ option_map (crown_table scope.shards.now scope.servers.now) (lead_word word.now) }
 {
     match word {
         "gone" => Some(&[SHARD, LISTED]),
@@ -52,7 +56,8 @@ fn rules_of(word: &str) -> Option<&'static [Rule]>
 
 /// Returns the lead that a crown says by its word, which is one of a lead.
 fn lead_of(word: &str, cursor: &Cursor<'_, '_>) -> Lead
-    ensures { IfSome (lead_word word.now) (λ w. result ≡ lead_worded cursor.now.scope.servers.now (view cursor.now.tree.now) w) }
+    ensures { IfSome (lead_word word.now) (λ w. result
+        ≡ lead_worded cursor.now.scope.servers.now (view cursor.now.tree.now) w) }
 {
     let from = cursor.server(Member::From);
     let to = cursor.server(Member::To);

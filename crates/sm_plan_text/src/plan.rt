@@ -1,6 +1,8 @@
 //! Plans, of a document or of a text of their own.
 ghost use Rattle.std.specs.Prelude.{◌≡◌, ◌++◌, [], map};
-ghost use Rattle.sm_plan_text.specs.Words.{view, found, entries_in, Scope, row_of, own_faults, walked, parts_of, IsPlan, parcel_faults, instr_faults, faults_within, knows_retries, stream_table, stream_in, plan_faults, plan_in};
+ghost use Rattle.sm_plan_text.specs.Words.{view, found, entries_in, Scope, row_of, own_faults, walked, parts_of};
+ghost use Rattle.sm_plan_text.specs.Words.{IsPlan, parcel_faults, instr_faults, faults_within, knows_retries};
+ghost use Rattle.sm_plan_text.specs.Words.{stream_table, stream_in, plan_faults, plan_in};
 ghost use Rattle.sm_plan_text.specs.declared.member.Member.TheVariants as members;
 
 use crate::cursor::Scope;

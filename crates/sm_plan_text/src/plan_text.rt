@@ -1,6 +1,7 @@
 //! A plan, from a text of its own.
 ghost use Rattle.std.specs.Prelude.{◌≡◌, ◌≢◌, Ok, Err, Some, IfOk, IfErr, length};
-ghost use Rattle.sm_plan_text.specs.Words.{IsSetup, names_of_servers, names_of_shards, IsKnownPlan, read_plan, read_plan_data, view};
+ghost use Rattle.sm_plan_text.specs.Words.{IsSetup, names_of_servers, names_of_shards, IsKnownPlan, read_plan};
+ghost use Rattle.sm_plan_text.specs.Words.{read_plan_data, view};
 
 use crate::document::parse;
 use crate::{Cursor, Entry, Faults, Member, Names, TextFault};
@@ -55,7 +56,8 @@ pub fn read_plan_value(alloc: Global, config: &Config, value: &Tree<'_>) -> Resu
 
 /// Reads a plan for a configuration from the bytes of its text.
 pub fn read_plan(alloc: Global, config: &Config, bytes: &[u8]) -> Result<Plan, TextFault>
-    ensures ok { IfOk result (λ plan. read_plan (names_of_shards config.now) (names_of_servers config.now) bytes.now ≡ Ok plan) }
+    ensures ok { IfOk result (λ plan. read_plan (names_of_shards config.now) (names_of_servers config.now) bytes.now
+        ≡ Ok plan) }
     ensures refused { IfErr result (λ why. why ≢ TextFault.NoMemory
         → read_plan (names_of_shards config.now) (names_of_servers config.now) bytes.now ≡ Err why) }
     ensures fits { IfOk result (λ plan. IsKnownPlan (length config.now.shards) (length config.now.servers) plan) }

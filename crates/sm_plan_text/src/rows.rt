@@ -1,6 +1,10 @@
 //! The servers and shards of a document, with the shards' cells.
 ghost use Rattle.std.specs.Prelude.{◌≡◌, ◌++◌, ◌∷◌, [], map, length, IfOk, OnOk, if◌then◌else◌};
-ghost use Rattle.sm_plan_text.specs.Words.{bytes_eq, insert_key, view, noted, text_in, flag_in, names_in, entries_in, id_of, own_faults, walked, cell_in, server_row, server_table, server_faults, server_in, down_in, shard_row, cap_limit, shard_table, faults_of_shard, shard_faults, shard_in, listed_in, cell_faults, named_cell, cells_of_shard, cells_in};
+ghost use Rattle.sm_plan_text.specs.Words.{bytes_eq, insert_key, view, noted, text_in, flag_in, names_in, entries_in};
+ghost use Rattle.sm_plan_text.specs.Words.{id_of, own_faults, walked, cell_in, server_row, server_table, server_faults};
+ghost use Rattle.sm_plan_text.specs.Words.{server_in, down_in, shard_row, cap_limit, shard_table, faults_of_shard};
+ghost use Rattle.sm_plan_text.specs.Words.{shard_faults, shard_in, listed_in, cell_faults, named_cell, cells_of_shard};
+ghost use Rattle.sm_plan_text.specs.Words.{cells_in};
 ghost use Rattle.sm_plan_text.specs.declared.member.Member.TheVariants as members;
 
 use crate::cursor::id;
@@ -35,10 +39,13 @@ fn add_server(
     servers: &mut Servers,
     faults: &mut Faults,
 ) -> Result<(), AllocError>
-    ensures rows { OnOk result (map server_row servers.new.rows.items ≡ map server_row servers.old.rows.items ++ server_in (view object.now) ∷ []) }
-    ensures names { OnOk result (servers.new.names ≡ insert_key bytes_eq servers.old.names (text_in members.Name (view object.now))) }
+    ensures rows { OnOk result (map server_row servers.new.rows.items
+        ≡ map server_row servers.old.rows.items ++ server_in (view object.now) ∷ []) }
+    ensures names { OnOk result (servers.new.names
+        ≡ insert_key bytes_eq servers.old.names (text_in members.Name (view object.now))) }
     ensures down { OnOk result (servers.new.down.items
-        ≡ (if flag_in members.Down (view object.now) then servers.old.down.items ++ id_of (length servers.old.rows.items) ∷ [] else servers.old.down.items)) }
+        ≡ (if flag_in members.Down (view object.now) then servers.old.down.items
+        ++ id_of (length servers.old.rows.items) ∷ [] else servers.old.down.items)) }
     ensures faults { OnOk result (faults.new.lowest
         ≡ noted faults.old.lowest (own_faults members.Servers (server_table servers.old.names) (view object.now))) }
 {
@@ -70,7 +77,8 @@ pub fn read_servers(
     ensures rows { IfOk result (λ servers. map server_row servers.rows.items ≡ map server_in (map view items.now)) }
     ensures names { IfOk result (λ servers. servers.names ≡ names_in (map view items.now)) }
     ensures down { IfOk result (λ servers. servers.down.items ≡ down_in (map view items.now)) }
-    ensures faults { OnOk result (faults.new.lowest ≡ noted faults.old.lowest (walked server_faults [] (map view items.now))) }
+    ensures faults { OnOk result (faults.new.lowest
+        ≡ noted faults.old.lowest (walked server_faults [] (map view items.now))) }
 {
     let mut servers = Servers {
         rows: Vec::with_capacity(alloc, items.len())?,
@@ -122,8 +130,12 @@ fn add_cells(
     cells: &mut Vec<NamedCell>,
     faults: &mut Faults,
 ) -> Result<(), AllocError>
-    ensures cells { OnOk result (cells.new.items ≡ cells.old.items ++ map (named_cell cursor.now.scope.servers.now shard) (entries_in members.Cells (view cursor.now.tree.now))) }
-    ensures faults { OnOk result (faults.new.lowest ≡ noted faults.old.lowest (walked (cell_faults cursor.now.scope.servers.now) [] (entries_in members.Cells (view cursor.now.tree.now)))) }
+    ensures cells { OnOk result (cells.new.items
+        ≡ cells.old.items ++ map (named_cell cursor.now.scope.servers.now shard)
+        (entries_in members.Cells (view cursor.now.tree.now))) }
+    ensures faults { OnOk result (faults.new.lowest
+        ≡ noted faults.old.lowest (walked (cell_faults cursor.now.scope.servers.now) []
+        (entries_in members.Cells (view cursor.now.tree.now)))) }
 {
     let items = cursor.entries(Member::Cells);
     for tree in items {
@@ -146,7 +158,8 @@ fn note_shard(
     faults: &mut Faults,
 ) -> Result<(), AllocError>
     ensures { OnOk result (faults.new.lowest ≡ noted faults.old.lowest
-        (own_faults cursor.now.member (shard_table cursor.now.scope.servers.now cursor.now.scope.shards.now most_cells (view cursor.now.tree.now)) (view cursor.now.tree.now))) }
+        (own_faults cursor.now.member (shard_table cursor.now.scope.servers.now cursor.now.scope.shards.now
+        most_cells (view cursor.now.tree.now)) (view cursor.now.tree.now))) }
 {
     let rules = [
         Rule::One(Member::Name, Form::NewShard),
@@ -169,12 +182,17 @@ fn add_shard(
     shards: &mut Shards,
     faults: &mut Faults,
 ) -> Result<(), AllocError>
-    ensures rows { OnOk result (map shard_row shards.new.rows.items ≡ map shard_row shards.old.rows.items ++ shard_in (view object.now) ∷ []) }
-    ensures names { OnOk result (shards.new.names ≡ insert_key bytes_eq shards.old.names (text_in members.Name (view object.now))) }
-    ensures listed { OnOk result (shards.new.listed.items ≡ shards.old.listed.items ++ listed_in servers.now (view object.now) ∷ []) }
-    ensures cells { OnOk result (shards.new.cells.items ≡ shards.old.cells.items ++ cells_of_shard servers.now (length shards.old.rows.items, view object.now)) }
+    ensures rows { OnOk result (map shard_row shards.new.rows.items
+        ≡ map shard_row shards.old.rows.items ++ shard_in (view object.now) ∷ []) }
+    ensures names { OnOk result (shards.new.names
+        ≡ insert_key bytes_eq shards.old.names (text_in members.Name (view object.now))) }
+    ensures listed { OnOk result (shards.new.listed.items
+        ≡ shards.old.listed.items ++ listed_in servers.now (view object.now) ∷ []) }
+    ensures cells { OnOk result (shards.new.cells.items
+        ≡ shards.old.cells.items ++ cells_of_shard servers.now (length shards.old.rows.items, view object.now)) }
     ensures faults { OnOk result (faults.new.lowest
-        ≡ noted faults.old.lowest (faults_of_shard servers.now shards.old.names (length shards.old.cells.items) (view object.now))) }
+        ≡ noted faults.old.lowest (faults_of_shard servers.now shards.old.names (length shards.old.cells.items)
+        (view object.now))) }
 {
     let most_cells = MOST_CELLS.saturating_sub(shards.cells.len());
     let cursor = Cursor::new(alloc, object, Member::Shards, &shards.names, servers);
@@ -206,7 +224,8 @@ pub fn read_shards(
     ensures names { IfOk result (λ shards. shards.names ≡ names_in (map view items.now)) }
     ensures listed { IfOk result (λ shards. shards.listed.items ≡ map (listed_in servers.now) (map view items.now)) }
     ensures cells { IfOk result (λ shards. shards.cells.items ≡ cells_in servers.now (map view items.now)) }
-    ensures faults { OnOk result (faults.new.lowest ≡ noted faults.old.lowest (walked (shard_faults servers.now) [] (map view items.now))) }
+    ensures faults { OnOk result (faults.new.lowest
+        ≡ noted faults.old.lowest (walked (shard_faults servers.now) [] (map view items.now))) }
 {
     let mut shards = Shards {
         rows: Vec::with_capacity(alloc, items.len())?,

@@ -1,8 +1,11 @@
 //! Rules for the members of an object, and the faults of one that breaks them.
 ghost use Rattle.std.specs.Prelude.{◌≡◌, map, option_map, IfOk, OnOk};
 ghost use Rattle.std.specs.List.{flat_map, cons_option};
-ghost use Rattle.sm_plan_text.specs.Words.{view, members_view, as_number, text_of, noted, is_name, own_faults, row_of, id_in, number_in, number_or};
-ghost use Rattle.sm_plan_text.specs.Tables.{one, maybe, whole, known, texts_found, has_double_key, is_among, has_unknown_member, object_faults, row_faults, value_faults, entry_faults, by_word, text, list, keyed};
+ghost use Rattle.sm_plan_text.specs.Words.{view, members_view, as_number, text_of, noted, is_name, own_faults, row_of};
+ghost use Rattle.sm_plan_text.specs.Words.{id_in, number_in, number_or};
+ghost use Rattle.sm_plan_text.specs.Tables.{one, maybe, whole, known, texts_found, has_double_key, is_among};
+ghost use Rattle.sm_plan_text.specs.Tables.{has_unknown_member, object_faults, row_faults, value_faults, entry_faults};
+ghost use Rattle.sm_plan_text.specs.Tables.{by_word, text, list, keyed};
 ghost use Rattle.sm_plan_text.specs.Rules.{has_form, number_faults, want_of, member_of};
 
 use crate::cursor::{Scope, after_of, id, items_of, role_of, state_of};
@@ -107,7 +110,8 @@ fn note_known(value: &Tree<'_>, member: Member, names: &Names, faults: &mut Faul
 }
 
 fn note_all_known(items: &[Tree<'_>], member: Member, names: &Names, faults: &mut Faults)
-    ensures { faults.new.lowest ≡ noted faults.old.lowest (flat_map (entry_faults member names.now) (map view items.now)) }
+    ensures { faults.new.lowest ≡ noted faults.old.lowest
+        (flat_map (entry_faults member names.now) (map view items.now)) }
 {
     for item in items {
         note_known(item, member, names, faults);
@@ -123,13 +127,15 @@ fn has_rule(key: &str, rules: &[Rule]) -> bool
 
 /// Tells whether the key is the word, or a member with a rule.
 fn is_known(key: &str, word: Option<Member>, rules: &[Rule]) -> bool
-    ensures { result ≡ is_among (cons_option (option_map text_of word) (map (λ rule. text_of (member_of rule)) rules.now)) key.now }
+    ensures { result ≡ is_among (cons_option (option_map text_of word)
+        (map (λ rule. text_of (member_of rule)) rules.now)) key.now }
 {
     word.is_some_and(|word| key == word.text()) || has_rule(key, rules)
 }
 
 fn has_unknown(members: &[(&str, Tree<'_>)], word: Option<Member>, rules: &[Rule]) -> bool
-    ensures { result ≡ has_unknown_member (cons_option (option_map text_of word) (map (λ rule. text_of (member_of rule)) rules.now)) (members_view members.now) }
+    ensures { result ≡ has_unknown_member (cons_option (option_map text_of word)
+        (map (λ rule. text_of (member_of rule)) rules.now)) (members_view members.now) }
 {
     members.iter().any(|pair| !is_known(pair.0, word, rules))
 }
@@ -140,7 +146,8 @@ fn key_of<'t>(
     entry: &Tree<'t>,
     members: &[Member],
 ) -> Result<Option<Vec<&'t str>>, AllocError>
-    ensures { IfOk result (λ key. option_map (λ texts. map (λ s. s.now) texts.items) key ≡ texts_found members.now (view entry.now)) }
+    ensures { IfOk result (λ key. option_map (λ texts. map (λ s. s.now) texts.items) key
+        ≡ texts_found members.now (view entry.now)) }
 {
     let mut texts = Vec::with_capacity(alloc, members.len())?;
     for member in members {
@@ -174,7 +181,8 @@ fn has_double_key(
 /// Each call notes what is wrong with the value at the cursor, which is to be what the call's name and arguments say.
 impl<'p, 't> Cursor<'p, 't> {
     fn note_number(&self, form: Form, faults: &mut Faults)
-        ensures { faults.new.lowest ≡ noted faults.old.lowest (number_faults self.now.scope form self.now.member (as_number (view self.now.tree.now))) }
+        ensures { faults.new.lowest ≡ noted faults.old.lowest
+            (number_faults self.now.scope form self.now.member (as_number (view self.now.tree.now))) }
     {
         let member = self.member;
         if !self.tree.is_number() {
@@ -191,7 +199,8 @@ impl<'p, 't> Cursor<'p, 't> {
     }
 
     fn note_text(&self, form: Form, faults: &mut Faults)
-        ensures { faults.new.lowest ≡ noted faults.old.lowest (value_faults self.now.member (text (has_form self.now.scope form)) (view self.now.tree.now)) }
+        ensures { faults.new.lowest ≡ noted faults.old.lowest
+            (value_faults self.now.member (text (has_form self.now.scope form)) (view self.now.tree.now)) }
     {
         let member = self.member;
         match self.tree.as_str() {
@@ -202,7 +211,8 @@ impl<'p, 't> Cursor<'p, 't> {
 
     #[tactic(auto, using(crate::proofs::ObjectLemmas::length_entries))]
     fn note_list(&self, limit: usize, faults: &mut Faults)
-        ensures { faults.new.lowest ≡ noted faults.old.lowest (value_faults self.now.member (list limit) (view self.now.tree.now)) }
+        ensures { faults.new.lowest ≡ noted faults.old.lowest
+            (value_faults self.now.member (list limit) (view self.now.tree.now)) }
     {
         let member = self.member;
         match self.tree.as_array() {
@@ -214,7 +224,8 @@ impl<'p, 't> Cursor<'p, 't> {
 
     #[tactic(auto, using(crate::proofs::WalkLemmas::noted_append))]
     fn note_keyed(&self, key: &[Member], faults: &mut Faults) -> Result<(), AllocError>
-        ensures { OnOk result (faults.new.lowest ≡ noted faults.old.lowest (value_faults self.now.member (keyed MOST_RIGHTS key.now) (view self.now.tree.now))) }
+        ensures { OnOk result (faults.new.lowest ≡ noted faults.old.lowest
+            (value_faults self.now.member (keyed MOST_RIGHTS key.now) (view self.now.tree.now))) }
     {
         let member = self.member;
         self.note_list(MOST_RIGHTS, faults);
@@ -225,7 +236,8 @@ impl<'p, 't> Cursor<'p, 't> {
 
     #[tactic(auto, using(crate::proofs::WalkLemmas::noted_append))]
     fn note_value(&self, form: Form, faults: &mut Faults) -> Result<(), AllocError>
-        ensures { OnOk result (faults.new.lowest ≡ noted faults.old.lowest (value_faults self.now.member (want_of self.now.scope form) (view self.now.tree.now))) }
+        ensures { OnOk result (faults.new.lowest ≡ noted faults.old.lowest
+            (value_faults self.now.member (want_of self.now.scope form) (view self.now.tree.now))) }
     {
         let (tree, member, scope) = (self.tree, self.member, self.scope);
         match form {
@@ -253,7 +265,8 @@ impl<'p, 't> Cursor<'p, 't> {
 
     /// Notes the faults of one member of an object.
     pub fn note_row(&self, rule: &Rule, faults: &mut Faults) -> Result<(), AllocError>
-        ensures { OnOk result (faults.new.lowest ≡ noted faults.old.lowest (row_faults (view self.now.tree.now) (row_of self.now.scope rule.now))) }
+        ensures { OnOk result (faults.new.lowest ≡ noted faults.old.lowest
+            (row_faults (view self.now.tree.now) (row_of self.now.scope rule.now))) }
     {
         let (Rule::One(member, form) | Rule::Maybe(member, form)) = *rule;
         if let Some(tree) = self.find(member) {
@@ -273,7 +286,8 @@ impl<'p, 't> Cursor<'p, 't> {
     /// Notes the faults of the members of an object.
     fn note_rows(&self, rules: &[Rule], faults: &mut Faults) -> Result<(), AllocError>
         ensures { OnOk result (faults.new.lowest
-            ≡ noted faults.old.lowest (flat_map (row_faults (view self.now.tree.now)) (map (row_of self.now.scope) rules.now))) }
+            ≡ noted faults.old.lowest (flat_map (row_faults (view self.now.tree.now))
+            (map (row_of self.now.scope) rules.now))) }
     {
         for rule in rules {
             self.note_row(rule, faults)?;
@@ -284,7 +298,8 @@ impl<'p, 't> Cursor<'p, 't> {
     /// Notes a fault unless it is an object that has no members beside its word and those with a rule.
     pub fn note_unknown(&self, word: Option<Member>, rules: &[Rule], faults: &mut Faults)
         ensures { faults.new.lowest ≡ noted faults.old.lowest
-            (object_faults self.now.member (cons_option (option_map text_of word) (map (λ rule. text_of (member_of rule)) rules.now)) (view self.now.tree.now)) }
+            (object_faults self.now.member (cons_option (option_map text_of word)
+            (map (λ rule. text_of (member_of rule)) rules.now)) (view self.now.tree.now)) }
     {
         let member = self.member;
         match self.tree.as_object() {
@@ -296,7 +311,8 @@ impl<'p, 't> Cursor<'p, 't> {
     /// Notes the faults of an object with these members, without those inside its members.
     pub fn note_own(&self, rules: &[Rule], faults: &mut Faults) -> Result<(), AllocError>
         ensures { OnOk result (faults.new.lowest
-            ≡ noted faults.old.lowest (own_faults self.now.member (map (row_of self.now.scope) rules.now) (view self.now.tree.now))) }
+            ≡ noted faults.old.lowest (own_faults self.now.member (map (row_of self.now.scope) rules.now)
+            (view self.now.tree.now))) }
     {
         self.note_unknown(None, rules, faults);
         self.note_rows(rules, faults)
@@ -311,7 +327,8 @@ impl<'p, 't> Cursor<'p, 't> {
         faults: &mut Faults,
     ) -> Result<(), AllocError>
         ensures { OnOk result (faults.new.lowest
-            ≡ noted faults.old.lowest (by_word self.now.member word (map (row_of self.now.scope)) (view self.now.tree.now) (option_map (λ rules. rules.now) rules.entry))) }
+            ≡ noted faults.old.lowest (by_word self.now.member word (map (row_of self.now.scope))
+            (view self.now.tree.now) (option_map (λ rules. rules.now) rules.entry))) }
     {
         let Some(rules) = rules else {
             let member = self.member;
@@ -328,7 +345,8 @@ impl<'p, 't> Cursor<'p, 't> {
 impl<'p, 't> Cursor<'p, 't> {
     fn take_id(&self, member: Member, names: &Names, faults: &mut Faults) -> u32
         ensures id { result ≡ id_in names.now member (view self.now.tree.now) }
-        ensures faults { faults.new.lowest ≡ noted faults.old.lowest (row_faults (view self.now.tree.now) (one member (known names.now))) }
+        ensures faults { faults.new.lowest ≡ noted faults.old.lowest
+            (row_faults (view self.now.tree.now) (one member (known names.now))) }
     {
         let Some(text) = self.find(member).and_then(Tree::as_str) else {
             faults.note(TextFault::Shape { member });
@@ -344,7 +362,8 @@ impl<'p, 't> Cursor<'p, 't> {
     /// Returns the shard that a member is to name.
     pub fn take_shard(&self, member: Member, faults: &mut Faults) -> ShardId
         ensures shard { result ≡ id_in self.now.scope.shards.now member (view self.now.tree.now) }
-        ensures faults { faults.new.lowest ≡ noted faults.old.lowest (row_faults (view self.now.tree.now) (one member (known self.now.scope.shards.now))) }
+        ensures faults { faults.new.lowest ≡ noted faults.old.lowest
+            (row_faults (view self.now.tree.now) (one member (known self.now.scope.shards.now))) }
     {
         ShardId::new(self.take_id(member, self.scope.shards, faults))
     }
@@ -352,7 +371,8 @@ impl<'p, 't> Cursor<'p, 't> {
     /// Returns the server that a member is to name.
     pub fn take_server(&self, member: Member, faults: &mut Faults) -> ServerId
         ensures server { result ≡ id_in self.now.scope.servers.now member (view self.now.tree.now) }
-        ensures faults { faults.new.lowest ≡ noted faults.old.lowest (row_faults (view self.now.tree.now) (one member (known self.now.scope.servers.now))) }
+        ensures faults { faults.new.lowest ≡ noted faults.old.lowest
+            (row_faults (view self.now.tree.now) (one member (known self.now.scope.servers.now))) }
     {
         ServerId::new(self.take_id(member, self.scope.servers, faults))
     }
@@ -366,7 +386,8 @@ impl<'p, 't> Cursor<'p, 't> {
         faults: &mut Faults,
     ) -> u32
         ensures number { result ≡ number_or default member limit (view self.now.tree.now) }
-        ensures faults { faults.new.lowest ≡ noted faults.old.lowest (row_faults (view self.now.tree.now) (maybe member (whole limit))) }
+        ensures faults { faults.new.lowest ≡ noted faults.old.lowest
+            (row_faults (view self.now.tree.now) (maybe member (whole limit))) }
     {
         let Some(tree) = self.find(member) else {
             return default;
@@ -386,7 +407,8 @@ impl<'p, 't> Cursor<'p, 't> {
     /// Returns the whole number up to a limit that a member is to be.
     pub fn take_number(&self, member: Member, limit: u32, faults: &mut Faults) -> u32
         ensures number { result ≡ number_in member limit (view self.now.tree.now) }
-        ensures faults { faults.new.lowest ≡ noted faults.old.lowest (row_faults (view self.now.tree.now) (one member (whole limit))) }
+        ensures faults { faults.new.lowest ≡ noted faults.old.lowest
+            (row_faults (view self.now.tree.now) (one member (whole limit))) }
     {
         let is_missing = self.find(member).is_none();
         let number = self.take_number_or(member, limit, 0, faults);

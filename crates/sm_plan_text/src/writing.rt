@@ -1,9 +1,15 @@
 //! Plans as JSON texts.
-ghost use Rattle.std.specs.Prelude.{◌≡◌, ◌<◌, ◌++◌, ◌∷◌, ℕ, Bool, List, length, map, All, IfOk, OnOk, Ok, if◌then◌else◌};
+ghost use Rattle.std.specs.Prelude.{◌≡◌, ◌<◌, ◌++◌, ◌∷◌, ℕ, Bool, List, length, map, All, IfOk, OnOk, Ok};
+ghost use Rattle.std.specs.Prelude.{if◌then◌else◌};
 ghost use Rattle.json.specs.Token.{key};
 ghost use Rattle.serde_json.specs.Data.{object};
-ghost use Rattle.sm_plan_text.specs.Words.{Data, Member, Setup, IsSetup, names_of_servers, names_of_shards, PlanModel, IsPlan, IsKnownPlan, IsKnownStream, IsKnownInstr, IsKnownParcel, IsKnownCrown, IsKnownCellRight, read_plan};
-ghost use Rattle.sm_plan_text.specs.PlanTexts.{name_data, whole_data, scalar_data, scalars_said, tokens_of, list_data, role_text, plain_text, lead_text, right_data, crown_data, room_data, spare_data, parcel_data, prepare_data, signal_data, instr_data, stream_data, has_retries, plan_data, plan_text, IsReadBack};
+ghost use Rattle.sm_plan_text.specs.Words.{Data, Member, Setup, IsSetup, names_of_servers, names_of_shards, PlanModel};
+ghost use Rattle.sm_plan_text.specs.Words.{IsPlan, IsKnownPlan, IsKnownStream, IsKnownInstr, IsKnownParcel};
+ghost use Rattle.sm_plan_text.specs.Words.{IsKnownCrown, IsKnownCellRight, read_plan};
+ghost use Rattle.sm_plan_text.specs.PlanTexts.{name_data, whole_data, scalar_data, scalars_said, tokens_of, list_data};
+ghost use Rattle.sm_plan_text.specs.PlanTexts.{role_text, plain_text, lead_text, right_data, crown_data, room_data};
+ghost use Rattle.sm_plan_text.specs.PlanTexts.{spare_data, parcel_data, prepare_data, signal_data, instr_data};
+ghost use Rattle.sm_plan_text.specs.PlanTexts.{stream_data, has_retries, plan_data, plan_text, IsReadBack};
 
 use self::Scalar::{Null, Number, Text};
 use sm_placement::{Config, Lead};
@@ -378,12 +384,14 @@ fn read_back(config: &Config, plan: &Plan)
     let _budget = plan.budget();
 }
 
-/// Writes a plan as compact JSON over the names of a configuration, without a line feed. Each object has all its members
-/// in the order of their bytes. A plan without retries is of format 1, and one with retries of format 2.
+/// Writes a plan as compact JSON over the names of a configuration, without a line feed. Each object has all its
+/// members in the order of their bytes. A plan without retries is of format 1, and one with retries of format 2.
 pub fn write_plan(alloc: Global, config: &Config, plan: &Plan) -> Result<Vec<u8>, AllocError>
     requires { IsKnownPlan (length config.now.shards) (length config.now.servers) plan.now }
-    ensures text { IfOk result (λ text. text.items ≡ plan_text (names_of_shards config.now) (names_of_servers config.now) plan.now) }
-    ensures reads_back { IfOk result (λ text. read_plan (names_of_shards config.now) (names_of_servers config.now) text.items ≡ Ok plan.now) }
+    ensures text { IfOk result (λ text. text.items
+        ≡ plan_text (names_of_shards config.now) (names_of_servers config.now) plan.now) }
+    ensures reads_back { IfOk result (λ text. read_plan (names_of_shards config.now)
+        (names_of_servers config.now) text.items ≡ Ok plan.now) }
 {
     read_back(config, plan);
     let mut out = json::Writer::new(Vec::new(alloc));
@@ -393,11 +401,15 @@ pub fn write_plan(alloc: Global, config: &Config, plan: &Plan) -> Result<Vec<u8>
 
 /// States that what is written for a plan is read as that plan: no fault is found in it, in whatever member it stands.
 pub fn written_plan_is_read()
-    ensures { (parent : Member) (setup : Setup) (p : PlanModel) → IsSetup setup → IsPlan p → IsKnownPlan (length setup.shards) (length setup.servers) p → IsReadBack parent (names_of_shards setup) (names_of_servers setup) p }
+    ensures { (parent : Member) (setup : Setup) (p : PlanModel) → IsSetup setup → IsPlan p
+        → IsKnownPlan (length setup.shards) (length setup.servers) p
+        → IsReadBack parent (names_of_shards setup) (names_of_servers setup) p }
 {}
 
 /// States that the text of a plan is read as that plan: its bytes, over the names of a configuration.
 pub fn plan_text_is_read()
-    ensures { (setup : Setup) (p : PlanModel) → IsSetup setup → IsPlan p → IsKnownPlan (length setup.shards) (length setup.servers) p
-        → read_plan (names_of_shards setup) (names_of_servers setup) (plan_text (names_of_shards setup) (names_of_servers setup) p) ≡ Ok p }
+    ensures { (setup : Setup) (p : PlanModel) → IsSetup setup → IsPlan p
+        → IsKnownPlan (length setup.shards) (length setup.servers) p
+        → read_plan (names_of_shards setup) (names_of_servers setup)
+        (plan_text (names_of_shards setup) (names_of_servers setup) p) ≡ Ok p }
 {}

@@ -1,5 +1,6 @@
 //! To which servers the replicas of a server go that is to be emptied.
-ghost use Rattle.std.specs.Prelude.{◌≡◌, ◌<◌, ◌+◌, ◌&&◌, ◌||◌, ◌==◌, ℕ, not, nat_le, nat_lt, true, None, All, MatchOption, IfOk, IfErr, OnOk, length, slice_index};
+ghost use Rattle.std.specs.Prelude.{◌≡◌, ◌<◌, ◌+◌, ◌&&◌, ◌||◌, ◌==◌, ℕ, not, nat_le, nat_lt, true, None, All};
+ghost use Rattle.std.specs.Prelude.{MatchOption, IfOk, IfErr, OnOk, length, slice_index};
 ghost use Rattle.std.specs.Bool.{MatchBool};
 ghost use Rattle.sm_server.specs.Cell.{is_absent};
 ghost use Rattle.sm_placement.specs.Layout.{place_of};
@@ -9,7 +10,8 @@ ghost use Rattle.sm_reservation.specs.Pool.{pool_hold};
 ghost use Rattle.sm_planner.specs.Basis.{basis_of, is_replica, move_load, IsMoveOf};
 ghost use Rattle.sm_planner.specs.Spread.{region_count, spread_of};
 ghost use Rattle.sm_planner.specs.Regions.{AreRegions, AreStayingRegions};
-ghost use Rattle.sm_planner.specs.Drain.{may_leave, first_stuck, drain_refusal, has_place, IsBestOf, AreStaying, IsRoomBeside, AreLeaving, IsStuck, AreDepartures, IsNoDrainFor};
+ghost use Rattle.sm_planner.specs.Drain.{may_leave, first_stuck, drain_refusal, has_place, IsBestOf, AreStaying};
+ghost use Rattle.sm_planner.specs.Drain.{IsRoomBeside, AreLeaving, IsStuck, AreDepartures, IsNoDrainFor};
 
 use crate::held::{has_absent, has_crown, has_secondary, is_absent, is_primary, is_secondary};
 use crate::marks::{Amounts, mark};
@@ -76,7 +78,8 @@ fn staying_regions(
     requires regions { AreRegions placement.now.setup regions.now }
     requires shard { shard < length placement.now.setup.shards }
     requires from { from < length placement.now.setup.servers }
-    ensures { IfOk result (λ kept. AreStayingRegions placement.now.setup (place_of placement.now) regions.now shard from kept.marks.items kept.count) }
+    ensures { IfOk result (λ kept. AreStayingRegions placement.now.setup
+        (place_of placement.now) regions.now shard from kept.marks.items kept.count) }
 {
     let config = placement.config();
     if config.shard(shard).spread <= 1 {
@@ -94,8 +97,12 @@ fn staying_regions(
 fn is_spread(placement: &Placement, regions: &[u32], staying: &Occupied, leaving: &Move) -> bool
     requires leaving { IsMoveOf placement.now.setup leaving.now }
     requires regions { AreRegions placement.now.setup regions.now }
-    requires staying { AreStayingRegions placement.now.setup (place_of placement.now) regions.now leaving.now.shard leaving.now.from staying.now.marks.items staying.now.count }
-    ensures { result ≡ nat_le (spread_of placement.now.setup leaving.now.shard) (region_count placement.now.setup (λ w. (w == leaving.now.to) || (is_replica ((place_of placement.now).cells leaving.now.shard w) && not (w == leaving.now.from)))) }
+    requires staying { AreStayingRegions placement.now.setup
+        (place_of placement.now) regions.now leaving.now.shard leaving.now.from staying.now.marks.items
+        staying.now.count }
+    ensures { result ≡ nat_le (spread_of placement.now.setup leaving.now.shard)
+        (region_count placement.now.setup (λ w. (w == leaving.now.to) ||
+        (is_replica ((place_of placement.now).cells leaving.now.shard w) && not (w == leaving.now.from)))) }
 {
     let config = placement.config();
     let spread = config.shard(leaving.shard).spread;
@@ -111,7 +118,11 @@ fn is_spread(placement: &Placement, regions: &[u32], staying: &Occupied, leaving
 /// has room for it.
 fn is_open(placement: &Placement, pool: &Pool, room: &Amounts, leaving: &Move) -> bool
     requires { IsMoveOf placement.now.setup leaving.now }
-    ensures { result ≡ (not (leaving.now.to == leaving.now.from) && (not ((place_of placement.now).down leaving.now.to) && (is_absent ((place_of placement.now).cells leaving.now.shard leaving.now.to) && (is_cell PlainCell.Absent ((pool_hold pool.now).cells leaving.now.shard leaving.now.to) && nat_le (move_load placement.now.setup leaving.now) (slice_index room.now leaving.now.to))))) }
+    ensures { result ≡ (not (leaving.now.to == leaving.now.from) &&
+        (not ((place_of placement.now).down leaving.now.to) &&
+        (is_absent ((place_of placement.now).cells leaving.now.shard leaving.now.to) &&
+        (is_cell PlainCell.Absent ((pool_hold pool.now).cells leaving.now.shard leaving.now.to) && nat_le
+        (move_load placement.now.setup leaving.now) (slice_index room.now leaving.now.to))))) }
 {
     let Move { shard, from, to } = *leaving;
     to != from
@@ -132,15 +143,19 @@ fn may_take(
 ) -> bool
     requires leaving { IsMoveOf placement.now.setup leaving.now }
     requires regions { AreRegions placement.now.setup regions.now }
-    requires staying { AreStayingRegions placement.now.setup (place_of placement.now) regions.now leaving.now.shard leaving.now.from staying.now.marks.items staying.now.count }
-    ensures { result ≡ has_place (basis_of placement.now pool.now) leaving.now.from (slice_index room.now) leaving.now.shard leaving.now.to }
+    requires staying { AreStayingRegions placement.now.setup
+        (place_of placement.now) regions.now leaving.now.shard leaving.now.from staying.now.marks.items
+        staying.now.count }
+    ensures { result ≡ has_place (basis_of placement.now pool.now) leaving.now.from
+        (slice_index room.now) leaving.now.shard leaving.now.to }
 {
     is_open(placement, pool, room, leaving) && is_spread(placement, regions, staying, leaving)
 }
 
 /// Tells whether there is no target yet, or the server has more room left than it.
 fn is_better(room: &Amounts, best: &Option<ServerId>, to: ServerId) -> bool
-    ensures { MatchOption best.now (result ≡ true) (λ u. result ≡ nat_lt (slice_index room.now u) (slice_index room.now to)) }
+    ensures { MatchOption best.now (result ≡ true)
+        (λ u. result ≡ nat_lt (slice_index room.now u) (slice_index room.now to)) }
 {
     match best {
         Some(best) => room.at(*best) < room.at(to),
@@ -161,9 +176,13 @@ fn target_with(
 ) -> Option<ServerId>
     requires leaving { IsMoveOf placement.now.setup leaving.now }
     requires regions { AreRegions placement.now.setup regions.now }
-    requires staying { AreStayingRegions placement.now.setup (place_of placement.now) regions.now leaving.now.shard leaving.now.from staying.now.marks.items staying.now.count }
-    requires best { IsBestOf (has_place (basis_of placement.now pool.now) leaving.now.from (slice_index room.now) leaving.now.shard) (slice_index room.now) leaving.now.to best }
-    ensures { IsBestOf (has_place (basis_of placement.now pool.now) leaving.now.from (slice_index room.now) leaving.now.shard) (slice_index room.now) (leaving.now.to + 1) result }
+    requires staying { AreStayingRegions placement.now.setup
+        (place_of placement.now) regions.now leaving.now.shard leaving.now.from staying.now.marks.items
+        staying.now.count }
+    requires best { IsBestOf (has_place (basis_of placement.now pool.now) leaving.now.from
+        (slice_index room.now) leaving.now.shard) (slice_index room.now) leaving.now.to best }
+    ensures { IsBestOf (has_place (basis_of placement.now pool.now) leaving.now.from
+        (slice_index room.now) leaving.now.shard) (slice_index room.now) (leaving.now.to + 1) result }
 {
     let to = leaving.to;
     if is_better(room, &best, to) && may_take(placement, pool, room, regions, staying, leaving) {
@@ -186,7 +205,8 @@ fn target(
     requires regions { AreRegions placement.now.setup regions.now }
     requires shard { shard < length placement.now.setup.shards }
     requires from { from < length placement.now.setup.servers }
-    ensures { IfOk result (IsBestOf (has_place (basis_of placement.now pool.now) from (slice_index room.now) shard) (slice_index room.now) (length placement.now.setup.servers)) }
+    ensures { IfOk result (IsBestOf (has_place (basis_of placement.now pool.now) from (slice_index room.now) shard)
+        (slice_index room.now) (length placement.now.setup.servers)) }
 {
     let staying = staying_regions(alloc, placement, regions, shard, from)?;
     let mut best = None;
@@ -217,7 +237,9 @@ fn put_departure(
     requires room { IsRoomBeside (basis_of placement.now pool.now) moves.old.items room.old }
     ensures known { OnOk result (All (IsMoveOf placement.now.setup) moves.new.items) }
     ensures room { OnOk result (IsRoomBeside (basis_of placement.now pool.now) moves.new.items room.new) }
-    ensures left { IfOk result (λ goes. MatchBool goes (AreLeaving (basis_of placement.now pool.now) leaving.1 (leaving.0 + 1) moves.new.items) (IsStuck (basis_of placement.now pool.now) leaving.1 leaving.0 moves.new.items)) }
+    ensures left { IfOk result (λ goes. MatchBool goes
+        (AreLeaving (basis_of placement.now pool.now) leaving.1 (leaving.0 + 1) moves.new.items)
+        (IsStuck (basis_of placement.now pool.now) leaving.1 leaving.0 moves.new.items)) }
 {
     let (shard, from) = leaving;
     if is_absent(placement, shard, from) {
@@ -250,7 +272,10 @@ fn targets_of(
     requires { server < length placement.now.setup.servers }
     ensures setup { OnOk result (IsSetup placement.now.setup) }
     ensures known { IfOk result (λ leaving. All (IsMoveOf placement.now.setup) leaving.moves.items) }
-    ensures leaving { IfOk result (λ leaving. MatchOption leaving.stuck (AreLeaving (basis_of placement.now pool.now) server (length placement.now.setup.shards) leaving.moves.items) (λ s. IsStuck (basis_of placement.now pool.now) server s leaving.moves.items)) }
+    ensures leaving { IfOk result (λ leaving. MatchOption leaving.stuck
+        (AreLeaving (basis_of placement.now pool.now) server
+        (length placement.now.setup.shards) leaving.moves.items)
+        (λ s. IsStuck (basis_of placement.now pool.now) server s leaving.moves.items)) }
 {
     let config = placement.config();
     let regions = regions_of(alloc, config)?;
@@ -281,7 +306,8 @@ pub(crate) fn leaving(
     ensures known { IfOk result (λ moves. All (IsMoveOf placement.now.setup) moves.items) }
     ensures leaving { IfOk result (λ moves. AreDepartures (basis_of placement.now pool.now) server moves.items) }
     ensures refused { IfErr result (IsNoDrainFor (basis_of placement.now pool.now) server) }
-    ensures early { IfErr result (λ why. why ≡ NoPlan.NoMemory → drain_refusal (basis_of placement.now pool.now) server ≡ None) }
+    ensures early { IfErr result (λ why. why ≡ NoPlan.NoMemory
+        → drain_refusal (basis_of placement.now pool.now) server ≡ None) }
 {
     if let Some(shard) = first_stuck(placement, pool, server) {
         return Err(NoPlan::Held { shard, server });

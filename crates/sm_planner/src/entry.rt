@@ -21,8 +21,10 @@ pub fn moves(alloc: Global, machine: &Machine, moves: &[Move]) -> Result<Checked
     ensures admitted { IfOk result (λ checked. MayStartNow machine.now checked.plan) }
     ensures plan { IfOk result (λ checked. IsPlanOf (basis_now machine.now) moves.now checked.plan) }
     ensures refused { IfErr result (IsNoPlanFor (basis_now machine.now) moves.now) }
-    ensures memory { (plan : PlanModel) → IsPlanOf (basis_now machine.now) moves.now plan → IfErr result (λ why. why ≡ NoPlan.NoMemory) }
-    ensures early { IfErr result (λ why. why ≡ NoPlan.NoMemory → first_refused (basis_now machine.now) moves.now ≡ None) }
+    ensures memory { (plan : PlanModel) → IsPlanOf (basis_now machine.now) moves.now plan
+        → IfErr result (λ why. why ≡ NoPlan.NoMemory) }
+    ensures early { IfErr result (λ why. why ≡ NoPlan.NoMemory
+        → first_refused (basis_now machine.now) moves.now ≡ None) }
 {
     machine.is_reached();
     moves_at(alloc, machine.placement(), machine.pool(), moves)
@@ -35,7 +37,8 @@ pub fn drain(alloc: Global, machine: &Machine, server: ServerId) -> Result<Check
     ensures admitted { IfOk result (λ checked. MayStartNow machine.now checked.plan) }
     ensures plan { IfOk result (λ checked. IsDrainPlan (basis_now machine.now) server checked.plan) }
     ensures refused { IfErr result (IsNoDrainFor (basis_now machine.now) server) }
-    ensures memory { (plan : PlanModel) → IsDrainPlan (basis_now machine.now) server plan → IfErr result (λ why. why ≡ NoPlan.NoMemory) }
+    ensures memory { (plan : PlanModel) → IsDrainPlan (basis_now machine.now) server plan
+        → IfErr result (λ why. why ≡ NoPlan.NoMemory) }
     ensures early { IfErr result (λ why. why ≡ NoPlan.NoMemory → drain_refusal (basis_now machine.now) server ≡ None) }
 {
     machine.is_reached();

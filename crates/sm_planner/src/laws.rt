@@ -1,5 +1,6 @@
 //! Laws of the rule's plans.
-ghost use Rattle.sm_planner.specs.Laws.{PlansAreOrderly, PlansAreUsable, PlansAreUsableAt, PlansMove, PlansSpread, RuleAnswersOnce, DrainsEmpty, DrainsHavePlans};
+ghost use Rattle.sm_planner.specs.Laws.{PlansAreOrderly, PlansAreUsable, PlansAreUsableAt, PlansMove, PlansSpread};
+ghost use Rattle.sm_planner.specs.Laws.{RuleAnswersOnce, DrainsEmpty, DrainsHavePlans};
 
 /// States that the plan of moves in any order keeps its budget, uses each signal once, and has an order of its steps: a
 /// signal goes from a move to one that is placed later.

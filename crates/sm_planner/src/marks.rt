@@ -1,5 +1,6 @@
 //! Marks and amounts by number: nothing is marked beyond a list, and there is none of anything.
-ghost use Rattle.std.specs.Prelude.{◌≡◌, ◌<◌, ◌+◌, ◌-◌, ◌^◌, false, All, IfOk, length, map, slice_index, slice_index_or, slice_set};
+ghost use Rattle.std.specs.Prelude.{◌≡◌, ◌<◌, ◌+◌, ◌-◌, ◌^◌, false, All, IfOk, length, map, slice_index};
+ghost use Rattle.std.specs.Prelude.{slice_index_or, slice_set};
 ghost use Rattle.std.specs.List.{range_with_len};
 ghost use Rattle.sm_placement.specs.Setup.{IsSetup};
 ghost use Rattle.sm_reservation.specs.Pool.{pool_hold};
@@ -58,7 +59,8 @@ impl Amounts {
         pool: &Pool,
     ) -> Result<Amounts, AllocError>
         ensures small { IfOk result (λ amounts. All (λ x. x < 2 ^ 64) amounts) }
-        ensures room { IfOk result (λ amounts. amounts ≡ map (pool_hold pool.now).room (range_with_len 0 (length config.now.servers))) }
+        ensures room { IfOk result (λ amounts. amounts
+            ≡ map (pool_hold pool.now).room (range_with_len 0 (length config.now.servers))) }
     {
         let mut by_server = Vec::with_capacity(alloc, config.server_count() as usize)?;
         for number in 0..config.server_count() {

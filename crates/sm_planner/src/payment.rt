@@ -83,7 +83,8 @@ pub(crate) fn stretches(
 ) -> Result<Vec<Placed>, AllocError>
     requires { All (IsMoveOf placement.now.setup) order.now }
     ensures setup { OnOk result (IsSetup placement.now.setup) }
-    ensures placed { IfOk result (λ placed. placed.items ≡ map (stretch (basis_of placement.now pool.now) order.now) (range_with_len 0 (length order.now))) }
+    ensures placed { IfOk result (λ placed. placed.items
+        ≡ map (stretch (basis_of placement.now pool.now) order.now) (range_with_len 0 (length order.now))) }
 {
     let config = placement.config();
     let mut taken = Amounts::none(alloc, config)?;
@@ -136,7 +137,8 @@ fn put_handed(order: &[Placed], k: usize, signals: &mut Vec<HandedRoom>) -> Resu
 /// Returns the signals in their order.
 pub(crate) fn signals(alloc: Global, order: &[Placed]) -> Result<Vec<HandedRoom>, AllocError>
     requires { IsFreedBehindPool order.now }
-    ensures { IfOk result (λ signals. signals.items ≡ flat_map (handed_to order.now) (range_with_len 0 (length order.now))) }
+    ensures { IfOk result (λ signals. signals.items
+        ≡ flat_map (handed_to order.now) (range_with_len 0 (length order.now))) }
 {
     let mut signals = Vec::new(alloc);
     for k in 0..order.len() {

@@ -1,5 +1,6 @@
 //! The order in which moves are placed.
-ghost use Rattle.std.specs.Prelude.{◌≡◌, ◌<◌, ◌≤◌, ◌+◌, ◌^◌, ◌&&◌, ℕ, true, nat_le, All, IfOk, OnOk, IfSome, length, ◌++◌, ◌∷◌, [], false, slice_index, slice_index_or, slice_set};
+ghost use Rattle.std.specs.Prelude.{◌≡◌, ◌<◌, ◌≤◌, ◌+◌, ◌^◌, ◌&&◌, ℕ, true, nat_le, All, IfOk, OnOk, IfSome, length};
+ghost use Rattle.std.specs.Prelude.{◌++◌, ◌∷◌, [], false, slice_index, slice_index_or, slice_set};
 ghost use Rattle.sm_placement.specs.Opening.{first_below};
 ghost use Rattle.sm_planner.specs.Basis.{basis_of, IsMoveOf, move_at, move_load};
 ghost use Rattle.sm_planner.specs.Placing.{IsPlacing, first_left};
@@ -81,7 +82,8 @@ impl Placing {
     /// Tells whether the move at a place of the list is not placed, and its load fits.
     fn is_next(&self, config: &Config, i: usize, wanted: &Move) -> bool
         requires { IsMoveOf config.now wanted.now }
-        ensures { result ≡ (is_left self.now.marks.items i && nat_le (move_load config.now wanted.now) (slice_index self.now.room wanted.now.to)) }
+        ensures { result ≡ (is_left self.now.marks.items i && nat_le (move_load config.now wanted.now)
+            (slice_index self.now.room wanted.now.to)) }
     {
         if is_marked(&self.marks, i) {
             return false;
@@ -98,8 +100,8 @@ impl Placing {
         }
     }
 
-    /// Returns the first move that is not placed and whose load fits. Those before a place of the list are known to be passed
-    /// over.
+    /// Returns the first move that is not placed and whose load fits. Those before a place of the list are known to be
+    /// passed over.
     fn first_fit(
         &self,
         config: &Config,
@@ -111,10 +113,12 @@ impl Placing {
         requires wide { length awaited.old ≡ length config.now.servers }
         requires within { start ≤ length moves.now }
         requires before { ArePassedOver config.now moves.now self.now.marks.items self.now.room awaited.old start }
-        ensures first { result ≡ first_below (length moves.now) (is_next config.now moves.now self.now.marks.items self.now.room) }
+        ensures first { result ≡ first_below (length moves.now)
+            (is_next config.now moves.now self.now.marks.items self.now.room) }
         ensures wide { length awaited.new ≡ length awaited.old }
         ensures within { IfSome result (λ i. i < length moves.now) }
-        ensures before { IfSome result (ArePassedOver config.now moves.now self.now.marks.items self.now.room awaited.new) }
+        ensures before { IfSome result (ArePassedOver config.now moves.now self.now.marks.items self.now.room
+            awaited.new) }
     {
         for i in start..moves.len() {
             let wanted = &moves[i];
@@ -192,8 +196,10 @@ pub(crate) fn place_all(
     moves: &[Move],
 ) -> Result<Placing, AllocError>
     requires { All (IsMoveOf placement.now.setup) moves.now }
-    ensures placing { IfOk result (λ placing. IsPlacing (basis_of placement.now pool.now) moves.now placing.placed.items) }
-    ensures left { IfOk result (λ placing. first_below (length moves.now) (is_left placing.marks.items) ≡ first_left moves.now placing.placed.items) }
+    ensures placing { IfOk result (λ placing. IsPlacing
+        (basis_of placement.now pool.now) moves.now placing.placed.items) }
+    ensures left { IfOk result (λ placing. first_below (length moves.now) (is_left placing.marks.items)
+        ≡ first_left moves.now placing.placed.items) }
     ensures few { IfOk result (λ placing. length placing.placed.items ≤ length moves.now) }
     ensures known { IfOk result (λ placing. All (λ i. i < length moves.now) placing.placed.items) }
 {

@@ -61,7 +61,8 @@ fn checked(alloc: Global, placement: &Placement, pool: &Pool, plan: Plan) -> Res
     requires { IsUsable (basis_of placement.now pool.now) plan }
     ensures plan { IfOk result (λ checked. checked.plan ≡ plan) }
     ensures setup { IfOk result (λ checked. checked.setup ≡ placement.now.setup) }
-    ensures admitted { IfOk result (λ checked. IsAdmitted (sizes_of placement.now.setup) (place_of placement.now) (pool_hold pool.now) checked.plan) }
+    ensures admitted { IfOk result (λ checked. IsAdmitted (sizes_of placement.now.setup) (place_of placement.now)
+        (pool_hold pool.now) checked.plan) }
     ensures memory { IfErr result (λ why. why ≡ NoPlan.NoMemory) }
 {
     match check(alloc, placement.config(), plan) {
@@ -82,10 +83,12 @@ pub(crate) fn moves_at(
     requires scene { HasScene (basis_of placement.now pool.now) }
     requires known { All (IsMoveOf placement.now.setup) moves.now }
     ensures setup { IfOk result (λ checked. checked.setup ≡ placement.now.setup) }
-    ensures admitted { IfOk result (λ checked. IsAdmitted (sizes_of placement.now.setup) (place_of placement.now) (pool_hold pool.now) checked.plan) }
+    ensures admitted { IfOk result (λ checked. IsAdmitted (sizes_of placement.now.setup) (place_of placement.now)
+        (pool_hold pool.now) checked.plan) }
     ensures plan { IfOk result (λ checked. IsPlanOf (basis_of placement.now pool.now) moves.now checked.plan) }
     ensures refused { IfErr result (IsNoPlanFor (basis_of placement.now pool.now) moves.now) }
-    ensures early { IfErr result (λ why. why ≡ NoPlan.NoMemory → first_refused (basis_of placement.now pool.now) moves.now ≡ None) }
+    ensures early { IfErr result (λ why. why ≡ NoPlan.NoMemory
+        → first_refused (basis_of placement.now pool.now) moves.now ≡ None) }
 {
     if let Some(why) = first_refused(placement, pool, moves) {
         return Err(why);
@@ -106,10 +109,12 @@ pub(crate) fn drain_at(
     requires scene { HasScene (basis_of placement.now pool.now) }
     requires server { server < length placement.now.setup.servers }
     ensures setup { IfOk result (λ checked. checked.setup ≡ placement.now.setup) }
-    ensures admitted { IfOk result (λ checked. IsAdmitted (sizes_of placement.now.setup) (place_of placement.now) (pool_hold pool.now) checked.plan) }
+    ensures admitted { IfOk result (λ checked. IsAdmitted (sizes_of placement.now.setup) (place_of placement.now)
+        (pool_hold pool.now) checked.plan) }
     ensures plan { IfOk result (λ checked. IsDrainPlan (basis_of placement.now pool.now) server checked.plan) }
     ensures refused { IfErr result (IsNoDrainFor (basis_of placement.now pool.now) server) }
-    ensures early { IfErr result (λ why. why ≡ NoPlan.NoMemory → drain_refusal (basis_of placement.now pool.now) server ≡ None) }
+    ensures early { IfErr result (λ why. why ≡ NoPlan.NoMemory
+        → drain_refusal (basis_of placement.now pool.now) server ≡ None) }
 {
     let moves = leaving(alloc, placement, pool, server)?;
     moves_at(alloc, placement, pool, &moves)

@@ -38,8 +38,8 @@ pub enum NoPlan {
         /// The server.
         server: ServerId,
     },
-    /// No move that is left fits, in the order in which the rule places them. The first of them goes to this server. Another order might
-    /// fit.
+    /// No move that is left fits, in the order in which the rule places them. The first of them goes to this server.
+    /// Another order might fit.
     #[error("{server} has too little room")]
     NoRoom {
         /// The server.

@@ -1,5 +1,6 @@
 //! The regions of servers by numbers, and in which of them replicas lie.
-ghost use Rattle.std.specs.Prelude.{◌≡◌, ◌<◌, ◌≤◌, ◌+◌, ◌^◌, ◌&&◌, ◌||◌, ◌==◌, ℕ, not, false, IfOk, length, slice_index, slice_index_or};
+ghost use Rattle.std.specs.Prelude.{◌≡◌, ◌<◌, ◌≤◌, ◌+◌, ◌^◌, ◌&&◌, ◌||◌, ◌==◌, ℕ, not, false, IfOk, length};
+ghost use Rattle.std.specs.Prelude.{slice_index, slice_index_or};
 ghost use Rattle.sm_placement.specs.Sums.{bit};
 ghost use Rattle.sm_planner.specs.Spread.{same_region};
 ghost use Rattle.sm_planner.specs.Regions.{IsRegionOf, AreRegions, IsOccupied};
@@ -58,8 +59,10 @@ impl Occupied {
         requires known { region < length self.old.marks.items }
         requires few { self.old.count + 1 < 2 ^ 32 }
         ensures wide { length self.new.marks.items ≡ length self.old.marks.items }
-        ensures marks { (r : ℕ) → slice_index_or self.new.marks.items r false ≡ ((is_there && (region == r)) || slice_index_or self.old.marks.items r false) }
-        ensures count { self.new.count ≡ self.old.count + bit (is_there && not (slice_index_or self.old.marks.items region false)) }
+        ensures marks { (r : ℕ) → slice_index_or self.new.marks.items r false
+            ≡ ((is_there && (region == r)) || slice_index_or self.old.marks.items r false) }
+        ensures count { self.new.count ≡ self.old.count + bit
+            (is_there && not (slice_index_or self.old.marks.items region false)) }
     {
         if is_there && !is_marked(&self.marks, region) {
             mark(&mut self.marks, region, true);
@@ -88,7 +91,8 @@ pub(crate) fn occupied_by(
     has: &[bool],
 ) -> Result<Occupied, AllocError>
     requires { AreRegions config.now regions.now }
-    ensures { IfOk result (λ occupied. IsOccupied config.now regions.now (λ v. slice_index_or has.now v false) occupied.marks.items occupied.count) }
+    ensures { IfOk result (λ occupied. IsOccupied config.now regions.now
+        (λ v. slice_index_or has.now v false) occupied.marks.items occupied.count) }
 {
     let marks = vec![in alloc; false; config.server_count() as usize]?;
     let mut occupied = Occupied { marks, count: 0 };

@@ -19,7 +19,8 @@ use std::alloc::{AllocError, Global};
 pub(crate) fn mark_replicas(placement: &Placement, shard: ShardId, has: &mut [bool])
     requires shard { shard < length placement.now.setup.shards }
     requires wide { length has.old ≡ length placement.now.setup.servers }
-    ensures { (v : ℕ) → v < length placement.now.setup.servers → slice_index_or has.new v false ≡ is_replica ((place_of placement.now).cells shard v) }
+    ensures { (v : ℕ) → v < length placement.now.setup.servers
+        → slice_index_or has.new v false ≡ is_replica ((place_of placement.now).cells shard v) }
 {
     for number in 0..placement.config().server_count() {
         let stands = is_replica(placement, shard, ServerId::new(number));
@@ -30,7 +31,8 @@ pub(crate) fn mark_replicas(placement: &Placement, shard: ShardId, has: &mut [bo
 /// Takes the marks of the servers away that a shard leaves.
 fn unmark_left(moves: &[Move], shard: ShardId, has: &mut [bool])
     requires { All (λ m. m.from < length has.old) moves.now }
-    ensures { (v : ℕ) → slice_index_or has.new v false ≡ (slice_index_or has.old v false && not (list_any (λ m. (m.shard == shard) && (m.from == v)) moves.now)) }
+    ensures { (v : ℕ) → slice_index_or has.new v false
+        ≡ (slice_index_or has.old v false && not (list_any (λ m. (m.shard == shard) && (m.from == v)) moves.now)) }
 {
     for wanted in moves {
         if wanted.shard == shard {
@@ -42,7 +44,8 @@ fn unmark_left(moves: &[Move], shard: ShardId, has: &mut [bool])
 /// Marks the servers to which a shard goes.
 fn mark_gained(moves: &[Move], shard: ShardId, has: &mut [bool])
     requires { All (λ m. m.to < length has.old) moves.now }
-    ensures { (v : ℕ) → slice_index_or has.new v false ≡ (list_any (λ m. (m.shard == shard) && (m.to == v)) moves.now || slice_index_or has.old v false) }
+    ensures { (v : ℕ) → slice_index_or has.new v false
+        ≡ (list_any (λ m. (m.shard == shard) && (m.to == v)) moves.now || slice_index_or has.old v false) }
 {
     for wanted in moves {
         if wanted.shard == shard {
@@ -56,7 +59,8 @@ fn mark_after(placement: &Placement, moves: &[Move], shard: ShardId, has: &mut [
     requires shard { shard < length placement.now.setup.shards }
     requires known { All (IsMoveOf placement.now.setup) moves.now }
     requires wide { length has.old ≡ length placement.now.setup.servers }
-    ensures { (v : ℕ) → v < length placement.now.setup.servers → slice_index_or has.new v false ≡ has_after (place_of placement.now) moves.now shard v }
+    ensures { (v : ℕ) → v < length placement.now.setup.servers
+        → slice_index_or has.new v false ≡ has_after (place_of placement.now) moves.now shard v }
 {
     mark_replicas(placement, shard, has);
     unmark_left(moves, shard, has);
@@ -84,7 +88,8 @@ fn holders_after(
 ) -> Result<Vec<bool>, AllocError>
     requires shard { shard < length placement.now.setup.shards }
     requires known { All (IsMoveOf placement.now.setup) moves.now }
-    ensures { IfOk result (λ has. (v : ℕ) → v < length placement.now.setup.servers → slice_index_or has.items v false ≡ has_after (place_of placement.now) moves.now shard v) }
+    ensures { IfOk result (λ has. (v : ℕ) → v < length placement.now.setup.servers
+        → slice_index_or has.items v false ≡ has_after (place_of placement.now) moves.now shard v) }
 {
     let mut has = vec![in alloc; false; placement.config().server_count() as usize]?;
     mark_after(placement, moves, shard, &mut has);
@@ -121,7 +126,8 @@ pub(crate) fn first_too_close(
     moves: &[Move],
 ) -> Result<Option<ShardId>, AllocError>
     requires { All (IsMoveOf placement.now.setup) moves.now }
-    ensures { IfOk result (λ shard. shard ≡ first_below (length placement.now.setup.shards) (is_too_close placement.now.setup (place_of placement.now) moves.now)) }
+    ensures { IfOk result (λ shard. shard ≡ first_below (length placement.now.setup.shards)
+        (is_too_close placement.now.setup (place_of placement.now) moves.now)) }
 {
     let config = placement.config();
     let regions = regions_of(alloc, config)?;

@@ -1,5 +1,6 @@
 //! The plan of moves that are placed in an order.
-ghost use Rattle.std.specs.Prelude.{◌≡◌, ◌<◌, ◌≤◌, ◌==◌, ◌^◌, ◌++◌, All, IfOk, OnOk, IfErr, length, map, filter, count_by};
+ghost use Rattle.std.specs.Prelude.{◌≡◌, ◌<◌, ◌≤◌, ◌==◌, ◌^◌, ◌++◌, All, IfOk, OnOk, IfErr, length, map, filter};
+ghost use Rattle.std.specs.Prelude.{count_by};
 ghost use Rattle.std.specs.List.{flat_map, range_with_len};
 ghost use Rattle.sm_placement.specs.Layout.{place_of};
 ghost use Rattle.sm_reservation.specs.InOrder.{in_order};
@@ -12,7 +13,9 @@ ghost use Rattle.sm_plan_code.specs.Plan.{IsPlan};
 ghost use Rattle.sm_planner.specs.Basis.{basis_of, IsMoveOf, move_at};
 ghost use Rattle.sm_planner.specs.Payment.{stream_of};
 ghost use Rattle.sm_planner.specs.Stretches.{IsGiven};
-ghost use Rattle.sm_planner.specs.Plan.{handing_over, copying, instructions, waits_of, posts_of, drafted_code, cells_needed, crowns_of, room_by, needs_by, holds_by, stream as stream_of_moves, handed_parcel, planned};
+ghost use Rattle.sm_planner.specs.Plan.{handing_over, copying, instructions, waits_of, posts_of, drafted_code};
+ghost use Rattle.sm_planner.specs.Plan.{cells_needed, crowns_of, room_by, needs_by, holds_by};
+ghost use Rattle.sm_planner.specs.Plan.{stream as stream_of_moves, handed_parcel, planned};
 ghost use Rattle.sm_planner.specs.Draft.{IsDraft, ArePayments};
 
 use crate::held::is_primary;
@@ -27,7 +30,8 @@ use sm_reservation::{CellRight, Crown, Lists, Parcel, ParcelFault, PlainCell, Po
 use sm_server::{Role, ServerId};
 use std::alloc::{AllocError, Global};
 
-/// Moves in the order in which they are placed, the stretches of room that they take and free, and the room that they hand on.
+/// Moves in the order in which they are placed, the stretches of room that they take and free, and the room that they
+/// hand on.
 pub(crate) struct Draft {
     pub(crate) moves: Vec<Move>,
     pub(crate) placed: Vec<Placed>,
@@ -55,7 +59,8 @@ fn put_handover(
     code: &mut Vec<Instr>,
 ) -> Result<(), AllocError>
     requires { IsMoveOf placement.now.setup wanted.now }
-    ensures { OnOk result (code.new.items ≡ code.old.items ++ handing_over ((place_of placement.now).listed wanted.now.shard) wanted.now) }
+    ensures { OnOk result (code.new.items ≡ code.old.items
+        ++ handing_over ((place_of placement.now).listed wanted.now.shard) wanted.now) }
 {
     let Move { shard, from, to } = *wanted;
     code.push(Instr::PrepareAdd {
@@ -153,7 +158,8 @@ fn put_code(
     requires place { k < length draft.now.moves.items }
     requires known { All (IsMoveOf placement.now.setup) draft.now.moves.items }
     requires few { length draft.now.signals.items ≤ MOST_SIGNALS }
-    ensures { OnOk result (code.new.items ≡ code.old.items ++ drafted_code (place_of placement.now) draft.now.moves.items draft.now.signals.items k) }
+    ensures { OnOk result (code.new.items ≡ code.old.items
+        ++ drafted_code (place_of placement.now) draft.now.moves.items draft.now.signals.items k) }
 {
     put_waits(&draft.signals, k, code)?;
     put_instructions(placement, &draft.moves[k], code)?;
@@ -228,7 +234,9 @@ fn code_of(
     requires places { All (λ k. k < length draft.now.moves.items) numbers.now }
     requires known { All (IsMoveOf placement.now.setup) draft.now.moves.items }
     requires few { length draft.now.signals.items ≤ MOST_SIGNALS }
-    ensures { IfOk result (λ code. code.items ≡ flat_map (drafted_code (place_of placement.now) draft.now.moves.items draft.now.signals.items) numbers.now) }
+    ensures { IfOk result (λ code. code.items
+        ≡ flat_map (drafted_code (place_of placement.now) draft.now.moves.items draft.now.signals.items)
+        numbers.now) }
 {
     let mut code = Vec::new(alloc);
     for k in numbers {
@@ -246,7 +254,8 @@ fn cells_of(
 ) -> Result<Vec<CellRight>, AllocError>
     requires places { All (λ k. k < length draft.now.moves.items) numbers.now }
     requires known { All (IsMoveOf placement.now.setup) draft.now.moves.items }
-    ensures { IfOk result (λ cells. cells.items ≡ flat_map (λ k. cells_needed (place_of placement.now) (move_at draft.now.moves.items k)) numbers.now) }
+    ensures { IfOk result (λ cells. cells.items
+        ≡ flat_map (λ k. cells_needed (place_of placement.now) (move_at draft.now.moves.items k)) numbers.now) }
 {
     let mut cells = Vec::new(alloc);
     for k in numbers {
@@ -264,7 +273,8 @@ fn crowns_of(
 ) -> Result<Vec<Crown>, AllocError>
     requires places { All (λ k. k < length draft.now.moves.items) numbers.now }
     requires known { All (IsMoveOf placement.now.setup) draft.now.moves.items }
-    ensures { IfOk result (λ crowns. crowns.items ≡ flat_map (λ k. crowns_of (place_of placement.now) (move_at draft.now.moves.items k)) numbers.now) }
+    ensures { IfOk result (λ crowns. crowns.items
+        ≡ flat_map (λ k. crowns_of (place_of placement.now) (move_at draft.now.moves.items k)) numbers.now) }
 {
     let mut crowns = Vec::new(alloc);
     for k in numbers {
@@ -284,7 +294,8 @@ fn payments(
     requires places { All (λ k. k < length draft.now.moves.items) numbers.now }
     requires few { length numbers.now ≤ MOST_MOVES }
     requires drafted { IsDraft (basis_of placement.now pool.now) draft.now }
-    ensures { IfOk result (λ paid. ArePayments (basis_of placement.now pool.now) draft.now.moves.items numbers.now paid) }
+    ensures { IfOk result (λ paid. ArePayments
+        (basis_of placement.now pool.now) draft.now.moves.items numbers.now paid) }
 {
     let mut paid = Amounts::none(alloc, placement.config())?;
     for k in numbers {
@@ -305,7 +316,9 @@ fn rooms_of(
     requires places { All (λ k. k < length draft.now.moves.items) numbers.now }
     requires few { length numbers.now ≤ MOST_MOVES }
     requires drafted { IsDraft (basis_of placement.now pool.now) draft.now }
-    ensures { IfOk result (λ rooms. rooms.items ≡ map (room_by (basis_of placement.now pool.now) draft.now.moves.items numbers.now) (range_with_len 0 (length placement.now.setup.servers))) }
+    ensures { IfOk result (λ rooms. rooms.items
+        ≡ map (room_by (basis_of placement.now pool.now) draft.now.moves.items numbers.now)
+        (range_with_len 0 (length placement.now.setup.servers))) }
 {
     let paid = payments(alloc, placement, pool, draft, numbers)?;
     let mut rooms = Vec::new(alloc);
@@ -358,7 +371,8 @@ fn holds_of(
     requires few { length numbers.now ≤ MOST_MOVES }
     requires drafted { IsDraft (basis_of placement.now pool.now) draft.now }
     requires once { IsOnce (needs_by (basis_of placement.now pool.now) draft.now.moves.items numbers.now) }
-    ensures { IfOk result (λ parcel. parcel ≡ holds_by (basis_of placement.now pool.now) draft.now.moves.items numbers.now) }
+    ensures { IfOk result (λ parcel. parcel ≡ holds_by
+        (basis_of placement.now pool.now) draft.now.moves.items numbers.now) }
 {
     let lists = Lists {
         cells: cells_of(alloc, placement, draft, numbers)?,
@@ -378,7 +392,8 @@ fn stream(
     number: usize,
 ) -> Result<Stream, AllocError>
     requires { IsDraft (basis_of placement.now pool.now) draft.now }
-    ensures value { IfOk result (λ stream. stream ≡ stream_of_moves (basis_of placement.now pool.now) draft.now.moves.items number) }
+    ensures value { IfOk result (λ stream. stream
+        ≡ stream_of_moves (basis_of placement.now pool.now) draft.now.moves.items number) }
     ensures small { IfOk result (λ stream. stream.budget ≤ 2 ^ 22) }
 {
     let numbers = moves_of(alloc, draft.moves.len(), number)?;
@@ -401,7 +416,8 @@ fn carried(
 ) -> Result<Parcel, AllocError>
     requires drafted { IsDraft (basis_of placement.now pool.now) draft.now }
     requires given { IsGiven (basis_of placement.now pool.now) draft.now.moves.items handed.now }
-    ensures { IfOk result (λ parcel. parcel ≡ handed_parcel (basis_of placement.now pool.now) draft.now.moves.items handed.now) }
+    ensures { IfOk result (λ parcel. parcel ≡ handed_parcel
+        (basis_of placement.now pool.now) draft.now.moves.items handed.now) }
 {
     let payer = &draft.placed[handed.payer];
     let mut room = Vec::new(alloc);
@@ -426,7 +442,8 @@ fn signals_of(
     draft: &Draft,
 ) -> Result<Vec<Parcel>, AllocError>
     requires { IsDraft (basis_of placement.now pool.now) draft.now }
-    ensures { IfOk result (λ parcels. parcels.items ≡ map (handed_parcel (basis_of placement.now pool.now) draft.now.moves.items) draft.now.signals.items) }
+    ensures { IfOk result (λ parcels. parcels.items
+        ≡ map (handed_parcel (basis_of placement.now pool.now) draft.now.moves.items) draft.now.signals.items) }
 {
     let mut parcels = Vec::with_capacity(alloc, draft.signals.len())?;
     for handed in draft.signals.iter() {

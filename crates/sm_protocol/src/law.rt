@@ -1,5 +1,9 @@
 //! The laws of the protocol: what holds of every state that events lead to.
-ghost use Rattle.sm_protocol.specs.Laws.{ApprovedWhereReserved, BegunIsKnown, BegunWhereAccepted, CountsEffects, EachReached, EffectsOnce, EndsAreReached, ExecutedServes, FollowsEntries, Headline, IsConserved, IsSmall, PlaysAreRuns, PlaysAreSafe, RunsAreSafe, TicketsOnce, TriesAreAllowed, UnlostIsUnspent, UnrecordedChangesNothing, WithLosses};
+ghost use Rattle.sm_protocol.specs.Laws.{ApprovedWhereReserved, BegunIsKnown, BegunWhereAccepted, CountsEffects};
+ghost use Rattle.sm_protocol.specs.Laws.{EachReached, EffectsOnce, EndsAreReached, ExecutedServes, FollowsEntries};
+ghost use Rattle.sm_protocol.specs.Laws.{Headline, IsConserved, IsSmall, PlaysAreRuns, PlaysAreSafe, RunsAreSafe};
+ghost use Rattle.sm_protocol.specs.Laws.{TicketsOnce, TriesAreAllowed, UnlostIsUnspent, UnrecordedChangesNothing};
+ghost use Rattle.sm_protocol.specs.Laws.{WithLosses};
 ghost use Rattle.sm_protocol.specs.Log.{IsLegal};
 ghost use Rattle.sm_protocol.specs.Unchecked.{RefusalsCome};
 

@@ -1,5 +1,5 @@
-//! The protocol of the machine, as definitions and laws over them: what starts of plans, their steps, requests, restarts
-//! and lost calls do to a state.
+//! The protocol of the machine, as definitions and laws over them: what starts of plans, their steps, requests,
+//! restarts and lost calls do to a state.
 #![tactic(auto)]
 
 mod event;

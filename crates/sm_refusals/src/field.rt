@@ -85,7 +85,8 @@ impl Fields<'_> {
 
     /// Adds the words of each.
     pub fn push_words(&self, out: &mut String) -> Result<(), AllocError>
-        ensures { OnOk result (string_bytes out.new ≡ string_bytes out.old ++ flat_map field_words (fields_of self.now)) }
+        ensures { OnOk result (string_bytes out.new
+            ≡ string_bytes out.old ++ flat_map field_words (fields_of self.now)) }
     {
         match self {
             Fields::None => Ok(()),

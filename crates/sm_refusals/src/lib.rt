@@ -1,4 +1,5 @@
-//! Refusals: what `smplan` says in a line, and `smpland` in a reply, of a placement, a plan or a restart that is refused.
+//! Refusals: what `smplan` says in a line, and `smpland` in a reply, of a placement, a plan or a restart that is
+//! refused.
 #![tactic(auto)]
 
 mod field;

@@ -1,7 +1,9 @@
 //! Plans that do not pass the check, or do not begin.
 ghost use Rattle.std.specs.Prelude.{◌≡◌};
 ghost use Rattle.sm_refusals.specs.Refusals.{field_of, fields_of, refusal_model};
-ghost use Rattle.sm_refusals.specs.Plans.{begin_refusal, budget_refusal, check_refusal, checked_refusal, held_refusal, holding_refusal, key_refusal, misused_refusal, short_refusal, stream_refusal, stuck_refusal, why_name};
+ghost use Rattle.sm_refusals.specs.Plans.{begin_refusal, budget_refusal, check_refusal, checked_refusal, held_refusal};
+ghost use Rattle.sm_refusals.specs.Plans.{holding_refusal, key_refusal, misused_refusal, short_refusal, stream_refusal};
+ghost use Rattle.sm_refusals.specs.Plans.{stuck_refusal, why_name};
 
 use crate::field::{Field, Fields};
 use crate::names::{server_name, shard_name};

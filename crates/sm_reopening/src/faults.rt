@@ -1,5 +1,6 @@
 //! Why a settlement may not be confirmed.
-ghost use Rattle.std.specs.Prelude.{◌≡◌, ◌<◌, ◌≤◌, ◌↔◌, ◌&&◌, ℕ, IfSome, IfErr, true, false, not, is_some, OnOk, OnErr, IsTrue, length};
+ghost use Rattle.std.specs.Prelude.{◌≡◌, ◌<◌, ◌≤◌, ◌↔◌, ◌&&◌, ℕ, IfSome, IfErr, true, false, not, is_some, OnOk, OnErr};
+ghost use Rattle.std.specs.Prelude.{IsTrue, length};
 ghost use Rattle.sm_server.specs.Cell.{is_absent, is_primary, is_secondary};
 ghost use Rattle.sm_placement.specs.Layout.{place_of};
 ghost use Rattle.sm_placement.specs.Lead.{IsSettled};
@@ -7,8 +8,10 @@ ghost use Rattle.sm_placement.specs.Opening.{first_below, is_handing};
 ghost use Rattle.sm_placement.specs.Setup.{sizes_of};
 ghost use Rattle.laws_network.specs.Reopening.{Confirm, entered};
 ghost use Rattle.laws_network.specs.ReopeningLaws.{Keeps, is_carried};
-ghost use Rattle.sm_reopening.specs.Ongoing.{IsSameButTold, told_copies, past_state, recorded_place, net_reopening, shards_of};
-ghost use Rattle.sm_reopening.specs.Faults.{IsFairAt, IsFairCell, IsFairSlot, IsFaultOf, IsTimely, KeepsSlot, MayConfirm};
+ghost use Rattle.sm_reopening.specs.Ongoing.{IsSameButTold, told_copies, past_state, recorded_place, net_reopening};
+ghost use Rattle.sm_reopening.specs.Ongoing.{shards_of};
+ghost use Rattle.sm_reopening.specs.Faults.{IsFairAt, IsFairCell, IsFairSlot, IsFaultOf, IsTimely, KeepsSlot};
+ghost use Rattle.sm_reopening.specs.Faults.{MayConfirm};
 ghost use Rattle.sm_reopening.specs.Faults.{is_appointed, is_barred, is_carried_up, is_stranger, moved_fault};
 ghost use Rattle.sm_reopening.specs.Survivors.{standing_of, stands_above};
 
@@ -38,8 +41,8 @@ pub enum ConfirmFault {
     StillThere { shard: ShardId, server: ServerId },
     /// The server is the shard's primary, and would not be.
     Primary { shard: ShardId, server: ServerId },
-    /// The server's replica of the shard would be dropped, or it would get one; or it would become the primary of a shard
-    /// that has none. Plans do that.
+    /// The server's replica of the shard would be dropped, or it would get one; or it would become the primary of a
+    /// shard that has none. Plans do that.
     Moved { shard: ShardId, server: ServerId },
     /// The server would be the shard's primary, and another one has a better claim, or more of the writes.
     LowerChoice { shard: ShardId, server: ServerId },
@@ -113,8 +116,10 @@ fn has_primary(placement: &Placement, shard: ShardId) -> bool
 
 /// Returns whether a cell has a part in a handover of a shard that has no primary in a placement.
 fn needs_primary(told: &Cell, placement: &Placement, shard: ShardId) -> bool
-    ensures needed { IsTrue result → (is_handing told.now ≡ true) × (((u : ℕ) × ((place_of placement.now).cells shard u ≡ Cell.Primary)) → ⊥) }
-    ensures there { result ≡ false → is_handing told.now ≡ true → (u : ℕ) × ((place_of placement.now).cells shard u ≡ Cell.Primary) }
+    ensures needed { IsTrue result → (is_handing told.now ≡ true)
+        × (((u : ℕ) × ((place_of placement.now).cells shard u ≡ Cell.Primary)) → ⊥) }
+    ensures there { result ≡ false → is_handing told.now ≡ true
+        → (u : ℕ) × ((place_of placement.now).cells shard u ≡ Cell.Primary) }
 {
     if !is_handing(told) {
         return false;
@@ -126,7 +131,8 @@ impl OngoingReopening {
     /// Returns the lowest server that stands above another one for a shard.
     #[tactic(auto, using(sm_placement::proofs::Searches::find_range_more))]
     fn first_better(&self, shard: ShardId, server: ServerId) -> Option<ServerId>
-        ensures { result ≡ first_below (net_reopening self.now).servers (λ u. stands_above (standing_of self.now shard u) (standing_of self.now shard server)) }
+        ensures { result ≡ first_below (net_reopening self.now).servers
+            (λ u. stands_above (standing_of self.now shard u) (standing_of self.now shard server)) }
     {
         for number in 0..self.server_count() {
             let other = ServerId::new(number);
@@ -149,7 +155,8 @@ impl OngoingReopening {
 
     /// Returns whether a server is not carried over, or would have the cell that is recorded.
     fn is_as_recorded(&self, next: &Cell, shard: ShardId, server: ServerId) -> bool
-        ensures { IsTrue result ↔ (is_carried (net_reopening self.now) (past_state self.now) server ≡ true → next.now ≡ (recorded_place self.now).cells shard server) }
+        ensures { IsTrue result ↔ (is_carried (net_reopening self.now) (past_state self.now) server ≡ true
+            → next.now ≡ (recorded_place self.now).cells shard server) }
     {
         if !self.is_carried(server) {
             return true;
@@ -159,7 +166,9 @@ impl OngoingReopening {
 
     /// Returns whether a server would be a shard's primary above which another one stands.
     fn is_lower(&self, next: &Cell, shard: ShardId, server: ServerId) -> bool
-        ensures { result ≡ (is_primary next.now && is_some (first_below (net_reopening self.now).servers (λ u. stands_above (standing_of self.now shard u) (standing_of self.now shard server)))) }
+        ensures { result ≡ (is_primary next.now && is_some
+            (first_below (net_reopening self.now).servers
+            (λ u. stands_above (standing_of self.now shard u) (standing_of self.now shard server)))) }
     {
         matches!(next, Cell::Primary) && self.first_better(shard, server).is_some()
     }
@@ -172,7 +181,13 @@ impl OngoingReopening {
         server: ServerId,
     ) -> Option<ConfirmFault>
         ensures none { (result ≡ None) ↔ IsFairCell self.now (place_of settlement.now) shard server }
-        ensures fault { (room : ℕ) → IfSome result (IsFaultOf self.now (record { setup = settlement.now.setup; place = place_of settlement.now; room = room })) }
+        ensures fault { (room : ℕ) → IfSome result
+            (IsFaultOf self.now (record {
+              setup = settlement.now.setup;
+              place = place_of settlement.now;
+              room =
+                  room;
+            })) }
     {
         let next = settled_cell(settlement, shard, server);
         if self.is_at_lost(&next, server) {
@@ -224,7 +239,13 @@ impl OngoingReopening {
         server: ServerId,
     ) -> Option<ConfirmFault>
         ensures none { (result ≡ None) ↔ IsFairSlot self.now (place_of settlement.now) shard server }
-        ensures fault { (room : ℕ) → IfSome result (IsFaultOf self.now (record { setup = settlement.now.setup; place = place_of settlement.now; room = room })) }
+        ensures fault { (room : ℕ) → IfSome result
+            (IsFaultOf self.now (record {
+              setup = settlement.now.setup;
+              place = place_of settlement.now;
+              room =
+                  room;
+            })) }
     {
         let Some(slot) = self.slot(shard, server) else {
             return None;
@@ -249,7 +270,13 @@ impl OngoingReopening {
         server: ServerId,
     ) -> Option<ConfirmFault>
         ensures none { (result ≡ None) ↔ IsFairAt self.now (place_of settlement.now) shard server }
-        ensures fault { (room : ℕ) → IfSome result (IsFaultOf self.now (record { setup = settlement.now.setup; place = place_of settlement.now; room = room })) }
+        ensures fault { (room : ℕ) → IfSome result
+            (IsFaultOf self.now (record {
+              setup = settlement.now.setup;
+              place = place_of settlement.now;
+              room =
+                  room;
+            })) }
     {
         let fault = self.fault_of_cell(settlement, shard, server);
         if fault.is_some() {
@@ -260,8 +287,15 @@ impl OngoingReopening {
 
     /// Returns the first fault of the cells of a shard.
     fn fault_of_shard(&self, settlement: &Placement, shard: ShardId) -> Option<ConfirmFault>
-        ensures none { (result ≡ None) ↔ ((v : ℕ) → v < (net_reopening self.now).servers → IsFairAt self.now (place_of settlement.now) shard v) }
-        ensures fault { (room : ℕ) → IfSome result (IsFaultOf self.now (record { setup = settlement.now.setup; place = place_of settlement.now; room = room })) }
+        ensures none { (result ≡ None) ↔ ((v : ℕ) → v < (net_reopening self.now).servers
+            → IsFairAt self.now (place_of settlement.now) shard v) }
+        ensures fault { (room : ℕ) → IfSome result
+            (IsFaultOf self.now (record {
+              setup = settlement.now.setup;
+              place = place_of settlement.now;
+              room =
+                  room;
+            })) }
     {
         for number in 0..self.server_count() {
             let fault = self.fault_at(settlement, shard, ServerId::new(number));
@@ -274,8 +308,15 @@ impl OngoingReopening {
 
     /// Returns the first fault of the cells of all shards.
     fn fault_of_cells(&self, settlement: &Placement) -> Option<ConfirmFault>
-        ensures none { (result ≡ None) ↔ ((k v : ℕ) → k < shards_of self.now → v < (net_reopening self.now).servers → IsFairAt self.now (place_of settlement.now) k v) }
-        ensures fault { (room : ℕ) → IfSome result (IsFaultOf self.now (record { setup = settlement.now.setup; place = place_of settlement.now; room = room })) }
+        ensures none { (result ≡ None) ↔ ((k v : ℕ) → k < shards_of self.now → v < (net_reopening self.now).servers
+            → IsFairAt self.now (place_of settlement.now) k v) }
+        ensures fault { (room : ℕ) → IfSome result
+            (IsFaultOf self.now (record {
+              setup = settlement.now.setup;
+              place = place_of settlement.now;
+              room =
+                  room;
+            })) }
     {
         for number in 0..self.shards {
             let fault = self.fault_of_shard(settlement, ShardId::new(number));
@@ -289,7 +330,8 @@ impl OngoingReopening {
     /// Returns the lowest server that is carried over, and that a settlement has as up.
     #[tactic(auto, using(sm_placement::proofs::Searches::find_range_more))]
     fn first_carried_up(&self, settlement: &Placement) -> Option<ServerId>
-        ensures { result ≡ first_below (length settlement.now.setup.servers) (is_carried_up self.now (place_of settlement.now)) }
+        ensures { result ≡ first_below (length settlement.now.setup.servers)
+            (is_carried_up self.now (place_of settlement.now)) }
     {
         for number in 0..settlement.config().server_count() {
             let server = ServerId::new(number);
@@ -302,8 +344,10 @@ impl OngoingReopening {
 
     /// Returns what stands against any settlement as yet, or against this one but for its cells.
     fn fault_of_parties(&self, settlement: &Placement, log_room: u32) -> Option<ConfirmFault>
-        ensures none { (result ≡ None) ↔ IsTimely self.now (record { setup = settlement.now.setup; place = place_of settlement.now; room = log_room }) }
-        ensures fault { IfSome result (IsFaultOf self.now (record { setup = settlement.now.setup; place = place_of settlement.now; room = log_room })) }
+        ensures none { (result ≡ None) ↔ IsTimely self.now
+            (record { setup = settlement.now.setup; place = place_of settlement.now; room = log_room }) }
+        ensures fault { IfSome result (IsFaultOf self.now
+            (record { setup = settlement.now.setup; place = place_of settlement.now; room = log_room })) }
     {
         if self.confirmed.is_some() {
             return Some(ConfirmFault::Confirmed);
@@ -327,14 +371,16 @@ impl OngoingReopening {
         None
     }
 
-    /// Returns why a settlement may not be confirmed, or nothing if it may. It is a settled placement of the document, with the floors that
-    /// are met, and `log_room` is the room of its log.
+    /// Returns why a settlement may not be confirmed, or nothing if it may. It is a settled placement of the document,
+    /// with the floors that are met, and `log_room` is the room of its log.
     pub fn fault_of(&self, settlement: &Placement, log_room: u32) -> Option<ConfirmFault>
         requires settled { IsSettled (sizes_of settlement.now.setup) (place_of settlement.now) }
         requires servers { length settlement.now.setup.servers ≤ (net_reopening self.now).servers }
         requires shards { length settlement.now.setup.shards ≤ shards_of self.now }
-        ensures none { (result ≡ None) ↔ MayConfirm self.now (record { setup = settlement.now.setup; place = place_of settlement.now; room = log_room }) }
-        ensures fault { IfSome result (IsFaultOf self.now (record { setup = settlement.now.setup; place = place_of settlement.now; room = log_room })) }
+        ensures none { (result ≡ None) ↔ MayConfirm self.now
+            (record { setup = settlement.now.setup; place = place_of settlement.now; room = log_room }) }
+        ensures fault { IfSome result (IsFaultOf self.now
+            (record { setup = settlement.now.setup; place = place_of settlement.now; room = log_room })) }
     {
         settlement.config().server_count();
         self.past.config();
@@ -345,8 +391,8 @@ impl OngoingReopening {
         self.fault_of_cells(settlement)
     }
 
-    /// Confirms a settlement: its settles are to be sent. If it may not be confirmed it comes back, with what stands against it, and nothing
-    /// changes.
+    /// Confirms a settlement: its settles are to be sent. If it may not be confirmed it comes back, with what stands
+    /// against it, and nothing changes.
     pub fn confirm(
         &mut self,
         settlement: Placement,
@@ -355,12 +401,16 @@ impl OngoingReopening {
         requires settled { IsSettled (sizes_of settlement.setup) (place_of settlement) }
         requires servers { length settlement.setup.servers ≤ (net_reopening self.old).servers }
         requires shards { length settlement.setup.shards ≤ shards_of self.old }
-        ensures may { OnOk result (MayConfirm self.old (record { setup = settlement.setup; place = place_of settlement; room = log_room })) }
-        ensures reopening { OnOk result ((net_reopening self.new) ≡ entered (Confirm (record { setup = settlement.setup; place = place_of settlement; room = log_room })) (net_reopening self.old)) }
+        ensures may { OnOk result (MayConfirm self.old
+            (record { setup = settlement.setup; place = place_of settlement; room = log_room })) }
+        ensures reopening { OnOk result ((net_reopening self.new)
+            ≡ entered (Confirm (record { setup = settlement.setup; place = place_of settlement; room = log_room }))
+            (net_reopening self.old)) }
         ensures copies { told_copies self.new ≡ told_copies self.old }
         ensures same { IsSameButTold self.old self.new }
         ensures back { IfErr result (λ e. e.0 ≡ settlement) }
-        ensures fault { IfErr result (λ e. IsFaultOf self.old (record { setup = settlement.setup; place = place_of settlement; room = log_room }) e.1) }
+        ensures fault { IfErr result (λ e. IsFaultOf self.old
+            (record { setup = settlement.setup; place = place_of settlement; room = log_room }) e.1) }
         ensures unchanged { OnErr result (self.new ≡ self.old) }
     {
         if let Some(fault) = self.fault_of(&settlement, log_room) {

@@ -1,10 +1,13 @@
 //! Fences, and the first answers to them.
-ghost use Rattle.std.specs.Prelude.{◌≡◌, ◌<◌, ◌≤◌, ◌↔◌, true, false, if◌then◌else◌, is_none, is_some, Some, None, length};
+ghost use Rattle.std.specs.Prelude.{◌≡◌, ◌<◌, ◌≤◌, ◌↔◌, true, false, if◌then◌else◌, is_none, is_some, Some, None};
+ghost use Rattle.std.specs.Prelude.{length};
 ghost use Rattle.sm_placement.specs.Opening.{first_below};
 ghost use Rattle.laws_network.specs.Reopening.{Entries, MapOwner, Server, Told, entered, is_asked, is_first, put_party};
 ghost use Rattle.laws_network.specs.ReopeningLaws.{is_carried};
 ghost use Rattle.sm_reopening.specs.States.{fits_told, net_inventory};
-ghost use Rattle.sm_reopening.specs.Ongoing.{IsSameButTold, first_awaited, is_waited_for, is_complete, left_out_of, may_carry, copies_after, told_copies, put_copy, past_state, recorded_place, net_reopening, shards_of};
+ghost use Rattle.sm_reopening.specs.Ongoing.{IsSameButTold, first_awaited, is_waited_for, is_complete, left_out_of};
+ghost use Rattle.sm_reopening.specs.Ongoing.{may_carry, copies_after, told_copies, put_copy, past_state};
+ghost use Rattle.sm_reopening.specs.Ongoing.{recorded_place, net_reopening, shards_of};
 
 use crate::ongoing::OngoingReopening;
 use crate::party::{Inventory, Membership};
@@ -44,7 +47,8 @@ impl OngoingReopening {
 
     /// Returns whether a server that has told nothing was sent a settle by a reopening that was replaced.
     fn is_promised(&self, server: ServerId) -> bool
-        ensures { is_some ((net_reopening self.now).told (Server server)) ≡ false → result ≡ (net_reopening self.now).promised server }
+        ensures { is_some ((net_reopening self.now).told (Server server)) ≡ false
+            → result ≡ (net_reopening self.now).promised server }
     {
         match self.servers.get(server.number() as usize) {
             Some(state) => state.promised,
@@ -69,8 +73,8 @@ impl OngoingReopening {
         }
     }
 
-    /// Returns whether the network's laws let a server be carried over as it is recorded: it has told nothing, is recorded as down, and was
-    /// sent no settle since.
+    /// Returns whether the network's laws let a server be carried over as it is recorded: it has told nothing, is
+    /// recorded as down, and was sent no settle since.
     pub(crate) fn is_carried(&self, server: ServerId) -> bool
         ensures { result ≡ is_carried (net_reopening self.now) (past_state self.now) server }
     {
@@ -140,7 +144,11 @@ impl OngoingReopening {
         requires known { server < (net_reopening self.old).servers }
         requires open { is_some (net_reopening self.old).settlement ≡ false }
         requires fits { fits_told (shards_of self.old) (Some inventory) ≡ true }
-        ensures reopening { net_reopening self.new ≡ record (net_reopening self.old) { told = put_party (net_reopening self.old).told (Server server) (Some (net_inventory inventory)) } }
+        ensures reopening { net_reopening self.new
+            ≡ record (net_reopening self.old) {
+              told = put_party (net_reopening self.old).told (Server server)
+                  (Some (net_inventory inventory));
+            } }
         ensures copies { told_copies self.new ≡ put_copy (told_copies self.old) server inventory }
         ensures same { IsSameButTold self.old self.new }
     {
@@ -153,7 +161,8 @@ impl OngoingReopening {
         ensures old { (result ≡ FencedEffect.Old) ↔ (is_first (net_reopening self.old) (Server server) base ≡ false) }
         ensures complete { (result ≡ FencedEffect.Complete) → (is_complete self.new ≡ true) }
         ensures waiting { (result ≡ FencedEffect.Waiting) → (is_complete self.new ≡ false) }
-        ensures reopening { (net_reopening self.new) ≡ entered (Told (Server server) base (net_inventory inventory)) (net_reopening self.old) }
+        ensures reopening { (net_reopening self.new)
+            ≡ entered (Told (Server server) base (net_inventory inventory)) (net_reopening self.old) }
         ensures copies { told_copies self.new ≡ copies_after self.old server base inventory }
         ensures same { IsSameButTold self.old self.new }
     {

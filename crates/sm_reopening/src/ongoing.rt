@@ -32,9 +32,11 @@ impl OngoingReopening {
     ghost use Rattle.laws_network.specs.Reopening.{Reopen, entered};
     ghost use Rattle.laws_network.specs.ReopeningLaws.{no_reopening};
     ghost use Rattle.sm_reopening.specs.States.{AreNextStates, is_left_out, says_lost, no_copies};
-    ghost use Rattle.sm_reopening.specs.Ongoing.{left_out_of, told_copies, recorded_place, recorded_setup, net_reopening, shards_of};
+    ghost use Rattle.sm_reopening.specs.Ongoing.{left_out_of, told_copies, recorded_place, recorded_setup};
+    ghost use Rattle.sm_reopening.specs.Ongoing.{net_reopening, shards_of};
 
-    /// Begins a reopening over what is recorded: a placement, with the servers that are down. Its fences are to be sent.
+    /// Begins a reopening over what is recorded: a placement, with the servers that are down. Its fences are to be
+    /// sent.
     pub fn begin(
         alloc: Global,
         base: u64,
@@ -45,7 +47,9 @@ impl OngoingReopening {
         requires servers { length placement.now.setup.servers ≤ length members.now }
         requires few { length members.now ≤ 65536 }
         requires shards { length placement.now.setup.shards ≤ shards }
-        ensures reopening { IfOk result (λ o. net_reopening o ≡ entered (Reopen base (length members.now) (says_lost members.now)) (no_reopening (length placement.now.setup.servers))) }
+        ensures reopening { IfOk result (λ o. net_reopening o
+            ≡ entered (Reopen base (length members.now) (says_lost members.now))
+            (no_reopening (length placement.now.setup.servers))) }
         ensures copies { IfOk result (λ o. told_copies o ≡ no_copies) }
         ensures left_out { IfOk result (λ o. left_out_of o ≡ is_left_out members.now) }
         ensures setup { IfOk result (λ o. recorded_setup o ≡ placement.now.setup) }
@@ -124,7 +128,8 @@ impl OngoingReopening {
         requires servers { (net_reopening self.now).servers ≤ length members.now }
         requires few { length members.now ≤ 65536 }
         requires shards { length (recorded_setup self.now).shards ≤ shards }
-        ensures reopening { IfOk result (λ o. net_reopening o ≡ entered (Reopen base (length members.now) (says_lost members.now)) (net_reopening self.now)) }
+        ensures reopening { IfOk result (λ o. net_reopening o
+            ≡ entered (Reopen base (length members.now) (says_lost members.now)) (net_reopening self.now)) }
         ensures copies { IfOk result (λ o. told_copies o ≡ no_copies) }
         ensures left_out { IfOk result (λ o. left_out_of o ≡ is_left_out members.now) }
         ensures setup { IfOk result (λ o. recorded_setup o ≡ recorded_setup self.now) }

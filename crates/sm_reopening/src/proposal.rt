@@ -99,7 +99,8 @@ impl OngoingReopening {
         shard: ShardId,
         server: ServerId,
     ) -> Option<Role>
-        ensures { result ≡ role_counted self.now (grid_of (net_reopening self.now).servers None documented.now) shard server }
+        ensures { result ≡ role_counted self.now (grid_of (net_reopening self.now).servers None documented.now)
+            shard server }
     {
         if self.nonce(server).is_none() {
             return None;
@@ -196,7 +197,9 @@ impl OngoingReopening {
     /// Returns the lowest Unknown server that the document has as a shard's primary.
     #[tactic(auto, using(sm_placement::proofs::Searches::find_range_more))]
     fn documented_primary(&self, documented: &[Option<Role>], shard: ShardId) -> Option<ServerId>
-        ensures { result ≡ first_below (net_reopening self.now).servers (λ v. is_primary_role (role_counted self.now (grid_of (net_reopening self.now).servers None documented.now) shard v)) }
+        ensures { result ≡ first_below (net_reopening self.now).servers
+            (λ v. is_primary_role (role_counted self.now
+            (grid_of (net_reopening self.now).servers None documented.now) shard v)) }
     {
         for number in 0..self.server_count() {
             let server = ServerId::new(number);
@@ -207,11 +210,13 @@ impl OngoingReopening {
         None
     }
 
-    /// Returns the primary that is proposed for a shard. `documented` has the document's roles, shard after shard, with one for each number
-    /// of a server.
+    /// Returns the primary that is proposed for a shard. `documented` has the document's roles, shard after shard, with
+    /// one for each number of a server.
     pub fn proposed_primary(&self, documented: &[Option<Role>], shard: ShardId) -> Option<ServerId>
-        ensures proposed { IsProposedPrimary self.now (grid_of (net_reopening self.now).servers None documented.now) shard result }
-        ensures exact { result ≡ primary_of self.now (grid_of (net_reopening self.now).servers None documented.now) shard }
+        ensures proposed { IsProposedPrimary self.now
+            (grid_of (net_reopening self.now).servers None documented.now) shard result }
+        ensures exact { result ≡ primary_of self.now
+            (grid_of (net_reopening self.now).servers None documented.now) shard }
     {
         if !self.is_led(documented, shard) {
             return None;
@@ -225,7 +230,8 @@ impl OngoingReopening {
 
     /// Returns whether a server keeps a replica of a shard.
     fn keeps_replica(&self, documented: &[Option<Role>], shard: ShardId, server: ServerId) -> bool
-        ensures { result ≡ keeps_replica self.now (grid_of (net_reopening self.now).servers None documented.now) shard server }
+        ensures { result ≡ keeps_replica self.now
+            (grid_of (net_reopening self.now).servers None documented.now) shard server }
     {
         self.holds_replica(shard, server) || self.role_counted(documented, shard, server).is_some()
     }
@@ -238,7 +244,8 @@ impl OngoingReopening {
         primary: Option<ServerId>,
         server: ServerId,
     ) -> Cell
-        ensures { result ≡ proposed_cell self.now (grid_of (net_reopening self.now).servers None documented.now) shard primary server }
+        ensures { result ≡ proposed_cell self.now
+            (grid_of (net_reopening self.now).servers None documented.now) shard primary server }
     {
         if self.is_left_out(server) || self.is_lost(server) {
             return Cell::Absent;

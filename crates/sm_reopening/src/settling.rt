@@ -3,7 +3,8 @@ ghost use Rattle.std.specs.Prelude.{◌≡◌, ◌↔◌, ◌⊎◌, ◌&&◌, t
 ghost use Rattle.laws_network.specs.Reopening.{Server, Took, entered, put_party};
 ghost use Rattle.laws_network.specs.ReopeningLaws.{AllTook};
 ghost use Rattle.sm_reopening.specs.Ongoing.{IsSameButTold, told_copies, net_reopening};
-ghost use Rattle.sm_reopening.specs.Settles.{first_unsettled, is_due_settle, is_unsettled, net_party, nonce_of, settle_messages, settle_sent, settled_of, what_settles};
+ghost use Rattle.sm_reopening.specs.Settles.{first_unsettled, is_due_settle, is_unsettled, net_party, nonce_of};
+ghost use Rattle.sm_reopening.specs.Settles.{settle_messages, settle_sent, settled_of, what_settles};
 
 use crate::ongoing::OngoingReopening;
 use crate::party::{Inventory, Party};
@@ -57,7 +58,8 @@ impl OngoingReopening {
 
     /// Returns what was confirmed.
     pub fn settlement(&self) -> Option<&Placement>
-        ensures { option_map (λ p. settled_of p.now) result ≡ option_map what_settles (net_reopening self.now).settlement }
+        ensures { option_map (λ p. settled_of p.now) result
+            ≡ option_map what_settles (net_reopening self.now).settlement }
     {
         match &self.confirmed {
             Some(confirmed) => Some(&confirmed.placement),
@@ -103,8 +105,10 @@ impl OngoingReopening {
 
     /// Returns the settle of a party, once a settlement is confirmed. It may be sent again at any time.
     pub fn settle(&self, party: Party) -> Option<Settle>
-        ensures given { is_some result ≡ (is_some (net_reopening self.now).settlement && is_some ((net_reopening self.now).told (net_party party))) }
-        ensures message { settle_messages (net_reopening self.now).settlement result ≡ settle_sent (net_reopening self.now) (net_party party) }
+        ensures given { is_some result ≡ (is_some (net_reopening self.now).settlement && is_some
+            ((net_reopening self.now).told (net_party party))) }
+        ensures message { settle_messages (net_reopening self.now).settlement result
+            ≡ settle_sent (net_reopening self.now) (net_party party) }
     {
         if self.confirmed.is_none() || !self.has_answered(&party) {
             return None;
@@ -139,7 +143,8 @@ impl OngoingReopening {
 
     /// Returns whether all have taken their settles, so that the settlement is in force.
     pub fn is_settled(&self) -> bool
-        ensures { (result ≡ true) ↔ ((is_some (net_reopening self.now).settlement ≡ true) × AllTook (net_reopening self.now)) }
+        ensures { (result ≡ true) ↔ ((is_some (net_reopening self.now).settlement ≡ true)
+            × AllTook (net_reopening self.now)) }
     {
         if self.confirmed.is_none() {
             return false;
@@ -153,7 +158,11 @@ impl OngoingReopening {
     /// Marks a party that has taken its settle.
     fn mark(&mut self, party: &Party)
         requires known { is_some ((net_reopening self.old).told (net_party party.now)) ≡ true }
-        ensures reopening { (net_reopening self.new) ≡ record (net_reopening self.old) { settled = put_party (net_reopening self.old).settled (net_party party.now) true } }
+        ensures reopening { (net_reopening self.new)
+            ≡ record (net_reopening self.old) {
+              settled = put_party (net_reopening self.old).settled
+                  (net_party party.now) true;
+            } }
         ensures copies { told_copies self.new ≡ told_copies self.old }
         ensures same { IsSameButTold self.old self.new }
     {
@@ -186,11 +195,13 @@ impl OngoingReopening {
 
     /// Takes the answer of a party to its settle.
     pub fn settled(&mut self, party: Party, base: u64) -> SettledEffect
-        ensures old { (result ≡ SettledEffect.Old) ↔ (is_due_settle (net_reopening self.old) (net_party party) base ≡ false) }
+        ensures old { (result ≡ SettledEffect.Old) ↔
+            (is_due_settle (net_reopening self.old) (net_party party) base ≡ false) }
         ensures complete { result ≡ SettledEffect.Complete → AllTook (net_reopening self.new) }
         ensures waiting { result ≡ SettledEffect.Waiting → AllTook (net_reopening self.new) → ⊥ }
         ensures unchanged { result ≡ SettledEffect.Old → self.new ≡ self.old }
-        ensures reopening { (result ≡ SettledEffect.Old) ⊎ ((net_reopening self.new) ≡ entered (Took (net_party party) base) (net_reopening self.old)) }
+        ensures reopening { (result ≡ SettledEffect.Old)
+            ⊎ ((net_reopening self.new) ≡ entered (Took (net_party party) base) (net_reopening self.old)) }
         ensures copies { told_copies self.new ≡ told_copies self.old }
         ensures same { IsSameButTold self.old self.new }
     {

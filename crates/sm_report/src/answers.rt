@@ -21,7 +21,8 @@ fn make_call(
     ensures setup { placement.new.setup ≡ placement.old.setup }
     ensures answer { OnOk result (string_bytes out.new ≡ string_bytes out.old
         ++ answer_line i (refusal_at (sizes_of placement.old.setup) (place_of placement.old) named.now)) }
-    ensures after { place_of placement.new ≡ place_after (sizes_of placement.old.setup) (place_of placement.old) named.now }
+    ensures after { place_of placement.new ≡ place_after (sizes_of placement.old.setup)
+        (place_of placement.old) named.now }
 {
     let (shard, server, call) = *named;
     match placement.call(server, shard, call) {
@@ -40,7 +41,8 @@ pub fn make_calls(
     ensures setup { placement.new.setup ≡ placement.old.setup }
     ensures answers { OnOk result (string_bytes out.new ≡ string_bytes out.old
         ++ answer_lines (sizes_of placement.old.setup) (place_of placement.old) 0 calls.now) }
-    ensures after { OnOk result (place_of placement.new ≡ place_after_all (sizes_of placement.old.setup) (place_of placement.old) calls.now) }
+    ensures after { OnOk result (place_of placement.new
+        ≡ place_after_all (sizes_of placement.old.setup) (place_of placement.old) calls.now) }
 {
     for (i, named) in calls.iter().enumerate() {
         make_call(out, placement, i, named)?;

@@ -41,7 +41,8 @@ impl Begun {
         ensures ended { IfOk result (λ both. both.1.ended.items ≡ []) }
         ensures clients { IfOk result (λ both. (both.1.clients.items ≡ []) × (asks ≤ vec_capacity both.1.clients)) }
         ensures callers { IfOk result (λ both. (both.1.callers.items ≡ []) × (asks ≤ vec_capacity both.1.callers)) }
-        ensures tokens { IfOk result (λ both. (both.1.tokens.items ≡ []) × (vec_len self.tokens ≤ vec_capacity both.1.tokens)) }
+        ensures tokens { IfOk result (λ both. (both.1.tokens.items ≡ [])
+            × (vec_len self.tokens ≤ vec_capacity both.1.tokens)) }
     {
         match Outstanding::with_room(alloc, self.tokens.len(), asks) {
             Ok(given) => Ok((self, given)),

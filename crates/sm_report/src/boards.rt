@@ -1,5 +1,6 @@
 //! A plan on a board: it begins on a machine, its streams run beside asks on a board over it, and the board is closed.
-ghost use Rattle.std.specs.Prelude.{◌≡◌, ◌≢◌, ◌≤◌, ◌<◌, ◌++◌, [], All, IfErr, IfOk, OnOk, length, map, string_bytes, true, vec_len, vec_capacity};
+ghost use Rattle.std.specs.Prelude.{◌≡◌, ◌≢◌, ◌≤◌, ◌<◌, ◌++◌, [], All, IfErr, IfOk, OnOk, length, map, string_bytes};
+ghost use Rattle.std.specs.Prelude.{true, vec_len, vec_capacity};
 ghost use Rattle.sm_machine.specs.Starts.{AreTokens};
 ghost use Rattle.sm_machine.specs.State.{state_of};
 ghost use Rattle.sm_executor.specs.Clients.{IsClient};
@@ -14,7 +15,8 @@ ghost use Rattle.sm_report_text.specs.Ending.{ending};
 ghost use Rattle.sm_report_text.specs.EventLines.{not_begun_line};
 ghost use Rattle.sm_report.specs.Report.{done, refused};
 ghost use Rattle.sm_report.specs.RunLines.{end_lines, client_lines};
-ghost use Rattle.sm_report.specs.Running.{HasRun, WasRunOrNot, IsStartedForRun, is_step_or_request, are_steps_and_requests};
+ghost use Rattle.sm_report.specs.Running.{HasRun, WasRunOrNot, IsStartedForRun, is_step_or_request};
+ghost use Rattle.sm_report.specs.Running.{are_steps_and_requests};
 ghost use Rattle.sm_report.specs.RunStop.{IfRan, IsOfRun};
 ghost use Rattle.sm_plan_code.specs.declared.limits.TheConstants.{MOST_STREAMS};
 
@@ -41,7 +43,8 @@ use std::thread::Threads;
 
 /// Returns the report of a plan that does not begin; none if memory was short for its start.
 fn not_begun(alloc: Global, config: &Config, fault: BeginFault) -> Result<MadeReport, AllocError>
-    ensures { IfOk result (λ made. (fault ≢ begin_fault.NoMemory) × (made ≡ refused (not_begun_line config.now fault))) }
+    ensures { IfOk result (λ made. (fault ≢ begin_fault.NoMemory)
+        × (made ≡ refused (not_begun_line config.now fault))) }
 {
     if fault == BeginFault::NoMemory {
         return Err(AllocError);
@@ -104,7 +107,8 @@ fn run_begun<
     given: &mut Outstanding<A, B, C, N>,
 ) -> Result<(), RunStop>
     requires none { (given.old.ended.items ≡ []) × (given.old.clients.items ≡ []) × (given.old.tokens.items ≡ []) }
-    requires room { (length asks.now ≤ vec_capacity given.old.clients) × (vec_len runners ≤ vec_capacity given.old.tokens) }
+    requires room { (length asks.now ≤ vec_capacity given.old.clients)
+        × (vec_len runners ≤ vec_capacity given.old.tokens) }
     requires runners { AreRunners 0 (stream_count N.opened 0) runners.items }
     requires known { All (λ shard. shard < length N.words.opening) asks.now }
     ensures callers { given.new.callers ≡ given.old.callers }
@@ -162,7 +166,8 @@ fn run_told<
     given: &mut Outstanding<A, B, C, N>,
 ) -> Result<String, RunStop>
     requires none { (given.old.ended.items ≡ []) × (given.old.clients.items ≡ []) × (given.old.tokens.items ≡ []) }
-    requires room { (length asks.now ≤ vec_capacity given.old.clients) × (vec_len runners ≤ vec_capacity given.old.tokens) }
+    requires room { (length asks.now ≤ vec_capacity given.old.clients)
+        × (vec_len runners ≤ vec_capacity given.old.tokens) }
     requires runners { AreRunners 0 (stream_count N.opened 0) runners.items }
     requires known { All (λ shard. shard < length N.words.opening) asks.now }
     ensures callers { given.new.callers ≡ given.old.callers }
@@ -220,7 +225,9 @@ fn report_machine(
 ) -> Result<MadeReport, RunStop>
     ensures alone { OnOk result (length (state_of machine).plans ≡ 1) }
     ensures own { OnOk result (are_steps_and_requests (state_of machine).log ≡ true) }
-    ensures text { IfOk result (λ made. made ≡ done (string_bytes accepted ++ end_lines (state_of machine) 0 ++ string_bytes asked ++ ending machine.placement.setup (state_of machine).place)) }
+    ensures text { IfOk result (λ made. made ≡ done
+        (string_bytes accepted ++ end_lines (state_of machine) 0 ++ string_bytes asked
+        ++ ending machine.placement.setup (state_of machine).place)) }
     ensures why { IfErr result IsOfRun }
 {
     let mut text = accepted;
@@ -243,7 +250,8 @@ fn report_ran<A: Ledger, B: Ledger, C: Ledger, N: Naming>(
 ) -> Result<MadeReport, RunStop>
     requires none { given.callers.items ≡ [] }
     requires room { vec_len given.clients ≤ vec_capacity given.callers }
-    ensures told { IfOk result (λ made. (now : State) × IsClosed N.setup N.opened now given.ended.items (map (λ client. client.caller) given.clients.items)
+    ensures told { IfOk result (λ made. (now : State)
+        × IsClosed N.setup N.opened now given.ended.items (map (λ client. client.caller) given.clients.items)
         × (length now.plans ≡ 1)
         × (are_steps_and_requests now.log ≡ true)
         × (made ≡ done (string_bytes accepted ++ end_lines now 0 ++ string_bytes asked ++ ending N.setup now.place))) }
@@ -305,8 +313,10 @@ fn report_given<
     accepted: String,
     asks: &[ShardId],
 ) -> Result<MadeReport, RunStop>
-    requires none { (given.ended.items ≡ []) × (given.clients.items ≡ []) × (given.callers.items ≡ []) × (given.tokens.items ≡ []) }
-    requires room { (length asks.now ≤ vec_capacity given.clients) × (length asks.now ≤ vec_capacity given.callers) × (vec_len runners ≤ vec_capacity given.tokens) }
+    requires none { (given.ended.items ≡ []) × (given.clients.items ≡ []) × (given.callers.items ≡ [])
+        × (given.tokens.items ≡ []) }
+    requires room { (length asks.now ≤ vec_capacity given.clients) × (length asks.now ≤ vec_capacity given.callers)
+        × (vec_len runners ≤ vec_capacity given.tokens) }
     requires one { length N.opened.plans ≡ 1 }
     requires runners { AreRunners 0 (stream_count N.opened 0) runners.items }
     requires accepted { string_bytes accepted ≡ accepted_line (plan_at N.opened 0) }

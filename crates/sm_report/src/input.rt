@@ -29,7 +29,8 @@ pub fn take_input<R: Read>(
 ) -> Result<Vec<u8>, InputFault>
     ensures all { IfOk result (λ v. IfSome (R.remaining reader.old) (λ input. v.items ≡ input)) }
     ensures within { IfOk result (λ v. vec_len v ≤ most) }
-    ensures too_long { result ≡ Err InputFault.TooLong → IfSome (R.remaining reader.old) (λ input. most < length input) }
+    ensures too_long { result ≡ Err InputFault.TooLong
+        → IfSome (R.remaining reader.old) (λ input. most < length input) }
 {
     let mut bytes = Vec::new(alloc);
     let mut piece = [0u8; PIECE];

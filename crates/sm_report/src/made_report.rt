@@ -174,7 +174,9 @@ impl MadeReport {
         ensures status { result ≢ Status.WriteFailed → result ≡ self.status }
         ensures made { code_of self.status < 3 }
         ensures text { result ≢ Status.WriteFailed → Appends (W.contents writer.old) (W.contents writer.new) self.text }
-        ensures front { result ≡ Status.WriteFailed → (k : ℕ) × (k < length self.text) × Appends (W.contents writer.old) (W.contents writer.new) (take k self.text) }
+        ensures front { result ≡ Status.WriteFailed
+            → (k : ℕ) × (k < length self.text) × Appends (W.contents writer.old) (W.contents writer.new)
+            (take k self.text) }
     {
         if deliver(writer, self.text.as_slice()) {
             self.status

@@ -54,7 +54,8 @@ impl<A: Ledger, B: Ledger, C: Ledger, N: Naming> Outstanding<A, B, C, N> {
 
     /// Ends lists that hold nothing.
     pub fn destroy_empty(self)
-        requires { (self.ended.items ≡ []) × (self.clients.items ≡ []) × (self.callers.items ≡ []) × (self.tokens.items ≡ []) }
+        requires { (self.ended.items ≡ []) × (self.clients.items ≡ []) × (self.callers.items ≡ [])
+            × (self.tokens.items ≡ []) }
     {
         let Outstanding {
             ended,

@@ -45,9 +45,11 @@ fn misfit(alloc: Global, member: Member) -> Result<MadeReport, AllocError>
 /// Returns the task that a document wants a plan for: its moves, or a server that is to be emptied, and not both.
 fn wanted_of(alloc: Global, document: &Document) -> Result<Wanted<'_>, Stop>
     requires { IsDocument (rows_of document.now) }
-    ensures ok { IfOk result (λ wanted. aim_stage (rows_of document.now).moves (rows_of document.now).drain ≡ Ok (aim_of wanted)) }
+    ensures ok { IfOk result (λ wanted. aim_stage (rows_of document.now).moves (rows_of document.now).drain
+        ≡ Ok (aim_of wanted)) }
     ensures known { IfOk result (λ wanted. IsAimOf (rows_of document.now).setup (aim_of wanted)) }
-    ensures ends { IfErr result (λ stop. IfEnded stop (λ made. aim_stage (rows_of document.now).moves (rows_of document.now).drain ≡ Err made)) }
+    ensures ends { IfErr result (λ stop. IfEnded stop
+        (λ made. aim_stage (rows_of document.now).moves (rows_of document.now).drain ≡ Err made)) }
 {
     match (&document.moves, document.drain) {
         (Some(list), None) => Ok(Wanted::Moves(list.as_slice())),
@@ -61,8 +63,10 @@ fn wanted_of(alloc: Global, document: &Document) -> Result<Wanted<'_>, Stop>
 fn plan(alloc: Global, machine: &Machine, wanted: &Wanted<'_>) -> Result<Checked, NoPlan>
     requires { IsAimOf machine.now.placement.setup (aim_of wanted.now) }
     ensures setup { IfOk result (λ checked. checked.setup ≡ machine.now.placement.setup) }
-    ensures plan { IfOk result (λ checked. IsPlanFor (basis_at machine.now.placement.setup (state_of machine.now)) (aim_of wanted.now) checked.plan) }
-    ensures refused { IfErr result (λ why. why ≢ NoPlan.NoMemory → IsRefusedFor (basis_at machine.now.placement.setup (state_of machine.now)) (aim_of wanted.now) why) }
+    ensures plan { IfOk result (λ checked. IsPlanFor (basis_at machine.now.placement.setup (state_of machine.now))
+        (aim_of wanted.now) checked.plan) }
+    ensures refused { IfErr result (λ why. why ≢ NoPlan.NoMemory
+        → IsRefusedFor (basis_at machine.now.placement.setup (state_of machine.now)) (aim_of wanted.now) why) }
 {
     match wanted {
         Wanted::Moves(list) => moves(alloc, machine, list),

@@ -52,7 +52,8 @@ fn put_back(waiting: &mut Vec<Option<Checked>>, at: usize, checked: Checked)
 }
 
 impl Player {
-    /// Opens a machine over a settled placement, whose log has room for the restarts under way, for the plans of a document.
+    /// Opens a machine over a settled placement, whose log has room for the restarts under way, for the plans of a
+    /// document.
     pub fn open(
         alloc: Global,
         placement: Placement,
@@ -63,7 +64,8 @@ impl Player {
         requires room { down_count (sizes_of placement.setup) (place_of placement) ≤ log }
         requires most { log ≤ MOST_PLACES }
         requires checked { AreFor placement.setup waiting.items }
-        ensures state { IfOk result (λ p. (scene_of p).state ≡ opened (sizes_of placement.setup) (place_of placement) log) }
+        ensures state { IfOk result (λ p. (scene_of p).state
+            ≡ opened (sizes_of placement.setup) (place_of placement) log) }
         ensures waiting { IfOk result (λ p. (scene_of p).waiting ≡ map hand_plan waiting.items) }
         ensures places { IfOk result (λ p. (scene_of p).places ≡ []) }
         ensures setup { IfOk result (λ p. p.director.placement.setup ≡ placement.setup) }

@@ -6,7 +6,8 @@ ghost use Rattle.sm_protocol.specs.State.{is_begun, progress_of};
 ghost use Rattle.sm_protocol.specs.Laws.{NamesKnown};
 ghost use Rattle.sm_machine.specs.State.{state_of};
 ghost use Rattle.sm_report.specs.Playing.{event_turn, scene_after};
-ghost use Rattle.sm_report.specs.PlayLines.{begun_line, progress_line_of, progress_lines, played_line, outcome_line, event_lines, plan_lines, all_plan_lines};
+ghost use Rattle.sm_report.specs.PlayLines.{begun_line, progress_line_of, progress_lines, played_line, outcome_line};
+ghost use Rattle.sm_report.specs.PlayLines.{event_lines, plan_lines, all_plan_lines};
 ghost use Rattle.sm_report_text.specs.EventLines.{stream_text};
 ghost use Rattle.sm_report.specs.Player.{scene_of, IsSetUp, IsBegunThere};
 
@@ -39,7 +40,8 @@ fn push_answer(
 ) -> Result<(), AllocError>
     requires running { answer ≢ played.Halted }
     requires begun { IsBegunThere (scene_of player.now) answer }
-    ensures { OnOk result (string_bytes out.new ≡ string_bytes out.old ++ played_line config.now many (scene_of player.now) answer) }
+    ensures { OnOk result (string_bytes out.new
+        ≡ string_bytes out.old ++ played_line config.now many (scene_of player.now) answer) }
 {
     match answer {
         Played::Moved => push_word(out, "moved"),
@@ -79,7 +81,9 @@ fn play_event(
     requires ready { IsSetUp player.old }
     requires setup { player.old.director.placement.setup ≡ config.now }
     requires known { NamesKnown (sizes_of config.now) event }
-    ensures line { OnOk result (string_bytes out.new ≡ string_bytes out.old ++ outcome_line config.now many i (event_turn (scene_of player.old) event).1 (event_turn (scene_of player.old) event).0) }
+    ensures line { OnOk result (string_bytes out.new
+        ≡ string_bytes out.old ++ outcome_line config.now many i (event_turn (scene_of player.old) event).1
+        (event_turn (scene_of player.old) event).0) }
     ensures scene { OnOk result (scene_of player.new ≡ (event_turn (scene_of player.old) event).1) }
     ensures setup { OnOk result (player.new.director.placement.setup ≡ player.old.director.placement.setup) }
     ensures ready { OnOk result (IsSetUp player.new) }
@@ -103,7 +107,9 @@ pub fn play_events(
     requires ready { IsSetUp player.old }
     requires setup { player.old.director.placement.setup ≡ config.now }
     requires known { All (NamesKnown (sizes_of config.now)) events.now }
-    ensures text { OnOk result (string_bytes out.new ≡ string_bytes out.old ++ event_lines config.now many (scene_of player.old) 0 events.now ++ all_plan_lines many (scene_after events.now (scene_of player.old))) }
+    ensures text { OnOk result (string_bytes out.new
+        ≡ string_bytes out.old ++ event_lines config.now many (scene_of player.old) 0 events.now
+        ++ all_plan_lines many (scene_after events.now (scene_of player.old))) }
     ensures scene { OnOk result (scene_of player.new ≡ scene_after events.now (scene_of player.old)) }
     ensures setup { OnOk result (player.new.director.placement.setup ≡ player.old.director.placement.setup) }
 {
@@ -123,7 +129,9 @@ fn push_stream(
     length: usize,
 ) -> Result<(), AllocError>
     requires { is_begun (state_of player.now.director) id ≡ true }
-    ensures { OnOk result (string_bytes out.new ≡ string_bytes out.old ++ progress_line_of (stream_text many place id.stream) length (progress_of (state_of player.now.director) id)) }
+    ensures { OnOk result (string_bytes out.new
+        ≡ string_bytes out.old ++ progress_line_of (stream_text many place id.stream) length
+        (progress_of (state_of player.now.director) id)) }
 {
     push_stream_text(out, many, place, id.stream)?;
     let machine = player.machine();
@@ -150,7 +158,8 @@ fn push_streams(
     number: u32,
 ) -> Result<(), AllocError>
     requires { number < length (state_of player.now.director).plans }
-    ensures { OnOk result (string_bytes out.new ≡ string_bytes out.old ++ progress_lines many place (state_of player.now.director) number) }
+    ensures { OnOk result (string_bytes out.new
+        ≡ string_bytes out.old ++ progress_lines many place (state_of player.now.director) number) }
 {
     let streams = player.machine().plan(number).streams();
     for (i, parts) in streams.iter().enumerate() {

@@ -1,5 +1,6 @@
 //! The report of a document's events.
-ghost use Rattle.std.specs.Prelude.{◌≡◌, ◌≤◌, All, Err, IfErr, IfOk, Ok, OnOk, Some, [], ◌∷◌, length, map, string_bytes, false};
+ghost use Rattle.std.specs.Prelude.{◌≡◌, ◌≤◌, All, Err, IfErr, IfOk, Ok, OnOk, Some, [], ◌∷◌, length, map};
+ghost use Rattle.std.specs.Prelude.{string_bytes, false};
 ghost use Rattle.sm_placement.specs.Setup.{sizes_of};
 ghost use Rattle.sm_placement.specs.Place.{down_count};
 ghost use Rattle.sm_placement.specs.Layout.{place_of};
@@ -17,7 +18,8 @@ ghost use Rattle.sm_report.specs.Playing.{opened_scene};
 ghost use Rattle.sm_report_text.specs.EventLines.{plan_front};
 ghost use Rattle.sm_report.specs.Report.{Output};
 ghost use Rattle.sm_report.specs.Stages.{AtChecks, IsFaultReport, Then, begin_stage};
-ghost use Rattle.sm_report.specs.Output.{played_output, IsLoggedForPlay, IsPlacedForPlay, IsOpenedForPlay, IsAloneForPlay, IsPlayReport, IsPlayedOutput};
+ghost use Rattle.sm_report.specs.Output.{played_output, IsLoggedForPlay, IsPlacedForPlay, IsOpenedForPlay};
+ghost use Rattle.sm_report.specs.Output.{IsAloneForPlay, IsPlayReport, IsPlayedOutput};
 ghost use Rattle.sm_plan_code.specs.declared.limits.TheConstants.{MOST_PLACES};
 
 use crate::made_report::MadeReport;
@@ -45,7 +47,8 @@ fn check_at(
     ensures setup { IfOk result (λ checked. checked.setup ≡ placement.now.setup) }
     ensures plan { IfOk result (λ checked. checked.plan ≡ plan) }
     ensures sound { OnOk result (IsSound (sizes_of placement.now.setup) plan) }
-    ensures ends { IfErr result (λ stop. IfEnded stop (IsFaultReport (sizes_of placement.now.setup) (plan_front many place) plan)) }
+    ensures ends { IfErr result (λ stop. IfEnded stop
+        (IsFaultReport (sizes_of placement.now.setup) (plan_front many place) plan)) }
 {
     let mut front = String::new(alloc);
     push_plan_front(&mut front, many, place)?;
@@ -63,8 +66,10 @@ fn all_checked(
     requires { All (IsKnownPlan (length placement.now.setup.shards) (length placement.now.setup.servers)) plans.items }
     ensures waiting { IfOk result (λ waiting. map hand_plan waiting.items ≡ map (λ plan. Some plan) plans.items) }
     ensures checked { IfOk result (λ waiting. AreFor placement.now.setup waiting.items) }
-    ensures passed { OnOk result ((output : Output) → AtChecks (sizes_of placement.now.setup) many 0 plans.items (λ other. other ≡ output) output) }
-    ensures ends { IfErr result (λ stop. IfEnded stop (AtChecks (sizes_of placement.now.setup) many 0 plans.items (λ other. ⊥))) }
+    ensures passed { OnOk result ((output : Output)
+        → AtChecks (sizes_of placement.now.setup) many 0 plans.items (λ other. other ≡ output) output) }
+    ensures ends { IfErr result (λ stop. IfEnded stop
+        (AtChecks (sizes_of placement.now.setup) many 0 plans.items (λ other. ⊥))) }
 {
     let mut left = plans;
     let mut waiting = Vec::with_capacity(alloc, left.len())?;
@@ -88,11 +93,14 @@ fn open_player(
     requires room { down_count (sizes_of placement.setup) (place_of placement) ≤ log }
     requires most { log ≤ MOST_PLACES }
     requires known { All (IsKnownPlan (length placement.setup.shards) (length placement.setup.servers)) plans.items }
-    ensures scene { IfOk result (λ p. scene_of p ≡ opened_scene (sizes_of placement.setup) (place_of placement) log plans.items) }
+    ensures scene { IfOk result (λ p. scene_of p
+        ≡ opened_scene (sizes_of placement.setup) (place_of placement) log plans.items) }
     ensures setup { IfOk result (λ p. p.director.placement.setup ≡ placement.setup) }
     ensures ready { IfOk result IsSetUp }
-    ensures passed { OnOk result ((output : Output) → AtChecks (sizes_of placement.setup) many 0 plans.items (λ other. other ≡ output) output) }
-    ensures ends { IfErr result (λ stop. IfEnded stop (AtChecks (sizes_of placement.setup) many 0 plans.items (λ other. ⊥))) }
+    ensures passed { OnOk result ((output : Output)
+        → AtChecks (sizes_of placement.setup) many 0 plans.items (λ other. other ≡ output) output) }
+    ensures ends { IfErr result (λ stop. IfEnded stop
+        (AtChecks (sizes_of placement.setup) many 0 plans.items (λ other. ⊥))) }
 {
     let waiting = all_checked(alloc, many, &placement, plans)?;
     Ok(Player::open(alloc, placement, log, waiting)?)
@@ -110,7 +118,8 @@ fn report_played(
     requires ready { IsSetUp player }
     requires known { All (NamesKnown (sizes_of config.now)) events.now }
     requires setup { player.director.placement.setup ≡ config.now }
-    ensures { IfOk result (λ made. made ≡ played_output config.now many (string_bytes front) events.now (scene_of player)) }
+    ensures { IfOk result (λ made. made ≡ played_output config.now many (string_bytes front) events.now
+        (scene_of player)) }
 {
     let mut text = front;
     let told = play_events(alloc, &mut text, config, many, &mut player, events);
@@ -137,7 +146,8 @@ fn report_list(
     requires known { All (IsKnownPlan (length placement.setup.shards) (length placement.setup.servers)) plans.items }
     requires events { All (NamesKnown (sizes_of config.now)) events.now }
     ensures { IfMade result (AtChecks (sizes_of config.now) many 0 plans.items
-        (IsPlayedOutput config.now many [] events.now (opened_scene (sizes_of config.now) (place_of placement) log plans.items))) }
+        (IsPlayedOutput config.now many [] events.now
+        (opened_scene (sizes_of config.now) (place_of placement) log plans.items))) }
 {
     let player = open_player(alloc, many, placement, log, plans)?;
     Ok(report_played(alloc, config, String::new(alloc), many, player, events)?)
@@ -149,7 +159,8 @@ fn begin_alone(alloc: Global, config: &Config, player: &mut Player) -> Result<()
     ensures ok { OnOk result (begin_stage config.now (scene_of player.old) ≡ Ok (scene_of player.new)) }
     ensures ready { OnOk result (IsSetUp player.new) }
     ensures setup { OnOk result (player.new.director.placement.setup ≡ player.old.director.placement.setup) }
-    ensures ends { IfErr result (λ stop. IfEnded stop (λ made. begin_stage config.now (scene_of player.old) ≡ Err made)) }
+    ensures ends { IfErr result (λ stop. IfEnded stop
+        (λ made. begin_stage config.now (scene_of player.old) ≡ Err made)) }
 {
     match player.play(alloc, Event::Begin { plan: 0 }) {
         Ok(Played::NotBegun(why)) => Err(Stop::Report(MadeReport::not_begun(alloc, config, why)?)),
@@ -169,7 +180,8 @@ fn report_begun(
     requires ready { IsSetUp player }
     requires known { All (NamesKnown (sizes_of config.now)) events.now }
     requires setup { player.director.placement.setup ≡ config.now }
-    ensures { IfMade result (Then (begin_stage config.now (scene_of player)) (IsPlayedOutput config.now false (string_bytes front) events.now)) }
+    ensures { IfMade result (Then (begin_stage config.now (scene_of player))
+        (IsPlayedOutput config.now false (string_bytes front) events.now)) }
 {
     match begin_alone(alloc, config, &mut player) {
         Ok(()) => Ok(report_played(alloc, config, front, false, player, events)?),
@@ -196,7 +208,8 @@ fn report_one(
     requires known { IsKnownPlan (length placement.setup.shards) (length placement.setup.servers) plan }
     requires events { All (NamesKnown (sizes_of config.now)) events.now }
     ensures { IfMade result (AtChecks (sizes_of config.now) false 0 (plan ∷ [])
-        (Then (begin_stage config.now (opened_scene (sizes_of config.now) (place_of placement) log (plan ∷ []))) (IsPlayedOutput config.now false (accepted_line plan) events.now))) }
+        (Then (begin_stage config.now (opened_scene (sizes_of config.now) (place_of placement) log (plan ∷ [])))
+        (IsPlayedOutput config.now false (accepted_line plan) events.now))) }
 {
     let mut front = String::new(alloc);
     push_accepted(&mut front, &plan)?;

@@ -47,7 +47,8 @@ fn read_bytes(alloc: Global, bytes: &[u8]) -> Result<Document, Stop>
 pub fn read_input<R: Read>(alloc: Global, reader: &mut R) -> Result<Document, Stop>
     ensures ok { IfOk result (λ document. IsReadAs (R.remaining reader.old) MOST_BYTES (Ok (rows_of document))) }
     ensures known { IfOk result (λ document. IsDocument (rows_of document)) }
-    ensures ends { IfErr result (λ stop. IfReadEnded stop (λ made. IsReadAs (R.remaining reader.old) MOST_BYTES (Err made))) }
+    ensures ends { IfErr result (λ stop. IfReadEnded stop
+        (λ made. IsReadAs (R.remaining reader.old) MOST_BYTES (Err made))) }
 {
     match take_input(alloc, reader, READ_TURNS, MOST_BYTES) {
         Ok(input) => read_bytes(alloc, input.as_slice()),
@@ -104,7 +105,8 @@ pub fn report<R: Read, W: Write>(
     // After a write that fails, a front of the report's text is written, and not all of it.
     ensures write_fault { result ≡ Status.WriteFailed → (output : Output)
         × IsReportOf command MOST_BYTES (R.remaining reader.old) output
-        × (k : ℕ) × (k < length output.text) × Appends (W.contents writer.old) (W.contents writer.new) (take k output.text) }
+        × (k : ℕ) × (k < length output.text) × Appends (W.contents writer.old) (W.contents writer.new)
+        (take k output.text) }
     // No thread is asked for.
     ensures threads { result ≢ Status.NoThread }
 {
@@ -129,7 +131,8 @@ pub fn scenes_are_safe()
 /// States that there is one report of an input by a command, since there is one verdict on a plan and one answer of the
 /// planner.
 pub fn one_report()
-    ensures { (command : Command) (most : ℕ) (bytes : List ℕ) (a b : Output) → IsReport command most bytes a → IsReport command most bytes b → a ≡ b }
+    ensures { (command : Command) (most : ℕ) (bytes : List ℕ) (a b : Output) → IsReport command most bytes a
+        → IsReport command most bytes b → a ≡ b }
 {
     one_fault();
     one_holding();

@@ -3,7 +3,8 @@ ghost use Rattle.std.specs.Prelude.{◌≡◌, ◌++◌, All, OnOk, string_bytes
 ghost use Rattle.sm_protocol.specs.State.{is_begun};
 ghost use Rattle.sm_executor.specs.Clients.{IsClient};
 ghost use Rattle.sm_machine.specs.State.{state_of};
-ghost use Rattle.sm_report.specs.RunLines.{stream_end_line, end_line, end_lines, ask_front, asked_line, ask_line, client_line, client_lines};
+ghost use Rattle.sm_report.specs.RunLines.{stream_end_line, end_line, end_lines, ask_front, asked_line, ask_line};
+ghost use Rattle.sm_report.specs.RunLines.{client_line, client_lines};
 
 use sm_executor::{Client, Naming};
 use sm_machine::Machine;

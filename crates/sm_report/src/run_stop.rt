@@ -5,8 +5,8 @@ ghost use Rattle.sm_report.specs.RunStop.{not_finished_text};
 use crate::stop::Stop;
 use std::alloc::AllocError;
 
-/// Why a plan that has begun was not run to its end. Nothing halts the board of a report, no call is lost on it, and no server is
-/// restarted: so each but the first would be a fault of this program.
+/// Why a plan that has begun was not run to its end. Nothing halts the board of a report, no call is lost on it, and no
+/// server is restarted: so each but the first would be a fault of this program.
 #[derive(Clone, Copy, Debug, PartialEq, Eq)]
 pub enum NotFinished {
     /// A thread could not be started, and no stream has stepped.

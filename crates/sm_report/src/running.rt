@@ -12,7 +12,8 @@ ghost use Rattle.sm_plan_text.specs.Reading.{rows_of};
 ghost use Rattle.sm_report.specs.declared.limits.TheConstants.{MOST_BYTES};
 ghost use Rattle.sm_report.specs.declared.run_stop.NotFinished.{NotFinished};
 ghost use Rattle.sm_report.specs.Report.{Output};
-ghost use Rattle.sm_report.specs.Running.{IsStartedForRun, IsLoggedForRun, IsPlacedForRun, IsOpenedForRun, IsRunReport, IsRunReportOf};
+ghost use Rattle.sm_report.specs.Running.{IsStartedForRun, IsLoggedForRun, IsPlacedForRun, IsOpenedForRun, IsRunReport};
+ghost use Rattle.sm_report.specs.Running.{IsRunReportOf};
 ghost use Rattle.sm_report.specs.Status.{code_of};
 ghost use Rattle.sm_report.specs.RunStop.{not_finished_text, not_run, IfRan, IfReadRan};
 ghost use Rattle.sm_plan_code.specs.declared.limits.TheConstants.{MOST_PLACES};
@@ -51,7 +52,8 @@ fn report_checked<R: Threads + Wait + Sync>(
     requires most { log ≤ MOST_PLACES }
     requires setup { checked.setup ≡ placement.setup }
     requires known { All (λ shard. shard < length placement.setup.shards) asks.now }
-    ensures { IfRan result (IsStartedForRun (opened (sizes_of placement.setup) (place_of placement) log) placement.setup checked.plan asks.now) }
+    ensures { IfRan result (IsStartedForRun (opened (sizes_of placement.setup) (place_of placement) log)
+        placement.setup checked.plan asks.now) }
 {
     let mut accepted = String::new(alloc);
     push_accepted(&mut accepted, checked.plan())?;
@@ -110,7 +112,8 @@ fn report_plan<R: Threads + Wait + Sync>(
     plan: Plan,
 ) -> Result<MadeReport, RunStop>
     requires document { IsDocument (rows_of document.now) }
-    requires plan { IsKnownPlan (length (rows_of document.now).setup.shards) (length (rows_of document.now).setup.servers) plan }
+    requires plan { IsKnownPlan (length (rows_of document.now).setup.shards)
+        (length (rows_of document.now).setup.servers) plan }
     ensures { IfRan result (IsOpenedForRun (rows_of document.now) plan) }
 {
     let placement = placement(alloc, document)?;
@@ -145,8 +148,11 @@ fn report_reader<R: Threads + Wait + Sync, I: Read>(
 /// Writes why a plan was not run to its end, and says how that ends.
 fn write_not_finished<W: Write>(writer: &mut W, not_finished: NotFinished) -> Status
     ensures status { (result ≢ Status.WriteFailed) → result ≡ Status.NoThread }
-    ensures text { result ≡ Status.NoThread → Appends (W.contents writer.old) (W.contents writer.new) (not_finished_text not_finished) }
-    ensures front { result ≡ Status.WriteFailed → (k : ℕ) × (k < length (not_finished_text not_finished)) × Appends (W.contents writer.old) (W.contents writer.new) (take k (not_finished_text not_finished)) }
+    ensures text { result ≡ Status.NoThread → Appends (W.contents writer.old) (W.contents writer.new)
+        (not_finished_text not_finished) }
+    ensures front { result ≡ Status.WriteFailed
+        → (k : ℕ) × (k < length (not_finished_text not_finished))
+        × Appends (W.contents writer.old) (W.contents writer.new) (take k (not_finished_text not_finished)) }
 {
     if deliver(writer, not_finished.text().as_bytes()) {
         Status::NoThread
@@ -177,7 +183,8 @@ pub fn report_run<R: Threads + Wait + Sync, I: Read, W: Write>(
     // After a write that fails, a front of the report's text is written, and not all of it.
     ensures write_fault { result ≡ Status.WriteFailed → (output : Output)
         × IsRunReportOf MOST_BYTES (I.remaining reader.old) output
-        × (k : ℕ) × (k < length output.text) × Appends (W.contents writer.old) (W.contents writer.new) (take k output.text) }
+        × (k : ℕ) × (k < length output.text) × Appends (W.contents writer.old) (W.contents writer.new)
+        (take k output.text) }
 {
     match report_reader(rt, alloc, reader) {
         Ok(made) => made.write(writer),
@@ -193,7 +200,8 @@ pub fn report_run<R: Threads + Wait + Sync, I: Read, W: Write>(
 /// States that `run` reports the same of a document without asks in each run that comes to its end, whatever the
 /// schedule is.
 pub fn one_run_report()
-    ensures { (d : DocumentModel) (a b : Output) → d.asks ≡ [] → IsRunReport d a → IsRunReport d b → a.status ≢ Status.NoThread → b.status ≢ Status.NoThread → a ≡ b }
+    ensures { (d : DocumentModel) (a b : Output) → d.asks ≡ [] → IsRunReport d a → IsRunReport d b
+        → a.status ≢ Status.NoThread → b.status ≢ Status.NoThread → a ≡ b }
 {
     one_fault();
 }

@@ -16,7 +16,8 @@ ghost use Rattle.sm_plan_text.specs.Reading.{rows_of};
 ghost use Rattle.sm_report_text.specs.Checking.{fault_line};
 ghost use Rattle.sm_report.specs.Stop.{IfEnded};
 ghost use Rattle.sm_report.specs.Report.{refused};
-ghost use Rattle.sm_report.specs.Stages.{member_stage, alone_stage, placement_stage, log_stage, IsFaultReport, IsHoldingReport};
+ghost use Rattle.sm_report.specs.Stages.{member_stage, alone_stage, placement_stage, log_stage, IsFaultReport};
+ghost use Rattle.sm_report.specs.Stages.{IsHoldingReport};
 
 use crate::made_report::MadeReport;
 use crate::stop::Stop;
@@ -55,7 +56,8 @@ pub fn placement(alloc: Global, document: &Document) -> Result<Placement, Stop>
 
 /// Returns the report of a plan that did not pass the check, behind a front; none if memory was short for the check.
 fn fault_report(alloc: Global, front: &str, fault: &Fault) -> Result<MadeReport, AllocError>
-    ensures { IfOk result (λ made. (fault.now ≢ Fault.NoMemory) × (made ≡ refused (front.now ++ fault_line fault.now))) }
+    ensures { IfOk result (λ made. (fault.now ≢ Fault.NoMemory)
+        × (made ≡ refused (front.now ++ fault_line fault.now))) }
 {
     match fault {
         Fault::NoMemory => Err(AllocError),
@@ -69,7 +71,8 @@ fn fault_report(alloc: Global, front: &str, fault: &Fault) -> Result<MadeReport,
 /// Ends the report if a document has one plan and a list of plans.
 pub fn require_one_source_of_plans(alloc: Global, document: &Document) -> Result<(), Stop>
     ensures ok { OnOk result (alone_stage (rows_of document.now).plan (rows_of document.now).plans ≡ Ok tt) }
-    ensures ends { IfErr result (λ stop. IfEnded stop (λ made. alone_stage (rows_of document.now).plan (rows_of document.now).plans ≡ Err made)) }
+    ensures ends { IfErr result (λ stop. IfEnded stop
+        (λ made. alone_stage (rows_of document.now).plan (rows_of document.now).plans ≡ Err made)) }
 {
     if document.plan.is_some() && document.plans.is_some() {
         let fault = TextFault::Shape {
@@ -89,7 +92,8 @@ pub fn require_log_room(
     requires { placement.now.setup ≡ (rows_of document.now).setup }
     ensures ok { OnOk result (log_stage (rows_of document.now) (place_of placement.now) ≡ Ok tt) }
     ensures room { OnOk result (down_count (sizes_of placement.now.setup) (place_of placement.now) ≤ document.now.log) }
-    ensures ends { IfErr result (λ stop. IfEnded stop (λ made. log_stage (rows_of document.now) (place_of placement.now) ≡ Err made)) }
+    ensures ends { IfErr result (λ stop. IfEnded stop
+        (λ made. log_stage (rows_of document.now) (place_of placement.now) ≡ Err made)) }
 {
     if document.log < placement.down_count() {
         return Err(Stop::Report(MadeReport::log_full(alloc)?));
@@ -143,7 +147,8 @@ pub fn may_start(
     requires rights { pool_hold pool.now ≡ true_rights (sizes_of placement.now.setup) (place_of placement.now) }
     ensures admitted { OnOk result (IsAdmitted (sizes_of placement.now.setup) (place_of placement.now)
         (true_rights (sizes_of placement.now.setup) (place_of placement.now)) checked.now.plan) }
-    ensures ends { IfErr result (λ stop. IfEnded stop (IsHoldingReport placement.now.setup (place_of placement.now) checked.now.plan)) }
+    ensures ends { IfErr result (λ stop. IfEnded stop
+        (IsHoldingReport placement.now.setup (place_of placement.now) checked.now.plan)) }
 {
     match admit(checked, pool, placement) {
         Ok(()) => Ok(()),

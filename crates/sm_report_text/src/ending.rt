@@ -1,7 +1,8 @@
 //! The lines of a placement at the end of a report.
 ghost use Rattle.std.specs.Prelude.{◌≡◌, ◌++◌, ◌<◌, OnOk, string_bytes, length};
 ghost use Rattle.sm_placement.specs.Layout.{place_of};
-ghost use Rattle.sm_report_text.specs.Ending.{server_line, shard_line, cell_lines, server_lines, all_shard_lines, ending, replica_line, handover_line, cell_line, state_word, listed_name};
+ghost use Rattle.sm_report_text.specs.Ending.{server_line, shard_line, cell_lines, server_lines, all_shard_lines};
+ghost use Rattle.sm_report_text.specs.Ending.{ending, replica_line, handover_line, cell_line, state_word, listed_name};
 
 use sm_placement::{Config, Placement};
 use sm_refusals::{server_name, shard_name};
@@ -38,7 +39,8 @@ fn push_handover(
     other: &str,
     number: u64,
 ) -> Result<(), AllocError>
-    ensures { OnOk result (string_bytes out.new ≡ string_bytes out.old ++ handover_line server.now way.now other.now number) }
+    ensures { OnOk result (string_bytes out.new
+        ≡ string_bytes out.old ++ handover_line server.now way.now other.now number) }
 {
     writeln!(out, "  {server} {way} {other} number {number}")
 }
@@ -75,7 +77,8 @@ fn push_cell(
 /// Adds the line of a server.
 fn push_server(out: &mut String, placement: &Placement, server: ServerId) -> Result<(), AllocError>
     requires { server < length placement.now.setup.servers }
-    ensures { OnOk result (string_bytes out.new ≡ string_bytes out.old ++ server_line placement.now.setup (place_of placement.now) server) }
+    ensures { OnOk result (string_bytes out.new
+        ≡ string_bytes out.old ++ server_line placement.now.setup (place_of placement.now) server) }
 {
     let config = placement.config();
     let name = server_name(config, server);
@@ -88,7 +91,8 @@ fn push_server(out: &mut String, placement: &Placement, server: ServerId) -> Res
 /// Adds the line of a shard.
 fn push_shard(out: &mut String, placement: &Placement, shard: ShardId) -> Result<(), AllocError>
     requires { shard < length placement.now.setup.shards }
-    ensures { OnOk result (string_bytes out.new ≡ string_bytes out.old ++ shard_line placement.now.setup (place_of placement.now) shard) }
+    ensures { OnOk result (string_bytes out.new
+        ≡ string_bytes out.old ++ shard_line placement.now.setup (place_of placement.now) shard) }
 {
     let config = placement.config();
     let name = shard_name(config, shard);
@@ -105,7 +109,8 @@ fn push_shard(out: &mut String, placement: &Placement, shard: ShardId) -> Result
 /// Adds the lines of a shard's cells, by server.
 fn push_cells(out: &mut String, placement: &Placement, shard: ShardId) -> Result<(), AllocError>
     requires { shard < length placement.now.setup.shards }
-    ensures { OnOk result (string_bytes out.new ≡ string_bytes out.old ++ cell_lines placement.now.setup (place_of placement.now) shard) }
+    ensures { OnOk result (string_bytes out.new
+        ≡ string_bytes out.old ++ cell_lines placement.now.setup (place_of placement.now) shard) }
 {
     let config = placement.config();
     for number in 0..config.server_count() {
@@ -117,7 +122,8 @@ fn push_cells(out: &mut String, placement: &Placement, shard: ShardId) -> Result
 
 /// Adds the lines of the servers.
 fn push_servers(out: &mut String, placement: &Placement) -> Result<(), AllocError>
-    ensures { OnOk result (string_bytes out.new ≡ string_bytes out.old ++ server_lines placement.now.setup (place_of placement.now)) }
+    ensures { OnOk result (string_bytes out.new
+        ≡ string_bytes out.old ++ server_lines placement.now.setup (place_of placement.now)) }
 {
     for number in 0..placement.config().server_count() {
         push_server(out, placement, ServerId::new(number))?;
@@ -127,7 +133,8 @@ fn push_servers(out: &mut String, placement: &Placement) -> Result<(), AllocErro
 
 /// Adds the lines of the shards, each with those of its cells.
 fn push_shards(out: &mut String, placement: &Placement) -> Result<(), AllocError>
-    ensures { OnOk result (string_bytes out.new ≡ string_bytes out.old ++ all_shard_lines placement.now.setup (place_of placement.now)) }
+    ensures { OnOk result (string_bytes out.new
+        ≡ string_bytes out.old ++ all_shard_lines placement.now.setup (place_of placement.now)) }
 {
     for number in 0..placement.config().shard_count() {
         let shard = ShardId::new(number);
@@ -139,7 +146,8 @@ fn push_shards(out: &mut String, placement: &Placement) -> Result<(), AllocError
 
 /// Adds the lines of a placement.
 pub fn push_ending(out: &mut String, placement: &Placement) -> Result<(), AllocError>
-    ensures { OnOk result (string_bytes out.new ≡ string_bytes out.old ++ ending placement.now.setup (place_of placement.now)) }
+    ensures { OnOk result (string_bytes out.new
+        ≡ string_bytes out.old ++ ending placement.now.setup (place_of placement.now)) }
 {
     push_servers(out, placement)?;
     push_shards(out, placement)

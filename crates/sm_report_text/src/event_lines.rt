@@ -1,6 +1,9 @@
 //! The lines of events that are played, and of the streams after them.
 ghost use Rattle.std.specs.Prelude.{◌≡◌, ◌++◌, [], OnOk, string_bytes};
-ghost use Rattle.sm_report_text.specs.EventLines.{plan_front, stream_text, word_line, blocked_line, executed_line, passed_line, place_told, denied_line, refill_line, begun_counts_line, not_begun_line, event_front, stream_at_line, stream_done_line, waiting_line};
+ghost use Rattle.sm_report_text.specs.EventLines.{plan_front, stream_text, word_line, blocked_line, executed_line};
+ghost use Rattle.sm_report_text.specs.EventLines.{passed_line, place_told, denied_line, refill_line, begun_counts_line};
+ghost use Rattle.sm_report_text.specs.EventLines.{not_begun_line, event_front, stream_at_line, stream_done_line};
+ghost use Rattle.sm_report_text.specs.EventLines.{waiting_line};
 
 use crate::refusal_line::push_refusal;
 use sm_placement::Config;
@@ -95,7 +98,8 @@ pub fn push_denied(
     places: &[u32],
     denied: Denied,
 ) -> Result<(), AllocError>
-    ensures { OnOk result (string_bytes out.new ≡ string_bytes out.old ++ denied_line config.now many places.now denied) }
+    ensures { OnOk result (string_bytes out.new
+        ≡ string_bytes out.old ++ denied_line config.now many places.now denied) }
 {
     let place = place_told(many, places, &denied);
     push_refusal(out, &denied_refusal(config, place, denied))

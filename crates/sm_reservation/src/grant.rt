@@ -4,7 +4,8 @@ ghost use Rattle.sm_reservation.specs.Rights.{no_rights};
 ghost use Rattle.sm_reservation.specs.Hold.{minus, plus};
 ghost use Rattle.sm_reservation.specs.HoldOf.{hold_of};
 ghost use Rattle.sm_reservation.specs.Amounts.{Right, count};
-ghost use Rattle.sm_reservation.specs.Capacity.{IsLess, IsMore, IsTraded, HasCapacity, HasCapacityAfter, IsWithin, key_counts};
+ghost use Rattle.sm_reservation.specs.Capacity.{IsLess, IsMore, IsTraded, HasCapacity, HasCapacityAfter, IsWithin};
+ghost use Rattle.sm_reservation.specs.Capacity.{key_counts};
 ghost use Rattle.sm_reservation.specs.Key.{IsOrdered, IsPositive, AreU64};
 ghost use Rattle.sm_reservation.specs.CanJoin.{CanJoin};
 ghost use Rattle.sm_reservation.specs.Short.{first_short};
@@ -156,10 +157,12 @@ impl Grant {
         ensures enough { OnOk result (first_short (hold_of self.old.rights) parcel.now ≡ None) }
         ensures taken { OnOk result (hold_of self.new.rights ≡ minus (hold_of self.old.rights) parcel.now) }
         ensures given { OnOk result (hold_of into.new.rights ≡ plus (hold_of into.old.rights) parcel.now) }
-        ensures kept { OnOk result ((r : Right) → count (hold_of self.new.rights) r + count (hold_of into.new.rights) r ≡ count (hold_of self.old.rights) r + count (hold_of into.old.rights) r) }
+        ensures kept { OnOk result ((r : Right) → count (hold_of self.new.rights) r + count
+            (hold_of into.new.rights) r ≡ count (hold_of self.old.rights) r + count (hold_of into.old.rights) r) }
         ensures less { OnOk result (IsLess self.old self.new parcel.now) }
         ensures more { OnOk result (IsMore into.old into.new parcel.now) }
-        ensures below { OnOk result ((shards servers : ℕ) → IsKnownHold shards servers (hold_of self.old.rights) → IsKnownHold shards servers (hold_of parcel.now)) }
+        ensures below { OnOk result ((shards servers : ℕ) → IsKnownHold shards servers (hold_of self.old.rights)
+            → IsKnownHold shards servers (hold_of parcel.now)) }
     {
         if let Some(short) = self.hold.first_short(parcel) {
             return Err(short);
@@ -174,7 +177,8 @@ impl Grant {
         requires capacity { HasCapacity self.old grant.rights }
         requires fits { CanJoin (hold_of self.old.rights) (hold_of grant.rights) }
         ensures rights { hold_of self.new.rights ≡ plus (hold_of self.old.rights) grant.rights }
-        ensures kept { (r : Right) → count (hold_of self.new.rights) r ≡ count (hold_of self.old.rights) r + count (hold_of grant.rights) r }
+        ensures kept { (r : Right) → count (hold_of self.new.rights) r
+            ≡ count (hold_of self.old.rights) r + count (hold_of grant.rights) r }
         ensures more { IsMore self.old self.new grant.rights }
     {
         let hold = grant.into_hold();
@@ -192,7 +196,8 @@ impl Grant {
         requires capacity { HasCapacity self.old parcel.now }
         requires fits { CanJoin (hold_of self.old.rights) (hold_of parcel.now) }
         ensures rights { hold_of self.new.rights ≡ plus (hold_of self.old.rights) parcel.now }
-        ensures sums { (r : Right) → count (hold_of self.new.rights) r ≡ count (hold_of self.old.rights) r + count (hold_of parcel.now) r }
+        ensures sums { (r : Right) → count (hold_of self.new.rights) r
+            ≡ count (hold_of self.old.rights) r + count (hold_of parcel.now) r }
         ensures more { IsMore self.old self.new parcel.now }
     {
         join_parcel(&mut self.hold, parcel);
@@ -204,7 +209,8 @@ impl Grant {
         requires fits { CanJoin (minus (hold_of self.old.rights) out.now) (hold_of got.now) }
         requires capacity { HasCapacityAfter self.old out.now got.now }
         ensures rights { hold_of self.new.rights ≡ plus (minus (hold_of self.old.rights) out.now) got.now }
-        ensures changed { (r : Right) → count (hold_of self.new.rights) r + count (hold_of out.now) r ≡ count (hold_of self.old.rights) r + count (hold_of got.now) r }
+        ensures changed { (r : Right) → count (hold_of self.new.rights) r + count (hold_of out.now) r
+            ≡ count (hold_of self.old.rights) r + count (hold_of got.now) r }
         ensures sizes { IsTraded self.old self.new out.now got.now }
     {
         self.hold.take(out);
@@ -214,10 +220,14 @@ impl Grant {
     /// Gives the rights of a small change up for those that it gets, together with the call that it is for.
     pub fn exchange(&mut self, change: &Change)
         requires held { first_short (hold_of self.old.rights) (portion_rights change.now.out) ≡ None }
-        requires fits { CanJoin (minus (hold_of self.old.rights) (portion_rights change.now.out)) (hold_of (portion_rights change.now.got)) }
+        requires fits { CanJoin (minus (hold_of self.old.rights) (portion_rights change.now.out))
+            (hold_of (portion_rights change.now.got)) }
         requires capacity { HasCapacityAfter self.old (portion_rights change.now.out) (portion_rights change.now.got) }
-        ensures rights { hold_of self.new.rights ≡ plus (minus (hold_of self.old.rights) (portion_rights change.now.out)) (portion_rights change.now.got) }
-        ensures changed { (r : Right) → count (hold_of self.new.rights) r + count (hold_of (portion_rights change.now.out)) r ≡ count (hold_of self.old.rights) r + count (hold_of (portion_rights change.now.got)) r }
+        ensures rights { hold_of self.new.rights ≡ plus
+            (minus (hold_of self.old.rights) (portion_rights change.now.out)) (portion_rights change.now.got) }
+        ensures changed { (r : Right) → count (hold_of self.new.rights) r + count
+            (hold_of (portion_rights change.now.out)) r
+            ≡ count (hold_of self.old.rights) r + count (hold_of (portion_rights change.now.got)) r }
         ensures sizes { IsTraded self.old self.new (portion_rights change.now.out) (portion_rights change.now.got) }
     {
         self.hold.exchange(change);

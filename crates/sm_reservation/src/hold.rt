@@ -1,16 +1,20 @@
 //! Holds: rights that are read and changed by their keys.
 #![tactic(auto, unfolding(crate::specs::HoldOf::hold_of))]
 
-ghost use Rattle.std.specs.Prelude.{◌≡◌, ◌↔◌, IsTrue, ◌+◌, ◌<◌, ◌≤◌, ◌==◌, ◌&&◌, ◌^◌, None, Some, nat_lt, is_none, is_some, max, IsOk, IfOk, OnOk, OnErr, length};
+ghost use Rattle.std.specs.Prelude.{◌≡◌, ◌↔◌, IsTrue, ◌+◌, ◌<◌, ◌≤◌, ◌==◌, ◌&&◌, ◌^◌, None, Some, nat_lt, is_none};
+ghost use Rattle.std.specs.Prelude.{is_some, max, IsOk, IfOk, OnOk, OnErr, length};
 ghost use Rattle.sm_placement.specs.Sums.{bit};
 ghost use Rattle.sm_reservation.specs.Rights.{no_rights};
 ghost use Rattle.std.specs.List.{AllByRecursion};
 ghost use Rattle.sm_reservation.specs.Rows.{Rises, HasPositive};
-ghost use Rattle.sm_reservation.specs.Key.{key_of_cell, key_of_crown, key_of_room, key_of_spare, IsOrdered, IsPositive, AreU64};
+ghost use Rattle.sm_reservation.specs.Key.{key_of_cell, key_of_crown, key_of_room, key_of_spare, IsOrdered, IsPositive};
+ghost use Rattle.sm_reservation.specs.Key.{AreU64};
 ghost use Rattle.sm_reservation.specs.CanJoin.{CanJoin};
 ghost use Rattle.sm_reservation.specs.Short.{first_short};
-ghost use Rattle.sm_reservation.specs.Capacity.{IsLess, IsMore, IsTraded, HasCapacity, HasCapacityAfter, most_keys, SumsFit, IsWithin, key_counts};
-ghost use Rattle.sm_reservation.specs.Hold.{minus, plus, with_cell, with_crown, without_crown, get_room, pay_room, get_spare, pay_spare};
+ghost use Rattle.sm_reservation.specs.Capacity.{IsLess, IsMore, IsTraded, HasCapacity, HasCapacityAfter, most_keys};
+ghost use Rattle.sm_reservation.specs.Capacity.{SumsFit, IsWithin, key_counts};
+ghost use Rattle.sm_reservation.specs.Hold.{minus, plus, with_cell, with_crown, without_crown, get_room, pay_room};
+ghost use Rattle.sm_reservation.specs.Hold.{get_spare, pay_spare};
 ghost use Rattle.sm_reservation.specs.Amounts.{Right, count};
 ghost use Rattle.sm_reservation.specs.HoldOf.{hold_of};
 ghost use Rattle.sm_reservation.specs.Change.{portion_rights};
@@ -165,8 +169,10 @@ impl Hold {
     /// Takes the right to a cell out, if there is one.
     pub fn take_cell(&mut self, shard: ShardId, server: ServerId)
         ensures rights { hold_of self.new.rights ≡ with_cell (hold_of self.old.rights) shard server None }
-        ensures len { length self.new.rights.cells + bit (is_some ((hold_of self.old.rights).cells shard server)) ≡ length self.old.rights.cells }
-        ensures others { self.new ≡ record self.old { rights = record self.old.rights { cells = self.new.rights.cells } } }
+        ensures len { length self.new.rights.cells + bit (is_some ((hold_of self.old.rights).cells shard server))
+            ≡ length self.old.rights.cells }
+        ensures others { self.new ≡ record self.old
+            { rights = record self.old.rights { cells = self.new.rights.cells } } }
     {
         let right = CellRight {
             shard,
@@ -178,10 +184,15 @@ impl Hold {
 
     /// Puts the right to a cell in, and takes out one to that cell in another state.
     pub fn put_cell(&mut self, right: CellRight)
-        requires capacity { (hold_of self.old.rights).cells right.shard right.server ≡ None → length self.old.rights.cells < self.old.capacity }
-        ensures rights { hold_of self.new.rights ≡ with_cell (hold_of self.old.rights) right.shard right.server (Some right.state) }
-        ensures len { length self.new.rights.cells ≡ length self.old.rights.cells + bit (is_none ((hold_of self.old.rights).cells right.shard right.server)) }
-        ensures others { self.new ≡ record self.old { rights = record self.old.rights { cells = self.new.rights.cells } } }
+        requires capacity { (hold_of self.old.rights).cells right.shard right.server ≡ None
+            → length self.old.rights.cells < self.old.capacity }
+        ensures rights { hold_of self.new.rights ≡ with_cell (hold_of self.old.rights) right.shard right.server
+            (Some right.state) }
+        ensures len { length self.new.rights.cells
+            ≡ length self.old.rights.cells + bit (is_none
+            ((hold_of self.old.rights).cells right.shard right.server)) }
+        ensures others { self.new ≡ record self.old
+            { rights = record self.old.rights { cells = self.new.rights.cells } } }
     {
         self.cells.edit(&right, &In);
     }
@@ -189,8 +200,10 @@ impl Hold {
     /// Takes a shard's crown out, if there is one.
     pub fn take_crown(&mut self, shard: ShardId)
         ensures rights { hold_of self.new.rights ≡ without_crown (hold_of self.old.rights) shard }
-        ensures len { length self.new.rights.crowns + bit (is_some ((hold_of self.old.rights).crowns shard)) ≡ length self.old.rights.crowns }
-        ensures others { self.new ≡ record self.old { rights = record self.old.rights { crowns = self.new.rights.crowns } } }
+        ensures len { length self.new.rights.crowns + bit (is_some ((hold_of self.old.rights).crowns shard))
+            ≡ length self.old.rights.crowns }
+        ensures others { self.new ≡ record self.old
+            { rights = record self.old.rights { crowns = self.new.rights.crowns } } }
     {
         let crown = Crown {
             shard,
@@ -202,10 +215,14 @@ impl Hold {
 
     /// Puts a crown in, and takes out one of that shard.
     pub fn put_crown(&mut self, crown: Crown)
-        requires capacity { (hold_of self.old.rights).crowns crown.shard ≡ None → length self.old.rights.crowns < self.old.capacity }
-        ensures rights { hold_of self.new.rights ≡ with_crown (hold_of self.old.rights) crown.shard crown.lead crown.listed }
-        ensures len { length self.new.rights.crowns ≡ length self.old.rights.crowns + bit (is_none ((hold_of self.old.rights).crowns crown.shard)) }
-        ensures others { self.new ≡ record self.old { rights = record self.old.rights { crowns = self.new.rights.crowns } } }
+        requires capacity { (hold_of self.old.rights).crowns crown.shard ≡ None
+            → length self.old.rights.crowns < self.old.capacity }
+        ensures rights { hold_of self.new.rights ≡ with_crown
+            (hold_of self.old.rights) crown.shard crown.lead crown.listed }
+        ensures len { length self.new.rights.crowns
+            ≡ length self.old.rights.crowns + bit (is_none ((hold_of self.old.rights).crowns crown.shard)) }
+        ensures others { self.new ≡ record self.old
+            { rights = record self.old.rights { crowns = self.new.rights.crowns } } }
     {
         self.crowns.edit(&crown, &In);
     }
@@ -214,19 +231,26 @@ impl Hold {
     pub fn take_room(&mut self, room: Room)
         requires enough { room.amount ≤ (hold_of self.old.rights).room room.server }
         ensures rights { hold_of self.new.rights ≡ pay_room (hold_of self.old.rights) room.server room.amount }
-        ensures len { length self.new.rights.room + bit (nat_lt 0 room.amount && ((hold_of self.old.rights).room room.server == room.amount)) ≡ length self.old.rights.room }
-        ensures others { self.new ≡ record self.old { rights = record self.old.rights { room = self.new.rights.room } } }
+        ensures len { length self.new.rights.room + bit
+            (nat_lt 0 room.amount && ((hold_of self.old.rights).room room.server == room.amount))
+            ≡ length self.old.rights.room }
+        ensures others { self.new ≡ record self.old
+            { rights = record self.old.rights { room = self.new.rights.room } } }
     {
         self.room.edit(&room, &Out);
     }
 
     /// Puts room of a server in.
     pub fn put_room(&mut self, room: Room)
-        requires capacity { 0 < room.amount → (hold_of self.old.rights).room room.server ≡ 0 → length self.old.rights.room < self.old.capacity }
+        requires capacity { 0 < room.amount → (hold_of self.old.rights).room room.server ≡ 0
+            → length self.old.rights.room < self.old.capacity }
         requires fits { (hold_of self.old.rights).room room.server + room.amount < 2 ^ 64 }
         ensures rights { hold_of self.new.rights ≡ get_room (hold_of self.old.rights) room.server room.amount }
-        ensures len { length self.new.rights.room ≡ length self.old.rights.room + bit (nat_lt 0 room.amount && ((hold_of self.old.rights).room room.server == 0)) }
-        ensures others { self.new ≡ record self.old { rights = record self.old.rights { room = self.new.rights.room } } }
+        ensures len { length self.new.rights.room
+            ≡ length self.old.rights.room + bit (nat_lt 0 room.amount &&
+            ((hold_of self.old.rights).room room.server == 0)) }
+        ensures others { self.new ≡ record self.old
+            { rights = record self.old.rights { room = self.new.rights.room } } }
     {
         self.room.edit(&room, &In);
     }
@@ -235,19 +259,26 @@ impl Hold {
     pub fn take_spare(&mut self, spare: Spare)
         requires enough { spare.amount ≤ (hold_of self.old.rights).spare spare.shard }
         ensures rights { hold_of self.new.rights ≡ pay_spare (hold_of self.old.rights) spare.shard spare.amount }
-        ensures len { length self.new.rights.spare + bit (nat_lt 0 spare.amount && ((hold_of self.old.rights).spare spare.shard == spare.amount)) ≡ length self.old.rights.spare }
-        ensures others { self.new ≡ record self.old { rights = record self.old.rights { spare = self.new.rights.spare } } }
+        ensures len { length self.new.rights.spare + bit
+            (nat_lt 0 spare.amount && ((hold_of self.old.rights).spare spare.shard == spare.amount))
+            ≡ length self.old.rights.spare }
+        ensures others { self.new ≡ record self.old
+            { rights = record self.old.rights { spare = self.new.rights.spare } } }
     {
         self.spare.edit(&spare, &Out);
     }
 
     /// Puts spare replicas of a shard in.
     pub fn put_spare(&mut self, spare: Spare)
-        requires capacity { 0 < spare.amount → (hold_of self.old.rights).spare spare.shard ≡ 0 → length self.old.rights.spare < self.old.capacity }
+        requires capacity { 0 < spare.amount → (hold_of self.old.rights).spare spare.shard ≡ 0
+            → length self.old.rights.spare < self.old.capacity }
         requires fits { (hold_of self.old.rights).spare spare.shard + spare.amount < 2 ^ 64 }
         ensures rights { hold_of self.new.rights ≡ get_spare (hold_of self.old.rights) spare.shard spare.amount }
-        ensures len { length self.new.rights.spare ≡ length self.old.rights.spare + bit (nat_lt 0 spare.amount && ((hold_of self.old.rights).spare spare.shard == 0)) }
-        ensures others { self.new ≡ record self.old { rights = record self.old.rights { spare = self.new.rights.spare } } }
+        ensures len { length self.new.rights.spare
+            ≡ length self.old.rights.spare + bit (nat_lt 0 spare.amount &&
+            ((hold_of self.old.rights).spare spare.shard == 0)) }
+        ensures others { self.new ≡ record self.old
+            { rights = record self.old.rights { spare = self.new.rights.spare } } }
     {
         self.spare.edit(&spare, &In);
     }
@@ -352,7 +383,8 @@ impl Hold {
     pub fn take(&mut self, parcel: &Parcel)
         requires held { first_short (hold_of self.old.rights) parcel.now ≡ None }
         ensures rights { hold_of self.new.rights ≡ minus (hold_of self.old.rights) parcel.now }
-        ensures sums { (r : Right) → count (hold_of self.new.rights) r + count (hold_of parcel.now) r ≡ count (hold_of self.old.rights) r }
+        ensures sums { (r : Right) → count (hold_of self.new.rights) r + count (hold_of parcel.now) r
+            ≡ count (hold_of self.old.rights) r }
         ensures less { IsLess self.old self.new parcel.now }
     {
         take_rights(
@@ -367,10 +399,14 @@ impl Hold {
     /// Gives the rights of a small change up for those that it gets.
     pub fn exchange(&mut self, change: &Change)
         requires held { first_short (hold_of self.old.rights) (portion_rights change.now.out) ≡ None }
-        requires fits { CanJoin (minus (hold_of self.old.rights) (portion_rights change.now.out)) (hold_of (portion_rights change.now.got)) }
+        requires fits { CanJoin (minus (hold_of self.old.rights) (portion_rights change.now.out))
+            (hold_of (portion_rights change.now.got)) }
         requires capacity { HasCapacityAfter self.old (portion_rights change.now.out) (portion_rights change.now.got) }
-        ensures rights { hold_of self.new.rights ≡ plus (minus (hold_of self.old.rights) (portion_rights change.now.out)) (portion_rights change.now.got) }
-        ensures changed { (r : Right) → count (hold_of self.new.rights) r + count (hold_of (portion_rights change.now.out)) r ≡ count (hold_of self.old.rights) r + count (hold_of (portion_rights change.now.got)) r }
+        ensures rights { hold_of self.new.rights ≡ plus
+            (minus (hold_of self.old.rights) (portion_rights change.now.out)) (portion_rights change.now.got) }
+        ensures changed { (r : Right) → count (hold_of self.new.rights) r + count
+            (hold_of (portion_rights change.now.out)) r
+            ≡ count (hold_of self.old.rights) r + count (hold_of (portion_rights change.now.got)) r }
         ensures sizes { IsTraded self.old self.new (portion_rights change.now.out) (portion_rights change.now.got) }
     {
         take_portion(self, &change.out);

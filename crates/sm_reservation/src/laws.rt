@@ -1,5 +1,6 @@
 //! Laws of holds, as the machine uses them.
-ghost use Rattle.sm_reservation.specs.Laws.{NoRightsAreNoHold, SpentIsNothing, NotShortIsCovered, RightsStayKnown, JoinsInPlacement, CapacityByHold};
+ghost use Rattle.sm_reservation.specs.Laws.{NoRightsAreNoHold, SpentIsNothing, NotShortIsCovered, RightsStayKnown};
+ghost use Rattle.sm_reservation.specs.Laws.{JoinsInPlacement, CapacityByHold};
 
 /// States that no rights are a hold of nothing.
 pub fn no_rights_are_no_hold()

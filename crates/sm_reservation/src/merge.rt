@@ -1,5 +1,6 @@
 //! Rows of a list worked into rows in order, in one pass over both.
-ghost use Rattle.std.specs.Prelude.{◌≡◌, ℕ, ◌+◌, ◌≤◌, ◌<◌, ◌&&◌, true, IsSome, is_some, is_none, length, vec_len, vec_capacity, [], ◌∷◌, ◌++◌, take, drop};
+ghost use Rattle.std.specs.Prelude.{◌≡◌, ℕ, ◌+◌, ◌≤◌, ◌<◌, ◌&&◌, true, IsSome, is_some, is_none, length, vec_len};
+ghost use Rattle.std.specs.Prelude.{vec_capacity, [], ◌∷◌, ◌++◌, take, drop};
 ghost use Rattle.sm_placement.specs.Sums.{bit};
 ghost use Rattle.sm_reservation.specs.Rows.{Rises, count_before};
 ghost use Rattle.sm_reservation.specs.Edits.{in_front, edited, edited_all, left_at, StaysAt, head_at, new_rows};
@@ -108,7 +109,8 @@ fn shift_before<T: Row>(rows: &mut Vec<T>, write: usize, read: usize, key: (u32,
     requires write { write ≤ read }
     requires read { read ≤ vec_len rows.old }
     ensures count { result ≡ count_before T.key key (drop read rows.old.items) }
-    ensures done { take (write + result) rows.new.items ≡ take write rows.old.items ++ take result (drop read rows.old.items) }
+    ensures done { take (write + result) rows.new.items
+        ≡ take write rows.old.items ++ take result (drop read rows.old.items) }
     ensures rest { drop (read + result) rows.new.items ≡ drop result (drop read rows.old.items) }
     ensures within { read + result ≤ vec_len rows.old }
     ensures len { vec_len rows.new ≡ vec_len rows.old }

@@ -23,8 +23,10 @@ pub fn take_rights(
 )
     requires order { IsOrdered (lists cells.now crowns.now rooms.now spares.now) }
     requires held { first_short (hold_of hold.old.rights) (lists cells.now crowns.now rooms.now spares.now) ≡ None }
-    ensures rights { hold_of hold.new.rights ≡ minus (hold_of hold.old.rights) (lists cells.now crowns.now rooms.now spares.now) }
-    ensures sums { (r : Right) → count (hold_of hold.new.rights) r + count (hold_of (lists cells.now crowns.now rooms.now spares.now)) r ≡ count (hold_of hold.old.rights) r }
+    ensures rights { hold_of hold.new.rights ≡ minus (hold_of hold.old.rights)
+        (lists cells.now crowns.now rooms.now spares.now) }
+    ensures sums { (r : Right) → count (hold_of hold.new.rights) r + count
+        (hold_of (lists cells.now crowns.now rooms.now spares.now)) r ≡ count (hold_of hold.old.rights) r }
     ensures less { IsLess hold.old hold.new (lists cells.now crowns.now rooms.now spares.now) }
 {
     hold.cells.edit_all(cells, &Out);
@@ -44,7 +46,8 @@ pub fn put_rights(
     requires order { IsOrdered (lists cells.now crowns.now rooms.now spares.now) }
     requires capacity { HasCapacity hold.old (lists cells.now crowns.now rooms.now spares.now) }
     requires sums { SumsFit (hold_of hold.old.rights) (lists cells.now crowns.now rooms.now spares.now) }
-    ensures rights { hold_of hold.new.rights ≡ plus (hold_of hold.old.rights) (lists cells.now crowns.now rooms.now spares.now) }
+    ensures rights { hold_of hold.new.rights ≡ plus (hold_of hold.old.rights)
+        (lists cells.now crowns.now rooms.now spares.now) }
     ensures more { IsMore hold.old hold.new (lists cells.now crowns.now rooms.now spares.now) }
 {
     hold.cells.edit_all(cells, &In);

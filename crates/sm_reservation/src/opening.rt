@@ -28,7 +28,11 @@ fn put_row(pool: &mut Pool, placement: &Placement, shard: ShardId)
     requires size { HasSize (sizes_of placement.now.setup) pool.old }
     requires shard { shard < length placement.now.setup.shards }
     requires none { (v : ℕ) → (pool_hold pool.old).cells shard v ≡ None }
-    ensures hold { pool_hold pool.new ≡ record (pool_hold pool.old) { cells = put (pool_hold pool.old).cells shard ((true_rights (sizes_of placement.now.setup) (place_of placement.now)).cells shard) } }
+    ensures hold { pool_hold pool.new ≡ record
+        (pool_hold pool.old) {
+          cells = put (pool_hold pool.old).cells shard
+              ((true_rights (sizes_of placement.now.setup) (place_of placement.now)).cells shard);
+        } }
     ensures size { SameSize pool.old pool.new }
 {
     for number in 0..placement.config().server_count() {
@@ -47,7 +51,11 @@ fn put_row(pool: &mut Pool, placement: &Placement, shard: ShardId)
 pub(crate) fn put_cells(pool: &mut Pool, placement: &Placement)
     requires size { HasSize (sizes_of placement.now.setup) pool.old }
     requires none { (s v : ℕ) → (pool_hold pool.old).cells s v ≡ None }
-    ensures hold { pool_hold pool.new ≡ record (pool_hold pool.old) { cells = (true_rights (sizes_of placement.now.setup) (place_of placement.now)).cells } }
+    ensures hold { pool_hold pool.new ≡ record
+        (pool_hold pool.old) {
+          cells = (true_rights (sizes_of placement.now.setup)
+              (place_of placement.now)).cells;
+        } }
     ensures size { SameSize pool.old pool.new }
 {
     for number in 0..placement.config().shard_count() {
@@ -59,7 +67,11 @@ pub(crate) fn put_cells(pool: &mut Pool, placement: &Placement)
 pub(crate) fn put_crowns(pool: &mut Pool, placement: &Placement)
     requires size { HasSize (sizes_of placement.now.setup) pool.old }
     requires none { (s : ℕ) → (pool_hold pool.old).crowns s ≡ None }
-    ensures hold { pool_hold pool.new ≡ record (pool_hold pool.old) { crowns = (true_rights (sizes_of placement.now.setup) (place_of placement.now)).crowns } }
+    ensures hold { pool_hold pool.new ≡ record
+        (pool_hold pool.old) {
+          crowns = (true_rights (sizes_of placement.now.setup)
+              (place_of placement.now)).crowns;
+        } }
     ensures size { SameSize pool.old pool.new }
 {
     for number in 0..placement.config().shard_count() {
@@ -78,7 +90,10 @@ pub(crate) fn put_crowns(pool: &mut Pool, placement: &Placement)
 pub(crate) fn put_rooms(pool: &mut Pool, placement: &Placement)
     requires size { HasSize (sizes_of placement.now.setup) pool.old }
     requires none { (v : ℕ) → (pool_hold pool.old).room v ≡ 0 }
-    ensures hold { pool_hold pool.new ≡ record (pool_hold pool.old) { room = (true_rights (sizes_of placement.now.setup) (place_of placement.now)).room } }
+    ensures hold { pool_hold pool.new ≡ record
+        (pool_hold pool.old) {
+          room = (true_rights (sizes_of placement.now.setup) (place_of placement.now)).room;
+        } }
     ensures size { SameSize pool.old pool.new }
 {
     for number in 0..placement.config().server_count() {
@@ -95,7 +110,11 @@ pub(crate) fn put_spares(pool: &mut Pool, placement: &Placement)
     requires settled { IsSettled (sizes_of placement.now.setup) (place_of placement.now) }
     requires size { HasSize (sizes_of placement.now.setup) pool.old }
     requires none { (s : ℕ) → (pool_hold pool.old).spare s ≡ 0 }
-    ensures hold { pool_hold pool.new ≡ record (pool_hold pool.old) { spare = (true_rights (sizes_of placement.now.setup) (place_of placement.now)).spare } }
+    ensures hold { pool_hold pool.new ≡ record
+        (pool_hold pool.old) {
+          spare = (true_rights (sizes_of placement.now.setup)
+              (place_of placement.now)).spare;
+        } }
     ensures size { SameSize pool.old pool.new }
 {
     for number in 0..placement.config().shard_count() {

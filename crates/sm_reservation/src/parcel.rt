@@ -2,7 +2,9 @@
 ghost use Rattle.std.specs.Prelude.{◌≡◌, ◌<◌, ◌^◌, IfOk, OnOk, IfErr};
 ghost use Rattle.std.specs.List.{AllByRecursion};
 ghost use Rattle.sm_reservation.specs.Rows.{Rises, HasPositive};
-ghost use Rattle.sm_reservation.specs.Key.{key_of_cell, key_of_crown, key_of_room, key_of_spare, IsOnce, IsOrdered, IsPositive, AreU64, IsSortedFrom, IsInOrder, first_double, lists as rights_in};
+ghost use Rattle.sm_reservation.specs.Key.{key_of_cell, key_of_crown, key_of_room, key_of_spare, IsOnce, IsOrdered};
+ghost use Rattle.sm_reservation.specs.Key.{IsPositive, AreU64, IsSortedFrom, IsInOrder, first_double};
+ghost use Rattle.sm_reservation.specs.Key.{lists as rights_in};
 ghost use Rattle.sm_reservation.specs.InOrder.{in_order};
 ghost use Rattle.sm_reservation.specs.HoldOf.{hold_of};
 ghost use Rattle.sm_reservation.specs.Lists.{rights_of};

@@ -1,13 +1,16 @@
 //! The rights that no grant has.
-ghost use Rattle.std.specs.Prelude.{ℕ, ◌≡◌, ◌↔◌, IsTrue, ◌<◌, ◌≤◌, ◌+◌, ◌*◌, ◌^◌, Some, None, IfOk, OnOk, IfErr, OnErr, IfSome, IfNone};
+ghost use Rattle.std.specs.Prelude.{ℕ, ◌≡◌, ◌↔◌, IsTrue, ◌<◌, ◌≤◌, ◌+◌, ◌*◌, ◌^◌, Some, None, IfOk, OnOk, IfErr, OnErr};
+ghost use Rattle.std.specs.Prelude.{IfSome, IfNone};
 ghost use Rattle.sm_placement.specs.Layout.{entries_of};
-ghost use Rattle.sm_reservation.specs.Hold.{no_hold, minus, plus, with_cell, with_crown, without_crown, pay_room, get_room, pay_spare, get_spare};
+ghost use Rattle.sm_reservation.specs.Hold.{no_hold, minus, plus, with_cell, with_crown, without_crown, pay_room};
+ghost use Rattle.sm_reservation.specs.Hold.{get_room, pay_spare, get_spare};
 ghost use Rattle.sm_reservation.specs.HoldOf.{hold_of};
 ghost use Rattle.sm_reservation.specs.Capacity.{HasCapacity, most_keys, IsMore};
 ghost use Rattle.sm_reservation.specs.Short.{first_short};
 ghost use Rattle.sm_reservation.specs.TakeFault.{short_of};
 ghost use Rattle.sm_reservation.specs.CanJoin.{CanJoin};
-ghost use Rattle.sm_reservation.specs.Pool.{pool_hold, IsKnownHold, SameSize, true_rights, leads_of, IsKnownRight, one_spare};
+ghost use Rattle.sm_reservation.specs.Pool.{pool_hold, IsKnownHold, SameSize, true_rights, leads_of, IsKnownRight};
+ghost use Rattle.sm_reservation.specs.Pool.{one_spare};
 
 use crate::fits::{can_join, is_known_hold};
 use crate::grant::Grant;
@@ -111,11 +114,15 @@ impl Pool {
     /// Opens a pool of all rights true of a placement.
     pub fn open(alloc: Global, placement: &Placement) -> Result<Pool, AllocError>
         requires { IsSettled (sizes_of placement.now.setup) (place_of placement.now) }
-        ensures rights { IfOk result (λ pool. pool_hold pool ≡ true_rights (sizes_of placement.now.setup) (place_of placement.now)) }
+        ensures rights { IfOk result (λ pool. pool_hold pool
+            ≡ true_rights (sizes_of placement.now.setup) (place_of placement.now)) }
         ensures shards { IfOk result (λ pool. pool.shards ≡ length placement.now.setup.shards) }
         ensures servers { IfOk result (λ pool. pool.servers ≡ length placement.now.setup.servers) }
-        ensures whole { let c = sizes_of placement.now.setup in let p = place_of placement.now in IfOk result (λ pool. (r : Right) → IsKnownRight c r → count (pool_hold pool) r + bound c p r ≡ stock c p (leads_of c p) r) }
-        ensures truth { let c = sizes_of placement.now.setup in let p = place_of placement.now in IfOk result (λ pool. IsTrueOf c p (leads_of c p) (pool_hold pool)) }
+        ensures whole { let c = sizes_of placement.now.setup in let p = place_of placement.now in IfOk result
+            (λ pool. (r : Right) → IsKnownRight c r → count (pool_hold pool) r + bound c p r
+            ≡ stock c p (leads_of c p) r) }
+        ensures truth { let c = sizes_of placement.now.setup in let p = place_of placement.now in IfOk result
+            (λ pool. IsTrueOf c p (leads_of c p) (pool_hold pool)) }
     {
         let shards = placement.config().shard_count();
         let servers = placement.config().server_count();
@@ -144,7 +151,8 @@ impl Pool {
 
     /// Returns the slot of a pair in the list of cells.
     fn slot(&self, shard: ShardId, server: ServerId) -> Option<usize>
-        ensures known { IfSome result (λ slot. (shard < self.now.shards) × (server < self.now.servers) × (slot ≡ shard * self.now.servers + server)) }
+        ensures known { IfSome result (λ slot. (shard < self.now.shards) × (server < self.now.servers)
+            × (slot ≡ shard * self.now.servers + server)) }
         ensures unknown { IfNone result (shard < self.now.shards → self.now.servers ≤ server) }
     {
         let row = shard.number() as usize;
@@ -221,7 +229,8 @@ impl Pool {
         ensures taken { OnOk result (pool_hold self.new ≡ minus (pool_hold self.old) parcel.now) }
         ensures given { IfOk result (λ grant. grant.rights ≡ parcel.now) }
         ensures capacity { IfOk result (λ grant. grant.capacity ≡ most_keys parcel.now) }
-        ensures kept { IfOk result (λ grant. (r : Right) → count (pool_hold self.new) r + count (hold_of grant.rights) r ≡ count (pool_hold self.old) r) }
+        ensures kept { IfOk result (λ grant. (r : Right)
+            → count (pool_hold self.new) r + count (hold_of grant.rights) r ≡ count (pool_hold self.old) r) }
         ensures below { IfOk result (λ grant. IsKnownHold self.new.shards self.new.servers (hold_of grant.rights)) }
         ensures fits { IfOk result (λ grant. CanJoin (pool_hold self.new) (hold_of grant.rights)) }
         ensures refused { IfErr result (λ why. first_short (pool_hold self.old) parcel.now ≡ short_of why) }
@@ -245,7 +254,8 @@ impl Pool {
         ensures enough { OnOk result (first_short (pool_hold self.old) parcel.now ≡ None) }
         ensures taken { OnOk result (pool_hold self.new ≡ minus (pool_hold self.old) parcel.now) }
         ensures given { OnOk result (hold_of grant.new.rights ≡ plus (hold_of grant.old.rights) parcel.now) }
-        ensures kept { OnOk result ((r : Right) → count (pool_hold self.new) r + count (hold_of grant.new.rights) r ≡ count (pool_hold self.old) r + count (hold_of grant.old.rights) r) }
+        ensures kept { OnOk result ((r : Right) → count (pool_hold self.new) r + count (hold_of grant.new.rights) r
+            ≡ count (pool_hold self.old) r + count (hold_of grant.old.rights) r) }
         ensures more { OnOk result (IsMore grant.old grant.new parcel.now) }
         ensures below { OnOk result (IsKnownHold self.new.shards self.new.servers (hold_of parcel.now)) }
         ensures short { IfErr result (λ short. first_short (pool_hold self.old) parcel.now ≡ Some short) }
@@ -263,7 +273,8 @@ impl Pool {
     /// Tells whether a grant can be given back: its shards and servers are known, and it can be put beside what is
     /// here.
     pub fn can_join(&self, grant: &Grant) -> bool
-        ensures { IsTrue result ↔ (IsKnownHold self.now.shards self.now.servers (hold_of grant.now.rights) × CanJoin (pool_hold self.now) (hold_of grant.now.rights)) }
+        ensures { IsTrue result ↔ (IsKnownHold self.now.shards self.now.servers (hold_of grant.now.rights)
+            × CanJoin (pool_hold self.now) (hold_of grant.now.rights)) }
     {
         let hold = grant.hold();
         hold.rights_in_order();
@@ -280,7 +291,8 @@ impl Pool {
         requires below { IsKnownHold self.old.shards self.old.servers (hold_of grant.rights) }
         requires fits { CanJoin (pool_hold self.old) (hold_of grant.rights) }
         ensures hold { pool_hold self.new ≡ plus (pool_hold self.old) grant.rights }
-        ensures kept { (r : Right) → count (pool_hold self.new) r ≡ count (pool_hold self.old) r + count (hold_of grant.rights) r }
+        ensures kept { (r : Right) → count (pool_hold self.new) r
+            ≡ count (pool_hold self.old) r + count (hold_of grant.rights) r }
         ensures size { SameSize self.old self.new }
     {
         let parcel = grant.into_hold().into_parcel();
@@ -300,7 +312,8 @@ impl Pool {
     fn take_parcel(&mut self, parcel: &Parcel)
         requires { first_short (pool_hold self.old) parcel.now ≡ None }
         ensures hold { pool_hold self.new ≡ minus (pool_hold self.old) parcel.now }
-        ensures sums { (r : Right) → count (pool_hold self.new) r + count (hold_of parcel.now) r ≡ count (pool_hold self.old) r }
+        ensures sums { (r : Right) → count (pool_hold self.new) r + count (hold_of parcel.now) r
+            ≡ count (pool_hold self.old) r }
         ensures below { IsKnownHold self.new.shards self.new.servers (hold_of parcel.now) }
         ensures fits { CanJoin (pool_hold self.new) (hold_of parcel.now) }
         ensures size { SameSize self.old self.new }
@@ -318,7 +331,8 @@ impl Pool {
         requires below { IsKnownHold self.old.shards self.old.servers (hold_of parcel.now) }
         requires fits { CanJoin (pool_hold self.old) (hold_of parcel.now) }
         ensures hold { pool_hold self.new ≡ plus (pool_hold self.old) parcel.now }
-        ensures sums { (r : Right) → count (pool_hold self.new) r ≡ count (pool_hold self.old) r + count (hold_of parcel.now) r }
+        ensures sums { (r : Right) → count (pool_hold self.new) r
+            ≡ count (pool_hold self.old) r + count (hold_of parcel.now) r }
         ensures size { SameSize self.old self.new }
     {
         let cells = parcel.cells();

@@ -1,7 +1,8 @@
 //! Rights of a whole list taken out of a pool or put into it.
 ghost use Rattle.std.specs.Prelude.{◌≡◌, ◌<◌};
 ghost use Rattle.std.specs.List.{AllByRecursion};
-ghost use Rattle.sm_reservation.specs.Hold.{minus_cells, plus_cells, minus_crowns, plus_crowns, minus_room, plus_room, minus_spare, plus_spare};
+ghost use Rattle.sm_reservation.specs.Hold.{minus_cells, plus_cells, minus_crowns, plus_crowns, minus_room, plus_room};
+ghost use Rattle.sm_reservation.specs.Hold.{minus_spare, plus_spare};
 ghost use Rattle.sm_reservation.specs.Steps.{AllSteps};
 ghost use Rattle.sm_reservation.specs.Turns.{in_room, in_spare, RoomFits, SpareFits};
 ghost use Rattle.sm_reservation.specs.Pool.{pool_hold, SameSize};

@@ -147,7 +147,8 @@ impl<T: Row> Rows<T> {
     /// Works one row in, by a search for its key. Takes no memory.
     pub fn edit<E: Edit<T>>(&mut self, row: &T, edit: &E)
         requires stays { StaysAt T.key E.edit }
-        requires capacity { length self.old.items + new_rows T.key E.edit self.old.items (row.now ∷ []) ≤ self.old.capacity }
+        requires capacity { length self.old.items + new_rows T.key E.edit self.old.items
+            (row.now ∷ []) ≤ self.old.capacity }
         ensures order { Rises T.key self.old.items }
         ensures items { self.new.items ≡ edited T.key E.edit self.old.items row.now }
         ensures capacity { self.old.capacity ≤ self.new.capacity }

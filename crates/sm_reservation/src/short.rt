@@ -1,7 +1,8 @@
 //! The first key of which there is too little.
 ghost use Rattle.std.specs.Prelude.{◌≡◌, ℕ, ◌<◌, ◌^◌};
 ghost use Rattle.sm_reservation.specs.Hold.{Hold};
-ghost use Rattle.sm_reservation.specs.Short.{cell_short, crown_short, room_short, spare_short, first_answer, first_short};
+ghost use Rattle.sm_reservation.specs.Short.{cell_short, crown_short, room_short, spare_short, first_answer};
+ghost use Rattle.sm_reservation.specs.Short.{first_short};
 
 use crate::hold;
 use crate::parcel::Parcel;

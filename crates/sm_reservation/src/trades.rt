@@ -26,8 +26,10 @@ pub fn join_rights(
     requires order { IsOrdered (lists cells.now crowns.now rooms.now spares.now) }
     requires capacity { HasCapacity hold.old (lists cells.now crowns.now rooms.now spares.now) }
     requires fits { CanJoin (hold_of hold.old.rights) (hold_of (lists cells.now crowns.now rooms.now spares.now)) }
-    ensures rights { hold_of hold.new.rights ≡ plus (hold_of hold.old.rights) (lists cells.now crowns.now rooms.now spares.now) }
-    ensures sums { (r : Right) → count (hold_of hold.new.rights) r ≡ count (hold_of hold.old.rights) r + count (hold_of (lists cells.now crowns.now rooms.now spares.now)) r }
+    ensures rights { hold_of hold.new.rights ≡ plus (hold_of hold.old.rights)
+        (lists cells.now crowns.now rooms.now spares.now) }
+    ensures sums { (r : Right) → count (hold_of hold.new.rights) r
+        ≡ count (hold_of hold.old.rights) r + count (hold_of (lists cells.now crowns.now rooms.now spares.now)) r }
     ensures more { IsMore hold.old hold.new (lists cells.now crowns.now rooms.now spares.now) }
 {
     put_rights(hold, cells, crowns, rooms, spares);
@@ -38,7 +40,8 @@ pub fn join_parcel(hold: &mut Hold, parcel: &Parcel)
     requires capacity { HasCapacity hold.old parcel.now }
     requires fits { CanJoin (hold_of hold.old.rights) (hold_of parcel.now) }
     ensures rights { hold_of hold.new.rights ≡ plus (hold_of hold.old.rights) parcel.now }
-    ensures sums { (r : Right) → count (hold_of hold.new.rights) r ≡ count (hold_of hold.old.rights) r + count (hold_of parcel.now) r }
+    ensures sums { (r : Right) → count (hold_of hold.new.rights) r
+        ≡ count (hold_of hold.old.rights) r + count (hold_of parcel.now) r }
     ensures more { IsMore hold.old hold.new parcel.now }
 {
     join_rights(
@@ -54,7 +57,8 @@ pub fn join_parcel(hold: &mut Hold, parcel: &Parcel)
 pub fn take_portion(hold: &mut Hold, portion: &Portion)
     requires held { first_short (hold_of hold.old.rights) (portion_rights portion.now) ≡ None }
     ensures rights { hold_of hold.new.rights ≡ minus (hold_of hold.old.rights) (portion_rights portion.now) }
-    ensures sums { (r : Right) → count (hold_of hold.new.rights) r + count (hold_of (portion_rights portion.now)) r ≡ count (hold_of hold.old.rights) r }
+    ensures sums { (r : Right) → count (hold_of hold.new.rights) r + count (hold_of (portion_rights portion.now)) r
+        ≡ count (hold_of hold.old.rights) r }
     ensures less { IsLess hold.old hold.new (portion_rights portion.now) }
 {
     let cells = portion.cell.as_slice();
@@ -69,7 +73,8 @@ pub fn join_portion(hold: &mut Hold, portion: &Portion)
     requires capacity { HasCapacity hold.old (portion_rights portion.now) }
     requires fits { CanJoin (hold_of hold.old.rights) (hold_of (portion_rights portion.now)) }
     ensures rights { hold_of hold.new.rights ≡ plus (hold_of hold.old.rights) (portion_rights portion.now) }
-    ensures sums { (r : Right) → count (hold_of hold.new.rights) r ≡ count (hold_of hold.old.rights) r + count (hold_of (portion_rights portion.now)) r }
+    ensures sums { (r : Right) → count (hold_of hold.new.rights) r
+        ≡ count (hold_of hold.old.rights) r + count (hold_of (portion_rights portion.now)) r }
     ensures more { IsMore hold.old hold.new (portion_rights portion.now) }
 {
     let cells = portion.cell.as_slice();

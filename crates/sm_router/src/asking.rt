@@ -73,7 +73,8 @@ fn asked_after(next: Next) -> Asked
 /// on. Looks again if the server does not own the shard or does not know the pass. Each ticket is spent.
 pub fn ask<R: Wait, D: Desk>(rt: &R, desk: &D, caller: &mut D::Caller, shard: ShardId) -> Asked
     requires { shard < D.shards desk.now }
-    ensures { HasAsked (D.looked desk.now) (D.arrived desk.now) (D.passed_on desk.now) shard caller.old result caller.new }
+    ensures { HasAsked (D.looked desk.now) (D.arrived desk.now)
+        (D.passed_on desk.now) shard caller.old result caller.new }
 {
     let mut next = Next::Look;
     for _ in 0..MOST_HOPS {

@@ -60,7 +60,8 @@ pub enum Refusal {
     /// The server is down, and answers no call.
     #[error("the server is down")]
     Down,
-    /// A replica is to be added or prepared, and the server's cell is one to which it can't come: as a rule, one that isn't absent.
+    /// A replica is to be added or prepared, and the server's cell is one to which it can't come: as a rule, one that
+    /// isn't absent.
     #[error("the server holds the shard already")]
     AlreadyHeld,
     /// A replica is to be dropped, changed or handed over, and the server has nothing of the shard.

@@ -53,7 +53,8 @@ fn is_without_spare(placement: &Placement, pool: &Pool, shard: ShardId, server: 
 /// Returns the lowest shard that is live at the server and has no spare replica that is free.
 fn first_without_spare(placement: &Placement, pool: &Pool, server: ServerId) -> Option<ShardId>
     requires { server < length placement.now.setup.servers }
-    ensures { result ≡ first_without_spare (sizes_of placement.now.setup) (place_of placement.now) (pool_hold pool.now) server }
+    ensures { result ≡ first_without_spare (sizes_of placement.now.setup) (place_of placement.now)
+        (pool_hold pool.now) server }
 {
     for number in 0..placement.config().shard_count() {
         let shard = ShardId::new(number);
@@ -80,8 +81,10 @@ pub fn decide(
     server: ServerId,
 ) -> Result<Approved, Denied>
     requires { server < length placement.now.setup.servers }
-    ensures approved { OnOk result (denial (sizes_of placement.now.setup) (place_of placement.now) (pool_hold pool.now) engaged log_free server ≡ None) }
-    ensures denied { IfErr result (λ why. denial (sizes_of placement.now.setup) (place_of placement.now) (pool_hold pool.now) engaged log_free server ≡ Some why) }
+    ensures approved { OnOk result (denial (sizes_of placement.now.setup) (place_of placement.now)
+        (pool_hold pool.now) engaged log_free server ≡ None) }
+    ensures denied { IfErr result (λ why. denial (sizes_of placement.now.setup) (place_of placement.now)
+        (pool_hold pool.now) engaged log_free server ≡ Some why) }
 {
     if placement.is_down(server) {
         return Err(Denied::AlreadyDown);

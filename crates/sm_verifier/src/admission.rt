@@ -62,8 +62,8 @@ pub enum Holding {
 
 /// Judges whether a checked plan may start at a placement with its pool. Takes no memory.
 ///
-/// The rules are looked at in the order of `Holding`, each over all streams: the first one that is not kept is named, at
-/// the first stream and its lowest key, or at the lowest server or shard.
+/// The rules are looked at in the order of `Holding`, each over all streams: the first one that is not kept is named,
+/// at the first stream and its lowest key, or at the lowest server or shard.
 pub fn admit(checked: &Checked, pool: &Pool, placement: &Placement) -> Result<(), Holding>
     requires size { HasSize (sizes_of checked.now.setup) pool.now }
     requires setup { placement.now.setup ≡ checked.now.setup }
@@ -92,7 +92,8 @@ pub fn admit_from_true_pool(
 ) -> Result<(), Holding>
     requires size { HasSize (sizes_of checked.now.setup) pool.now }
     requires setup { placement.now.setup ≡ checked.now.setup }
-    requires true_pool { (key : Key) → IsIn (pool_hold pool.now) (true_rights (sizes_of placement.now.setup) (place_of placement.now)) key }
+    requires true_pool { (key : Key) → IsIn (pool_hold pool.now)
+        (true_rights (sizes_of placement.now.setup) (place_of placement.now)) key }
     ensures admitted { OnOk result (MayStart checked.now pool.now placement.now) }
     ensures holding { IfErr result (IsHeldUpBy checked.now pool.now placement.now) }
     ensures refused { OnErr result (¬ MayStart checked.now pool.now placement.now) }

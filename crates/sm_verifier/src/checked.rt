@@ -72,8 +72,10 @@ impl Model for Checked {
 impl Checked {
     /// Returns the plan with what the check found out about it.
     pub(crate) fn new(plan: Plan, findings: Findings) -> Checked
-        requires { IsChecked (checked_model findings.config plan findings.order.items findings.finals.items findings.peaks.items) }
-        ensures { result ≡ checked_model findings.config plan findings.order.items findings.finals.items findings.peaks.items }
+        requires { IsChecked (checked_model findings.config plan findings.order.items findings.finals.items
+            findings.peaks.items) }
+        ensures { result ≡ checked_model findings.config plan findings.order.items findings.finals.items
+            findings.peaks.items }
     {
         let Findings {
             config,

@@ -135,8 +135,10 @@ fn follow_all(alloc: Global, config: &Config, plan: &Plan) -> Result<Ends, Fault
     requires budget { KeepsBudget plan.now }
     requires signals { AreUsedOnce plan.now (length plan.now.signals) }
     ensures good { OnOk result (AreGood (sizes_of config.now) plan.now (length plan.now.streams)) }
-    ensures finals { IfOk result (λ ends. AreFinals (sizes_of config.now) plan.now (length plan.now.streams) ends.finals.items) }
-    ensures peaks { IfOk result (λ ends. ArePeaks (sizes_of config.now) plan.now (length plan.now.streams) ends.peaks.items) }
+    ensures finals { IfOk result (λ ends. AreFinals (sizes_of config.now) plan.now
+        (length plan.now.streams) ends.finals.items) }
+    ensures peaks { IfOk result (λ ends. ArePeaks (sizes_of config.now) plan.now
+        (length plan.now.streams) ends.peaks.items) }
     ensures fault { IfErr result (λ fault. IsFault (sizes_of config.now) plan.now fault) }
 {
     let count = plan.streams().len() as u32;
@@ -159,7 +161,8 @@ fn find_order(alloc: Global, plan: &Plan) -> Result<Vec<(u32, u32)>, Fault>
     requires budget { KeepsBudget plan.now }
     requires signals { AreUsedOnce plan.now (length plan.now.signals) }
     ensures order { IfOk result (λ order. IsOrder plan.now order.items) }
-    ensures fault { IfErr result (λ fault. (c : Sizes) → AreGood c plan.now (length plan.now.streams) → IsFault c plan.now fault) }
+    ensures fault { IfErr result (λ fault. (c : Sizes) → AreGood c plan.now (length plan.now.streams)
+        → IsFault c plan.now fault) }
 {
     match order_of(alloc, plan)? {
         Ok(order) => Ok(order),
@@ -171,7 +174,8 @@ fn find_order(alloc: Global, plan: &Plan) -> Result<Vec<(u32, u32)>, Fault>
 fn examine(alloc: Global, config: &Config, plan: &Plan) -> Result<Findings, Fault>
     requires fits { IsKnownPlan (length config.now.shards) (length config.now.servers) plan.now }
     ensures config { IfOk result (λ found. found.config ≡ config.now) }
-    ensures checked { IfOk result (λ found. IsChecked (checked_model config.now plan.now found.order.items found.finals.items found.peaks.items)) }
+    ensures checked { IfOk result (λ found. IsChecked
+        (checked_model config.now plan.now found.order.items found.finals.items found.peaks.items)) }
     ensures fault { IfErr result (λ fault. IsFault (sizes_of config.now) plan.now fault) }
     ensures early { IfErr result (λ fault. fault ≡ Fault.NoMemory → KeepsBudget plan.now) }
 {

@@ -55,7 +55,8 @@ fn down_in(placement: &Placement, before: Option<u32>, code: &[Instr]) -> Option
 
 /// Returns the lowest server that is down and that the streams mention.
 fn down_of(placement: &Placement, streams: &[Stream]) -> Option<ServerId>
-    requires { All (IsKnownStream (length placement.now.setup.shards) (length placement.now.setup.servers)) streams.now }
+    requires { All (IsKnownStream (length placement.now.setup.shards) (length placement.now.setup.servers))
+        streams.now }
     ensures { result ≡ down_in_streams (place_of placement.now).down None streams.now }
 {
     let mut lowest = None;
@@ -67,7 +68,8 @@ fn down_of(placement: &Placement, streams: &[Stream]) -> Option<ServerId>
 
 /// Returns the lowest server that an instruction mentions though it is down.
 pub(crate) fn first_down(placement: &Placement, streams: &[Stream]) -> Option<ServerId>
-    requires { All (IsKnownStream (length placement.now.setup.shards) (length placement.now.setup.servers)) streams.now }
+    requires { All (IsKnownStream (length placement.now.setup.shards) (length placement.now.setup.servers))
+        streams.now }
     ensures lowest { IfSome result (IsLowest (IsUpWhereMentioned (place_of placement.now) streams.now)) }
     ensures none { IfNone result (AreUp (place_of placement.now) streams.now) }
 {

@@ -4,9 +4,11 @@ ghost use Rattle.sm_placement.specs.Lead.{is_at_rest};
 ghost use Rattle.sm_placement.specs.Setup.{sizes_of};
 ghost use Rattle.sm_reservation.specs.HoldOf.{hold_of};
 ghost use Rattle.sm_plan_code.specs.After.{after};
-ghost use Rattle.sm_plan_code.specs.Plan.{KnowsSignal, IsSmallParcel, IsSmallStream, IsKnownInstr, IsKnownStream, IsKnownPlan};
+ghost use Rattle.sm_plan_code.specs.Plan.{KnowsSignal, IsSmallParcel, IsSmallStream, IsKnownInstr, IsKnownStream};
+ghost use Rattle.sm_plan_code.specs.Plan.{IsKnownPlan};
 ghost use Rattle.sm_verifier.specs.Step.{parcels_of, IsAnswer, IsAtMost, Grows};
-ghost use Rattle.sm_verifier.specs.Stream.{course, course_of, stream_at, final_hold, HasCrownsAtRest, IsGood, within_budget};
+ghost use Rattle.sm_verifier.specs.Stream.{course, course_of, stream_at, final_hold, HasCrownsAtRest, IsGood};
+ghost use Rattle.sm_verifier.specs.Stream.{within_budget};
 ghost use Rattle.sm_verifier.specs.Bad.{bad_at, IsBad};
 ghost use Rattle.sm_verifier.specs.Peak.{IsPeak};
 ghost use Rattle.sm_plan_code.specs.declared.limits.TheConstants.{MOST_RIGHTS, MOST_AMOUNT, MOST_INSTRUCTIONS};
@@ -92,7 +94,9 @@ fn follow_one(
     requires small { All IsSmallParcel signals.now }
     requires amounts { IsAtMost (2 ^ 63) (hold_of hold.old.rights) }
     requires few { hold.old.capacity + MOST_RIGHTS < 2 ^ 32 }
-    ensures answer { IsAnswer result (hold_of hold.new.rights) (within_budget budget calls instr.now (after (sizes_of config.now) (parcels_of signals.now) instr.now (hold_of hold.old.rights))) }
+    ensures answer { IsAnswer result (hold_of hold.new.rights)
+        (within_budget budget calls instr.now (after (sizes_of config.now) (parcels_of signals.now) instr.now
+        (hold_of hold.old.rights))) }
     ensures grows { Grows MOST_AMOUNT (hold_of hold.old.rights) (hold_of hold.new.rights) }
     ensures capacity { hold.new.capacity ≤ hold.old.capacity + MOST_RIGHTS }
 {
@@ -117,9 +121,12 @@ fn follow_code(
     requires amounts { IsAtMost MOST_AMOUNT (hold_of hold.old.rights) }
     requires capacity { hold.old.capacity ≤ MOST_RIGHTS }
     ensures good { OnOk result (IsGood (course (sizes_of config.now) signals.now budget hold.old.rights code.now)) }
-    ensures hold { OnOk result (hold_of hold.new.rights ≡ final_hold (course (sizes_of config.now) signals.now budget hold.old.rights code.now)) }
-    ensures peak { IfOk result (λ peak. IsPeak (course (sizes_of config.now) signals.now budget hold.old.rights code.now) peak) }
-    ensures bad { IfErr result (λ bad. IsBad (course (sizes_of config.now) signals.now budget hold.old.rights code.now) bad) }
+    ensures hold { OnOk result (hold_of hold.new.rights
+        ≡ final_hold (course (sizes_of config.now) signals.now budget hold.old.rights code.now)) }
+    ensures peak { IfOk result (λ peak. IsPeak
+        (course (sizes_of config.now) signals.now budget hold.old.rights code.now) peak) }
+    ensures bad { IfErr result (λ bad. IsBad (course
+        (sizes_of config.now) signals.now budget hold.old.rights code.now) bad) }
 {
     let mut calls = 0;
     let mut at = 0;
@@ -164,7 +171,8 @@ fn follow_stream(
     requires small { All IsSmallParcel signals.now }
     requires short { IsSmallStream stream.now }
     ensures good { OnOk result (IsGood (course_of (sizes_of config.now) signals.now stream.now)) }
-    ensures hold { IfOk result (λ end. hold_of end.parcel ≡ final_hold (course_of (sizes_of config.now) signals.now stream.now)) }
+    ensures hold { IfOk result (λ end. hold_of end.parcel
+        ≡ final_hold (course_of (sizes_of config.now) signals.now stream.now)) }
     ensures peak { IfOk result (λ end. IsPeak (course_of (sizes_of config.now) signals.now stream.now) end.peak) }
     ensures bad { IfErr result (λ bad. IsBad (course_of (sizes_of config.now) signals.now stream.now) bad) }
 {
@@ -192,10 +200,12 @@ pub(crate) fn follow_to_end(
     requires fits { IsKnownPlan (length config.now.shards) (length config.now.servers) plan.now }
     requires stream { stream < length plan.now.streams }
     ensures good { OnOk result (IsGood (stream_at (sizes_of config.now) plan.now stream)) }
-    ensures hold { IfOk result (λ end. hold_of end.parcel ≡ final_hold (stream_at (sizes_of config.now) plan.now stream)) }
+    ensures hold { IfOk result (λ end. hold_of end.parcel
+        ≡ final_hold (stream_at (sizes_of config.now) plan.now stream)) }
     ensures peak { IfOk result (λ end. IsPeak (stream_at (sizes_of config.now) plan.now stream) end.peak) }
     ensures bad { IfErr result (λ bad. IsBad (stream_at (sizes_of config.now) plan.now stream) bad) }
-    ensures not_good { IfErr result (λ bad. bad ≢ Bad.NoMemory → ¬ IsGood (stream_at (sizes_of config.now) plan.now stream)) }
+    ensures not_good { IfErr result (λ bad. bad ≢ Bad.NoMemory
+        → ¬ IsGood (stream_at (sizes_of config.now) plan.now stream)) }
 {
     follow_stream(
         alloc,
@@ -214,9 +224,11 @@ pub fn follow(alloc: Global, config: &Config, plan: &Plan, stream: u32) -> Resul
     requires fits { IsKnownPlan (length config.now.shards) (length config.now.servers) plan.now }
     requires stream { stream < length plan.now.streams }
     ensures good { OnOk result (IsGood (stream_at (sizes_of config.now) plan.now stream)) }
-    ensures hold { IfOk result (λ parcel. hold_of parcel ≡ final_hold (stream_at (sizes_of config.now) plan.now stream)) }
+    ensures hold { IfOk result (λ parcel. hold_of parcel
+        ≡ final_hold (stream_at (sizes_of config.now) plan.now stream)) }
     ensures bad { IfErr result (λ bad. IsBad (stream_at (sizes_of config.now) plan.now stream) bad) }
-    ensures not_good { IfErr result (λ bad. bad ≢ Bad.NoMemory → ¬ IsGood (stream_at (sizes_of config.now) plan.now stream)) }
+    ensures not_good { IfErr result (λ bad. bad ≢ Bad.NoMemory
+        → ¬ IsGood (stream_at (sizes_of config.now) plan.now stream)) }
 {
     let End { parcel, peak: _ } = follow_to_end(alloc, config, plan, stream)?;
     Ok(parcel)

@@ -1,5 +1,6 @@
 //! Counts of the posts of each signal, and of the waits for it, among the instructions of a plan.
-ghost use Rattle.std.specs.Prelude.{◌≡◌, ◌≤◌, ◌<◌, ◌+◌, ◌^◌, ℕ, All, IfOk, IfSome, IfNone, length, count_by, sum_by, slice_index};
+ghost use Rattle.std.specs.Prelude.{◌≡◌, ◌≤◌, ◌<◌, ◌+◌, ◌^◌, ℕ, All, IfOk, IfSome, IfNone, length, count_by, sum_by};
+ghost use Rattle.std.specs.Prelude.{slice_index};
 ghost use Rattle.sm_placement.specs.Sums.{bit};
 ghost use Rattle.sm_plan_code.specs.Plan.{KnowsSignal, IsSmallStream};
 ghost use Rattle.sm_verifier.specs.Counts.{IsRaised, AreCounts, IsOnceAt};
@@ -65,8 +66,10 @@ fn count_streams(streams: &[Stream], posts: &mut [u32], waits: &mut [u32])
     requires same { length waits.old ≡ length posts.old }
     requires no_posts { (k : ℕ) → slice_index posts.old k ≡ 0 }
     requires no_waits { (k : ℕ) → slice_index waits.old k ≡ 0 }
-    ensures posts { IsRaised posts.old posts.new (λ k. sum_by (λ stream. count_by (is_post k) stream.code) streams.now) }
-    ensures waits { IsRaised waits.old waits.new (λ k. sum_by (λ stream. count_by (is_wait k) stream.code) streams.now) }
+    ensures posts { IsRaised posts.old posts.new
+        (λ k. sum_by (λ stream. count_by (is_post k) stream.code) streams.now) }
+    ensures waits { IsRaised waits.old waits.new
+        (λ k. sum_by (λ stream. count_by (is_wait k) stream.code) streams.now) }
 {
     for stream in streams {
         count_code(stream.code.as_slice(), posts, waits);

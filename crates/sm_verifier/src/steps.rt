@@ -56,7 +56,8 @@ fn make_own(config: &Config, instr: &Instr, hold: &mut Hold) -> Result<(), Why>
     requires own { IsOwn instr.now }
     requires capacity { HasCapacityFor 1 hold.old }
     requires amounts { IsAtMost (2 ^ 63) (hold_of hold.old.rights) }
-    ensures answer { (signals : ℕ → Rights) → outcome result (hold_of hold.new.rights) ≡ after (sizes_of config.now) signals instr.now (hold_of hold.old.rights) }
+    ensures answer { (signals : ℕ → Rights) → outcome result (hold_of hold.new.rights)
+        ≡ after (sizes_of config.now) signals instr.now (hold_of hold.old.rights) }
     ensures kept { OnErr result (hold.new ≡ hold.old) }
     ensures grows { Grows MOST_AMOUNT (hold_of hold.old.rights) (hold_of hold.new.rights) }
     ensures capacity { hold.new.capacity ≡ hold.old.capacity }
@@ -72,7 +73,8 @@ fn make_own(config: &Config, instr: &Instr, hold: &mut Hold) -> Result<(), Why>
 
 /// Posts a signal, which takes its parcel.
 fn signal(hold: &mut Hold, parcel: &Parcel) -> Result<(), Why>
-    ensures answer { outcome result (hold_of hold.new.rights) ≡ decided (signal_line parcel.now (hold_of hold.old.rights)) }
+    ensures answer { outcome result (hold_of hold.new.rights)
+        ≡ decided (signal_line parcel.now (hold_of hold.old.rights)) }
     ensures kept { OnErr result (hold.new ≡ hold.old) }
     ensures grows { Grows MOST_AMOUNT (hold_of hold.old.rights) (hold_of hold.new.rights) }
     ensures capacity { hold.new.capacity ≡ hold.old.capacity }
@@ -105,7 +107,8 @@ fn wait(hold: &mut Hold, parcel: &Parcel) -> Result<(), Why>
     requires small { IsSmallParcel parcel.now }
     requires capacity { HasCapacityFor (most_keys parcel.now) hold.old }
     requires amounts { IsAtMost (2 ^ 63) (hold_of hold.old.rights) }
-    ensures answer { outcome result (hold_of hold.new.rights) ≡ decided (wait_line parcel.now (hold_of hold.old.rights)) }
+    ensures answer { outcome result (hold_of hold.new.rights)
+        ≡ decided (wait_line parcel.now (hold_of hold.old.rights)) }
     ensures kept { OnErr result (hold.new ≡ hold.old) }
     ensures grows { Grows MOST_AMOUNT (hold_of hold.old.rights) (hold_of hold.new.rights) }
     ensures capacity { hold.new.capacity ≡ hold.old.capacity }
@@ -189,7 +192,8 @@ fn make(config: &Config, signals: &[Parcel], instr: &Instr, hold: &mut Hold) -> 
     requires small { All IsSmallParcel signals.now }
     requires capacity { HasCapacityFor (keys_added (parcels_of signals.now) instr.now) hold.old }
     requires amounts { IsAtMost (2 ^ 63) (hold_of hold.old.rights) }
-    ensures answer { outcome result (hold_of hold.new.rights) ≡ after (sizes_of config.now) (parcels_of signals.now) instr.now (hold_of hold.old.rights) }
+    ensures answer { outcome result (hold_of hold.new.rights)
+        ≡ after (sizes_of config.now) (parcels_of signals.now) instr.now (hold_of hold.old.rights) }
     ensures kept { OnErr result (hold.new ≡ hold.old) }
     ensures grows { Grows MOST_AMOUNT (hold_of hold.old.rights) (hold_of hold.new.rights) }
     ensures capacity { hold.new.capacity ≡ hold.old.capacity }
@@ -214,7 +218,8 @@ pub(crate) fn step(
     requires small { All IsSmallParcel signals.now }
     requires amounts { IsAtMost (2 ^ 63) (hold_of hold.old.rights) }
     requires few { hold.old.capacity + MOST_RIGHTS < 2 ^ 32 }
-    ensures answer { IsAnswer result (hold_of hold.new.rights) (after (sizes_of config.now) (parcels_of signals.now) instr.now (hold_of hold.old.rights)) }
+    ensures answer { IsAnswer result (hold_of hold.new.rights)
+        (after (sizes_of config.now) (parcels_of signals.now) instr.now (hold_of hold.old.rights)) }
     ensures kept { OnErr result (hold.new.rights ≡ hold.old.rights) }
     ensures grows { Grows MOST_AMOUNT (hold_of hold.old.rights) (hold_of hold.new.rights) }
     ensures capacity { hold.new.capacity ≤ hold.old.capacity + MOST_RIGHTS }

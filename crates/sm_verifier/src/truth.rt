@@ -43,8 +43,10 @@ fn is_true_crown(placement: &Placement, crown: &Crown) -> bool
 
 /// Returns the first right to a cell that is not true of the placement.
 fn untrue_cell(placement: &Placement, cells: &[CellRight]) -> Option<Key>
-    requires { All (IsKnownCellRight (length placement.now.setup.shards) (length placement.now.setup.servers)) cells.now }
-    ensures { result ≡ first_cell (holds_cell (true_rights (sizes_of placement.now.setup) (place_of placement.now))) cells.now }
+    requires { All (IsKnownCellRight (length placement.now.setup.shards) (length placement.now.setup.servers))
+        cells.now }
+    ensures { result ≡ first_cell (holds_cell (true_rights (sizes_of placement.now.setup) (place_of placement.now)))
+        cells.now }
 {
     for right in cells {
         if !is_true_cell(placement, right) {
@@ -60,7 +62,8 @@ fn untrue_cell(placement: &Placement, cells: &[CellRight]) -> Option<Key>
 /// Returns the first crown that is not true of the placement.
 fn untrue_crown(placement: &Placement, crowns: &[Crown]) -> Option<Key>
     requires { All (IsKnownCrown (length placement.now.setup.shards) (length placement.now.setup.servers)) crowns.now }
-    ensures { result ≡ first_crown (holds_crown (true_rights (sizes_of placement.now.setup) (place_of placement.now))) crowns.now }
+    ensures { result ≡ first_crown (holds_crown
+        (true_rights (sizes_of placement.now.setup) (place_of placement.now))) crowns.now }
 {
     for crown in crowns {
         if !is_true_crown(placement, crown) {
@@ -73,8 +76,10 @@ fn untrue_crown(placement: &Placement, crowns: &[Crown]) -> Option<Key>
 /// Returns the lowest key of a parcel that is not true of the placement.
 fn untrue_key(placement: &Placement, parcel: &Parcel) -> Option<Key>
     requires { IsKnownParcel (length placement.now.setup.shards) (length placement.now.setup.servers) parcel.now }
-    ensures lowest { IfSome result (IsLowestKey (IsIn (hold_of parcel.now) (true_rights (sizes_of placement.now.setup) (place_of placement.now)))) }
-    ensures none { IfNone result ((key : Key) → IsIn (hold_of parcel.now) (true_rights (sizes_of placement.now.setup) (place_of placement.now)) key) }
+    ensures lowest { IfSome result (IsLowestKey
+        (IsIn (hold_of parcel.now) (true_rights (sizes_of placement.now.setup) (place_of placement.now)))) }
+    ensures none { IfNone result ((key : Key)
+        → IsIn (hold_of parcel.now) (true_rights (sizes_of placement.now.setup) (place_of placement.now)) key) }
 {
     if let Some(key) = untrue_cell(placement, parcel.cells()) {
         return Some(key);
@@ -84,8 +89,10 @@ fn untrue_key(placement: &Placement, parcel: &Parcel) -> Option<Key>
 
 /// Returns the lowest key that is not true of the placement, in the first stream that declares such a key.
 pub(crate) fn first_untrue(placement: &Placement, streams: &[Stream]) -> Option<Key>
-    requires { All (IsKnownStream (length placement.now.setup.shards) (length placement.now.setup.servers)) streams.now }
-    ensures first { IfSome result (λ key. (i : ℕ) × IsFirst (IsTrueAt (sizes_of placement.now.setup) (place_of placement.now) streams.now) i key) }
+    requires { All (IsKnownStream (length placement.now.setup.shards) (length placement.now.setup.servers))
+        streams.now }
+    ensures first { IfSome result (λ key. (i : ℕ)
+        × IsFirst (IsTrueAt (sizes_of placement.now.setup) (place_of placement.now) streams.now) i key) }
     ensures none { IfNone result (AreTrue (sizes_of placement.now.setup) (place_of placement.now) streams.now) }
 {
     for stream in streams {

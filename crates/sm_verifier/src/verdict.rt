@@ -14,7 +14,8 @@ ghost use Rattle.sm_verifier.specs.Verdict.{IsSameFault, FindsFault};
 
 /// States that a plan has one fault at most, and a sound plan has none, if memory is not short.
 pub fn one_fault()
-    ensures same { (c : Sizes) (plan : PlanModel) (f g : Fault) → IsFault c plan f → IsFault c plan g → f ≢ NoMemory → g ≢ NoMemory → IsSameFault f g }
+    ensures same { (c : Sizes) (plan : PlanModel) (f g : Fault) → IsFault c plan f → IsFault c plan g → f ≢ NoMemory
+        → g ≢ NoMemory → IsSameFault f g }
     ensures sound { (c : Sizes) (plan : PlanModel) (f : Fault) → IsSound c plan → IsFault c plan f → f ≡ NoMemory }
 {}
 
@@ -25,8 +26,10 @@ pub fn finds_fault()
 
 /// States that one thing at most holds a plan up, and nothing holds up a plan that is admitted.
 pub fn one_holding()
-    ensures same { (c : Sizes) (p : Place) (pool : Hold) (plan : PlanModel) (h k : Holding) → IsHolding c p pool plan h → IsHolding c p pool plan k → h ≡ k }
-    ensures admitted { (c : Sizes) (p : Place) (pool : Hold) (plan : PlanModel) (h : Holding) → IsAdmitted c p pool plan → ¬ IsHolding c p pool plan h }
+    ensures same { (c : Sizes) (p : Place) (pool : Hold) (plan : PlanModel) (h k : Holding)
+        → IsHolding c p pool plan h → IsHolding c p pool plan k → h ≡ k }
+    ensures admitted { (c : Sizes) (p : Place) (pool : Hold) (plan : PlanModel) (h : Holding)
+        → IsAdmitted c p pool plan → ¬ IsHolding c p pool plan h }
 {}
 
 /// States that what holds a plan up is found by a search: nothing is found exactly if the plan is admitted.

@@ -149,8 +149,8 @@ impl BadLine<'_> {
         }
     }
 
-    /// Adds the words for the fault, which are those of `smplan`, of a member that is not known its name, and of a line's
-    /// `do` the words that there are.
+    /// Adds the words for the fault, which are those of `smplan`, of a member that is not known its name, and of a
+    /// line's `do` the words that there are.
     pub fn push_words(self, out: &mut String) -> Result<(), AllocError>
         ensures { OnOk result (string_bytes out.new ≡ string_bytes out.old ++ bad_words self.entry) }
     {

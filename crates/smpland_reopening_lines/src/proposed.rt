@@ -4,7 +4,8 @@ ghost use Rattle.std.specs.List.{flat_map};
 ghost use Rattle.smpland_reopening.specs.Proposed.{IsProposalOf, proposal_role};
 ghost use Rattle.smpland_reopening_lines.specs.Parties.{party_text, waiting_member};
 ghost use Rattle.smpland_reopening_lines.specs.Proposals.{carried_over_member, cells_member, floor_text, floors_member};
-ghost use Rattle.smpland_reopening_lines.specs.Proposals.{lost_member, proposal_member, proposal_members, proposed_replica_text};
+ghost use Rattle.smpland_reopening_lines.specs.Proposals.{lost_member, proposal_member, proposal_members};
+ghost use Rattle.smpland_reopening_lines.specs.Proposals.{proposed_replica_text};
 ghost use Rattle.smpland_reopening_lines.specs.Proposals.{replicas_text, row_text, server_name_text, shard_name_text};
 ghost use Rattle.smpland_reopening_lines.specs.Settles.{given_cell_text};
 

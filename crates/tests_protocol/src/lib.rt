@@ -1,2 +1,3 @@
-//! Worked plays of the protocol, computed by its definitions, in a crate of their own: nothing here is part of the product.
+//! Worked plays of the protocol, computed by its definitions, in a crate of their own: nothing here is part of the
+//! product.
 #![tactic(auto)]

@@ -1,8 +1,10 @@
 //! Copies that a driver records, and those that a reopening keeps of them.
-ghost use Rattle.std.specs.Prelude.{◌≡◌, ◌<◌, ◌⊎◌, ◌||◌, ℕ, IfOk, length, map, option_map, slice_index_or, false, if◌then◌else◌};
+ghost use Rattle.std.specs.Prelude.{◌≡◌, ◌<◌, ◌⊎◌, ◌||◌, ℕ, IfOk, length, map, option_map, slice_index_or, false};
+ghost use Rattle.std.specs.Prelude.{if◌then◌else◌};
 ghost use Rattle.std.specs.List.{range_with_len};
 ghost use Rattle.sm_placement.specs.Opening.{is_handing};
-ghost use Rattle.sm_driver.specs.Copies.{HasNotedCopies, copies_effect, copies_of, is_handed_over, is_moving, is_order_for, is_ordered, is_told_now, kept_copies, shard_want};
+ghost use Rattle.sm_driver.specs.Copies.{HasNotedCopies, copies_effect, copies_of, is_handed_over, is_moving};
+ghost use Rattle.sm_driver.specs.Copies.{is_order_for, is_ordered, is_told_now, kept_copies, shard_want};
 ghost use Rattle.sm_driver.specs.Driver.{record_of};
 ghost use Rattle.sm_driver.specs.Orders.{net_order};
 ghost use Rattle.sm_driver.specs.declared.copies.CopiesEffect.TheVariants.{Noted};
@@ -108,7 +110,8 @@ impl Driver {
 
     /// Whether a stream stands before an order for a shard, by the shards' numbers.
     fn ordered(&self, alloc: Global) -> Result<Vec<bool>, AllocError>
-        ensures { IfOk result (λ marks. marks.items ≡ map (is_ordered self.now) (range_with_len 0 (record_of self.now).sizes.shards)) }
+        ensures { IfOk result (λ marks. marks.items
+            ≡ map (is_ordered self.now) (range_with_len 0 (record_of self.now).sizes.shards)) }
     {
         let mut ids = Vec::new(alloc);
         self.awaiting(&mut ids)?;

@@ -36,18 +36,24 @@ impl Driver {
     ) -> Result<Driver, (Placement, OpenFault)>
         requires settled { IsSettled (sizes_of placement.setup) (place_of placement) }
         requires permits { AreEarlierPermits (epoch_base epoch) permits.now }
-        ensures state { IfOk result (λ d. record_of d ≡ opened (sizes_of placement.setup) (place_of placement) log_room) }
+        ensures state { IfOk result (λ d. record_of d
+            ≡ opened (sizes_of placement.setup) (place_of placement) log_room) }
         ensures setup { IfOk result (λ d. d.machine.placement.setup ≡ placement.setup) }
         ensures journal { IfOk result (λ d. d.journal ≡ journal) }
         ensures epoch { IfOk result (λ d. d.epoch ≡ epoch) }
         ensures fence { IfOk result (λ d. d.fence ≡ 0) }
-        ensures permits { IfOk result (λ d. d.permits ≡ opening_permits (base d) permits.now (length placement.setup.servers) (place_of placement).down) }
-        ensures carried { IfOk result (λ d. d.carried ≡ carried_down carried.now (length placement.setup.servers) (place_of placement).down) }
+        ensures permits { IfOk result (λ d. d.permits
+            ≡ opening_permits (base d) permits.now (length placement.setup.servers) (place_of placement).down) }
+        ensures carried { IfOk result (λ d. d.carried
+            ≡ carried_down carried.now (length placement.setup.servers) (place_of placement).down) }
         ensures restores { IfOk result (λ d. d.restores ≡ replicate (length placement.setup.servers) None) }
         ensures copies { IfOk result (λ d. d.copies ≡ replicate (length placement.setup.shards) 1) }
-        ensures fits { OnOk result ((log_room ≤ MOST_PLACES) × (down_count (sizes_of placement.setup) (place_of placement) ≤ log_room)) }
+        ensures fits { OnOk result ((log_room ≤ MOST_PLACES)
+            × (down_count (sizes_of placement.setup) (place_of placement) ≤ log_room)) }
         ensures back { IfErr result (λ e. e.0 ≡ placement) }
-        ensures full { IfErr result (λ e. (e.1 ≡ LogFull) ↔ ((MOST_PLACES < log_room) ⊎ (log_room < down_count (sizes_of placement.setup) (place_of placement)))) }
+        ensures full { IfErr result (λ e. (e.1 ≡ LogFull) ↔
+            ((MOST_PLACES < log_room) ⊎ (log_room < down_count (sizes_of placement.setup)
+            (place_of placement)))) }
     {
         if log_room > MOST_PLACES || log_room < placement.down_count() {
             return Err((placement, OpenFault::LogFull));
@@ -89,18 +95,23 @@ impl Driver {
         epoch: u32,
     ) -> Result<Driver, (Placement, OpenFault)>
         requires { IsSettled (sizes_of placement.setup) (place_of placement) }
-        ensures state { IfOk result (λ d. record_of d ≡ opened (sizes_of placement.setup) (place_of placement) log_room) }
+        ensures state { IfOk result (λ d. record_of d
+            ≡ opened (sizes_of placement.setup) (place_of placement) log_room) }
         ensures setup { IfOk result (λ d. d.machine.placement.setup ≡ placement.setup) }
         ensures journal { IfOk result (λ d. d.journal ≡ journal) }
         ensures epoch { IfOk result (λ d. d.epoch ≡ epoch) }
         ensures fence { IfOk result (λ d. d.fence ≡ 0) }
-        ensures permits { IfOk result (λ d. d.permits ≡ opening_permits (base d) [] (length placement.setup.servers) (place_of placement).down) }
+        ensures permits { IfOk result (λ d. d.permits
+            ≡ opening_permits (base d) [] (length placement.setup.servers) (place_of placement).down) }
         ensures carried { IfOk result (λ d. d.carried ≡ replicate (length placement.setup.servers) false) }
         ensures restores { IfOk result (λ d. d.restores ≡ replicate (length placement.setup.servers) None) }
         ensures copies { IfOk result (λ d. d.copies ≡ replicate (length placement.setup.shards) 1) }
-        ensures fits { OnOk result ((log_room ≤ MOST_PLACES) × (down_count (sizes_of placement.setup) (place_of placement) ≤ log_room)) }
+        ensures fits { OnOk result ((log_room ≤ MOST_PLACES)
+            × (down_count (sizes_of placement.setup) (place_of placement) ≤ log_room)) }
         ensures back { IfErr result (λ e. e.0 ≡ placement) }
-        ensures full { IfErr result (λ e. (e.1 ≡ LogFull) ↔ ((MOST_PLACES < log_room) ⊎ (log_room < down_count (sizes_of placement.setup) (place_of placement)))) }
+        ensures full { IfErr result (λ e. (e.1 ≡ LogFull) ↔
+            ((MOST_PLACES < log_room) ⊎ (log_room < down_count (sizes_of placement.setup)
+            (place_of placement)))) }
     {
         Driver::over(alloc, placement, log_room, journal, epoch, &[], &[])
     }
@@ -119,18 +130,24 @@ impl Driver {
     ) -> Result<Driver, (Placement, OpenFault)>
         requires settled { IsSettled (sizes_of placement.setup) (place_of placement) }
         requires permits { AreEarlierPermits (epoch_base epoch) permits.now }
-        ensures state { IfOk result (λ d. record_of d ≡ opened (sizes_of placement.setup) (place_of placement) log_room) }
+        ensures state { IfOk result (λ d. record_of d
+            ≡ opened (sizes_of placement.setup) (place_of placement) log_room) }
         ensures setup { IfOk result (λ d. d.machine.placement.setup ≡ placement.setup) }
         ensures journal { IfOk result (λ d. d.journal ≡ journal) }
         ensures epoch { IfOk result (λ d. d.epoch ≡ epoch) }
         ensures fence { IfOk result (λ d. d.fence ≡ base d) }
-        ensures permits { IfOk result (λ d. d.permits ≡ opening_permits (base d) permits.now (length placement.setup.servers) (place_of placement).down) }
-        ensures carried { IfOk result (λ d. d.carried ≡ carried_down carried.now (length placement.setup.servers) (place_of placement).down) }
+        ensures permits { IfOk result (λ d. d.permits
+            ≡ opening_permits (base d) permits.now (length placement.setup.servers) (place_of placement).down) }
+        ensures carried { IfOk result (λ d. d.carried
+            ≡ carried_down carried.now (length placement.setup.servers) (place_of placement).down) }
         ensures restores { IfOk result (λ d. d.restores ≡ replicate (length placement.setup.servers) None) }
         ensures copies { IfOk result (λ d. d.copies ≡ replicate (length placement.setup.shards) 1) }
-        ensures fits { OnOk result ((log_room ≤ MOST_PLACES) × (down_count (sizes_of placement.setup) (place_of placement) ≤ log_room)) }
+        ensures fits { OnOk result ((log_room ≤ MOST_PLACES)
+            × (down_count (sizes_of placement.setup) (place_of placement) ≤ log_room)) }
         ensures back { IfErr result (λ e. e.0 ≡ placement) }
-        ensures full { IfErr result (λ e. (e.1 ≡ LogFull) ↔ ((MOST_PLACES < log_room) ⊎ (log_room < down_count (sizes_of placement.setup) (place_of placement)))) }
+        ensures full { IfErr result (λ e. (e.1 ≡ LogFull) ↔
+            ((MOST_PLACES < log_room) ⊎ (log_room < down_count (sizes_of placement.setup)
+            (place_of placement)))) }
     {
         let mut driver = Driver::over(
             alloc, placement, log_room, journal, epoch, permits, carried,

@@ -1,6 +1,6 @@
 #![tactic(auto, unfolding(crate::specs::State::whole_of))]
-//! The fields of a machine that restarts read and change: which servers are down, the pool that pays for it, and the list of
-//! unfinished plans. `restarting` records what happens.
+//! The fields of a machine that restarts read and change: which servers are down, the pool that pays for it, and the
+//! list of unfinished plans. `restarting` records what happens.
 ghost use Rattle.std.specs.Prelude.{◌≡◌, ◌<◌, ◌^◌, Some, None, OnOk, IfErr, false, length, IsTrue};
 ghost use Rattle.sm_placement.specs.Place.{set_down};
 ghost use Rattle.sm_machine.specs.State.{whole_of, state_of};
@@ -29,7 +29,9 @@ impl Engine {
     /// Brings a server up: the spare replicas that are live at it are in the pool again.
     pub fn bring_up(&mut self, server: ServerId)
         requires server { server < (state_of self.old).sizes.servers }
-        requires fits { CanGetLive (whole_of self.old).pool (live_there (set_down (state_of self.old).place server false) server) (state_of self.old).sizes.shards }
+        requires fits { CanGetLive (whole_of self.old).pool
+            (live_there (set_down (state_of self.old).place server false) server)
+            (state_of self.old).sizes.shards }
         ensures { whole_of self.new ≡ up_whole (whole_of self.old) server }
     {
         self.placement.set_up(server);
@@ -39,7 +41,8 @@ impl Engine {
     /// Takes a server down: the spare replicas that were live at it are out of the pool.
     pub fn take_down(&mut self, server: ServerId)
         requires server { server < (state_of self.old).sizes.servers }
-        requires spare { CanPayLive (whole_of self.old).pool (live_there (state_of self.old).place server) (state_of self.old).sizes.shards }
+        requires spare { CanPayLive (whole_of self.old).pool (live_there (state_of self.old).place server)
+            (state_of self.old).sizes.shards }
         ensures { whole_of self.new ≡ down_whole (whole_of self.old) server }
     {
         pay_live(&mut self.pool, &self.placement, server);
@@ -65,8 +68,10 @@ impl Engine {
     pub fn decide(&self, server: ServerId, engaged: Option<StreamId>) -> Result<Approved, Denied>
         requires server { server < (state_of self.now).sizes.servers }
         requires free { (whole_of self.now).free < 2 ^ 32 }
-        ensures approved { OnOk result (denial (state_of self.now).sizes (state_of self.now).place (whole_of self.now).pool engaged (whole_of self.now).free server ≡ None) }
-        ensures denied { IfErr result (λ why. denial (state_of self.now).sizes (state_of self.now).place (whole_of self.now).pool engaged (whole_of self.now).free server ≡ Some why) }
+        ensures approved { OnOk result (denial (state_of self.now).sizes (state_of self.now).place
+            (whole_of self.now).pool engaged (whole_of self.now).free server ≡ None) }
+        ensures denied { IfErr result (λ why. denial (state_of self.now).sizes (state_of self.now).place
+            (whole_of self.now).pool engaged (whole_of self.now).free server ≡ Some why) }
     {
         decide(
             &self.placement,

@@ -3,7 +3,8 @@
 ghost use Rattle.std.specs.Prelude.{◌≡◌, ◌<◌, ◌≤◌, ◌-◌, ◌==◌, if◌then◌else◌, not, is_some, None, true, false, length};
 ghost use Rattle.sm_placement.specs.Sums.{put, put2};
 ghost use Rattle.sm_plan_code.specs.Table.{exchange_of};
-ghost use Rattle.sm_protocol.specs.State.{is_begun, progress_of, next_instruction, allowance, plan_at, stream_count, signal_count, parcel_at, set_progress, recorded};
+ghost use Rattle.sm_protocol.specs.State.{is_begun, progress_of, next_instruction, allowance, plan_at, stream_count};
+ghost use Rattle.sm_protocol.specs.State.{signal_count, parcel_at, set_progress, recorded};
 ghost use Rattle.sm_reservation.specs.Hold.{minus, plus};
 ghost use Rattle.sm_reservation.specs.HoldOf.{hold_of};
 ghost use Rattle.sm_reservation.specs.CanJoin.{CanJoin};
@@ -78,7 +79,8 @@ impl Engine {
     pub fn set_progress(&mut self, id: StreamId, progress: Progress)
         requires known { is_begun (state_of self.old) id ≡ true }
         requires done { progress.done ≡ (progress_of (state_of self.old) id).done }
-        ensures { whole_of self.new ≡ with_state (whole_of self.old) (record (state_of self.old) { progress = set_progress (state_of self.old) id progress }) }
+        ensures { whole_of self.new ≡ with_state (whole_of self.old)
+            (record (state_of self.old) { progress = set_progress (state_of self.old) id progress }) }
     {
         let plan = id.plan as usize;
         self.plans.swap(plan, &mut self.desk);
@@ -98,7 +100,11 @@ impl Engine {
     /// both.
     pub fn trade(&mut self, id: StreamId, instr: &Instr) -> Change
         requires { IsReadyToTrade (whole_of self.old) id instr.now }
-        ensures whole { whole_of self.new ≡ record (whole_of self.old) { grants = put2 (whole_of self.old).grants id.plan id.stream (grant_of self.new id) } }
+        ensures whole { whole_of self.new ≡ record
+            (whole_of self.old) {
+              grants = put2 (whole_of self.old).grants id.plan id.stream
+                  (grant_of self.new id);
+            } }
         ensures traded { IsTradedBy (state_of self.old).sizes instr.now (grant_of self.old id) (grant_of self.new id) }
         ensures change { result ≡ exchange_of (state_of self.old).sizes instr.now (hold_in (grant_of self.old id)) }
     {
@@ -135,7 +141,8 @@ impl Engine {
         requires begun { is_begun (state_of self.now) id ≡ true }
         requires signal { signal < signal_count (state_of self.now) id.plan }
         ensures order { IsGrantInOrder ((whole_of self.now).parcels id.plan signal) }
-        ensures there { is_some ((whole_of self.now).parcels id.plan signal) ≡ not ((state_of self.now).marks id.plan signal).awaited }
+        ensures there { is_some ((whole_of self.now).parcels id.plan signal)
+            ≡ not ((state_of self.now).marks id.plan signal).awaited }
     {
         self.plans
             .at(id.plan as usize)
@@ -148,12 +155,24 @@ impl Engine {
         requires signal { signal < signal_count (state_of self.old) id.plan }
         requires running { (progress_of (state_of self.old) id).done ≡ false }
         requires there { ((state_of self.old).marks id.plan signal).awaited ≡ false }
-        requires held { first_short (hold_in (grant_of self.old id)) (parcel_at (state_of self.old) id.plan signal) ≡ None }
-        requires fits { CanJoin (hold_in ((whole_of self.old).parcels id.plan signal)) (hold_of (parcel_at (state_of self.old) id.plan signal)) }
-        requires capacity { HasCapacityIn ((whole_of self.old).parcels id.plan signal) (parcel_at (state_of self.old) id.plan signal) }
-        ensures whole { whole_of self.new ≡ with_signal (record (whole_of self.old) { grants = put2 (whole_of self.old).grants id.plan id.stream (grant_of self.new id) }) id.plan signal (record ((state_of self.old).marks id.plan signal) { posted = true }) ((whole_of self.new).parcels id.plan signal) }
-        ensures sent { hold_in ((whole_of self.new).parcels id.plan signal) ≡ plus (hold_in ((whole_of self.old).parcels id.plan signal)) (parcel_at (state_of self.old) id.plan signal) }
-        ensures left { hold_in (grant_of self.new id) ≡ minus (hold_in (grant_of self.old id)) (parcel_at (state_of self.old) id.plan signal) }
+        requires held { first_short (hold_in (grant_of self.old id)) (parcel_at (state_of self.old) id.plan signal)
+            ≡ None }
+        requires fits { CanJoin (hold_in ((whole_of self.old).parcels id.plan signal))
+            (hold_of (parcel_at (state_of self.old) id.plan signal)) }
+        requires capacity { HasCapacityIn ((whole_of self.old).parcels id.plan signal)
+            (parcel_at (state_of self.old) id.plan signal) }
+        ensures whole { whole_of self.new ≡ with_signal
+            (record (whole_of self.old) {
+              grants = put2 (whole_of self.old).grants id.plan id.stream
+                  (grant_of self.new id);
+            }) id.plan signal (record
+            ((state_of self.old).marks id.plan signal) { posted = true })
+            ((whole_of self.new).parcels id.plan signal) }
+        ensures sent { hold_in ((whole_of self.new).parcels id.plan signal)
+            ≡ plus (hold_in ((whole_of self.old).parcels id.plan signal))
+            (parcel_at (state_of self.old) id.plan signal) }
+        ensures left { hold_in (grant_of self.new id)
+            ≡ minus (hold_in (grant_of self.old id)) (parcel_at (state_of self.old) id.plan signal) }
         ensures capacity { capacity_in (grant_of self.new id) ≡ capacity_in (grant_of self.old id) }
     {
         let plan = id.plan as usize;
@@ -168,10 +187,18 @@ impl Engine {
         requires signal { signal < signal_count (state_of self.old) id.plan }
         requires running { (progress_of (state_of self.old) id).done ≡ false }
         requires there { ((state_of self.old).marks id.plan signal).awaited ≡ false }
-        requires fits { CanJoin (hold_in (grant_of self.old id)) (hold_in ((whole_of self.old).parcels id.plan signal)) }
-        requires capacity { HasCapacityIn (grant_of self.old id) (rights_in ((whole_of self.old).parcels id.plan signal)) }
-        ensures whole { whole_of self.new ≡ with_signal (record (whole_of self.old) { grants = put2 (whole_of self.old).grants id.plan id.stream (grant_of self.new id) }) id.plan signal (record ((state_of self.old).marks id.plan signal) { awaited = true }) None }
-        ensures hold { hold_in (grant_of self.new id) ≡ plus (hold_in (grant_of self.old id)) (rights_in ((whole_of self.old).parcels id.plan signal)) }
+        requires fits { CanJoin (hold_in (grant_of self.old id))
+            (hold_in ((whole_of self.old).parcels id.plan signal)) }
+        requires capacity { HasCapacityIn (grant_of self.old id)
+            (rights_in ((whole_of self.old).parcels id.plan signal)) }
+        ensures whole { whole_of self.new ≡ with_signal
+            (record (whole_of self.old) {
+              grants = put2 (whole_of self.old).grants id.plan id.stream
+                  (grant_of self.new id);
+            }) id.plan signal (record
+            ((state_of self.old).marks id.plan signal) { awaited = true }) None }
+        ensures hold { hold_in (grant_of self.new id)
+            ≡ plus (hold_in (grant_of self.old id)) (rights_in ((whole_of self.old).parcels id.plan signal)) }
         ensures capacity { capacity_in (grant_of self.new id) ≡ capacity_in (grant_of self.old id) }
     {
         let plan = id.plan as usize;
@@ -184,9 +211,12 @@ impl Engine {
     pub fn give_back(&mut self, id: StreamId)
         requires begun { is_begun (state_of self.old) id ≡ true }
         requires running { (progress_of (state_of self.old) id).done ≡ false }
-        requires below { IsKnownHold (state_of self.old).sizes.shards (state_of self.old).sizes.servers (hold_in (grant_of self.old id)) }
+        requires below { IsKnownHold (state_of self.old).sizes.shards (state_of self.old).sizes.servers
+            (hold_in (grant_of self.old id)) }
         requires fits { CanJoin (whole_of self.old).pool (hold_in (grant_of self.old id)) }
-        ensures { whole_of self.new ≡ record (with_stream (whole_of self.old) id (record (progress_of (state_of self.old) id) { done = true }) None) { pool = plus (whole_of self.old).pool (rights_in (grant_of self.old id)) } }
+        ensures { whole_of self.new ≡ record (with_stream (whole_of self.old) id
+            (record (progress_of (state_of self.old) id) { done = true }) None)
+            { pool = plus (whole_of self.old).pool (rights_in (grant_of self.old id)) } }
     {
         let plan = id.plan as usize;
         self.plans.swap(plan, &mut self.desk);
@@ -198,7 +228,13 @@ impl Engine {
     /// Counts one more stream of a plan as finished, and if it was the last, the plan too.
     pub fn finish_one(&mut self, id: StreamId)
         requires begun { is_begun (state_of self.old) id ≡ true }
-        ensures { whole_of self.new ≡ record (whole_of self.old) { unfinished = put (whole_of self.old).unfinished id.plan ((whole_of self.old).unfinished id.plan - 1); running = if (whole_of self.old).unfinished id.plan == 1 then (whole_of self.old).running - 1 else (whole_of self.old).running } }
+        ensures { whole_of self.new ≡ record (whole_of self.old) {
+          unfinished = put (whole_of self.old).unfinished id.plan
+              ((whole_of self.old).unfinished id.plan - 1);
+          running = if
+              (whole_of self.old).unfinished id.plan == 1 then (whole_of self.old).running - 1 else
+              (whole_of self.old).running;
+        } }
     {
         let plan = id.plan as usize;
         self.plans.swap(plan, &mut self.desk);

@@ -94,7 +94,8 @@ impl Machine {
 
     /// Answers the request whose pass is recorded at a place of the log.
     fn pass_on_at(&mut self, place: u32) -> Played
-        ensures { HasHappenedIf self.old (option_map happening.PassOn (slice_index_or (passes (state_of self.old).log) place None)) result self.new }
+        ensures { HasHappenedIf self.old (option_map happening.PassOn
+            (slice_index_or (passes (state_of self.old).log) place None)) result self.new }
     {
         match self.engine.pass_at(place) {
             Some(pass) => self.pass_on_named(pass),

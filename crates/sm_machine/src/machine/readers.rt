@@ -80,7 +80,8 @@ impl Machine {
     /// there: None if it would.
     pub fn begin_fault(&self, checked: &Checked) -> Option<BeginFault>
         requires { checked.now.setup ≡ self.now.placement.setup }
-        ensures { (happens (state_of self.now) (Begin checked.now.plan)).0 ≡ Answered (begin_answer (state_of self.now) result) }
+        ensures { (happens (state_of self.now) (Begin checked.now.plan)).0
+            ≡ Answered (begin_answer (state_of self.now) result) }
     {
         self.engine.start_fault(checked, places_of(checked.plan()))
     }
