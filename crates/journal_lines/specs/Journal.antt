@@ -1,5 +1,6 @@
 -- A journal, and what a content recovers to: a crash may leave an end behind the lines that stand whole.
-use Rattle.std.specs.Prelude.{◌≡◌, ◌≤◌, ◌<◌, ◌⊎◌, ℕ, ◌+◌, List, [], ◌∷◌, ◌++◌, length, take, map, All, Any, Some, slice_get}
+use Rattle.std.specs.Prelude.{◌≡◌, ◌≤◌, ◌<◌, ◌⊎◌, ℕ, ◌+◌, List, [], ◌∷◌, ◌++◌, length, take, map, All, Any, Some}
+use Rattle.std.specs.Prelude.{slice_get}
 use Rattle.std.specs.List.{flat_map}
 use Rattle.journal_lines.specs.Objects.{listed, IsBatch}
 use Rattle.journal_lines.specs.Lines.{head, journal_line, sum_of, no_sum, IsBody, IsRight, whole_lines}
@@ -33,7 +34,8 @@ pub record HasBatches (content : List ℕ) (batches : List (List (List ℕ))) : 
   pub is : content ≡ journal_of batches ++ end
   pub torn : HasNoRight end
 
--- The entries that a content recovers to. A content that is no longer than the head is a journal that was not yet begun.
+-- The entries that a content recovers to. A content that is no longer than the head is a journal that was not yet
+-- begun.
 abbrev pub RecoversTo : List ℕ → List (List ℕ) → Type 0
 RecoversTo content entries =
     ((length content ≤ length head) × (entries ≡ []))
@@ -51,9 +53,12 @@ pub record IsDamaged (content : List ℕ) (number : ℕ) : Type 0 where
   pub each : All IsBatch batches
   pub is : content ≡ journal_of batches ++ rest
   pub at : number ≡ length batches + 2
-  pub parted : (body more : List ℕ) → IsBody body → rest ≡ journal_line (last_sum no_sum (map listed batches)) body ++ 10 ∷ more → ⊥
+  pub parted : (body more : List ℕ) → IsBody body
+      → rest ≡ journal_line (last_sum no_sum (map listed batches)) body ++ 10 ∷ more → ⊥
   pub behind : HasRight rest
 
--- Each whole line of the content that is right by itself is the line of that number in the text: no line was forged, and none stands elsewhere.
+-- Each whole line of the content that is right by itself is the line of that number in the text: no line was forged,
+-- and none stands elsewhere.
 abbrev pub HasNoForged : List ℕ → List ℕ → Type 0
-HasNoForged text content = (k : ℕ) (line : List ℕ) → slice_get (whole_lines content) k ≡ Some line → IsRight line → slice_get (whole_lines text) k ≡ Some line
+HasNoForged text content = (k : ℕ) (line : List ℕ) → slice_get (whole_lines content) k ≡ Some line → IsRight line
+    → slice_get (whole_lines text) k ≡ Some line

@@ -1,6 +1,7 @@
 -- The text of a JSON object, as far as a journal has to know it: its braces close, and braces within strings do not count.
 -- `quoting_after`, `depth_after` and `is_last` are steps of `closed_length`, to which public contracts come.
-use Rattle.std.specs.Prelude.{◌≡◌, ◌≢◌, ℕ, ◌+◌, ◌-◌, ◌==◌, ◌&&◌, Bool, false, if◌then◌else◌, List, [], ◌∷◌, length, drop, Option, Some, None, option_map, All}
+use Rattle.std.specs.Prelude.{◌≡◌, ◌≢◌, ℕ, ◌+◌, ◌-◌, ◌==◌, ◌&&◌, Bool, false, if◌then◌else◌, List, [], ◌∷◌, length}
+use Rattle.std.specs.Prelude.{drop, Option, Some, None, option_map, All}
 use Rattle.std.specs.List.{flat_map}
 use Rattle.journal_lines.specs.declared.objects.Quoting.{Quoting}
 use Rattle.journal_lines.specs.declared.objects.Quoting.TheVariants.{Outside, Inside, Escaped}

@@ -5,7 +5,8 @@ use Rattle.journal_lines.specs.Objects.{listed, IsBatch}
 use Rattle.journal_lines.specs.Lines.{no_sum}
 use Rattle.journal_lines.specs.Journal.{chain, last_sum, HasNoRight}
 
--- The text behind the head, which ends with a line, was read: it has the lines of these batches, and then lines that are all wrong.
+-- The text behind the head, which ends with a line, was read: it has the lines of these batches, and then lines that
+-- are all wrong.
 pub record Reads (reading : Reading) (text : List ℕ) (batches : List (List (List ℕ))) : Type 0 where
   pub bad : List ℕ
   pub each : All IsBatch batches

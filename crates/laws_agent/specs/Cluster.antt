@@ -1,7 +1,8 @@
 -- Servers and the map's owner as agents while a reopening is under way: with bases, slots and what is at work. Orders,
 -- fences, settles and restores that were sent come in any order, late, again or never, and the agent's definitions say
 -- what each one does.
-use Rattle.std.specs.Prelude.{ℕ, suc, ◌++◌, ◌||◌, Bool, true, false, not, Option, Some, None, List, [], ◌∷◌, map, slice_get, if◌then◌else◌}
+use Rattle.std.specs.Prelude.{ℕ, suc, ◌++◌, ◌||◌, Bool, true, false, not, Option, Some, None, List, [], ◌∷◌, map}
+use Rattle.std.specs.Prelude.{slice_get, if◌then◌else◌}
 use Rattle.sm_placement.specs.Sums.{put}
 use Rattle.sm_agent.specs.declared.base.Base.{Base}
 use Rattle.sm_agent.specs.declared.base.Reopening.{Reopening as AgentReopening}

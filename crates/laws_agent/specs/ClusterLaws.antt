@@ -1,4 +1,5 @@
--- The laws of agents in a reopening: what they do, the model of reopenings does, message by message. So at most one of them executes.
+-- The laws of agents in a reopening: what they do, the model of reopenings does, message by message. So at most one of
+-- them executes.
 use Rattle.std.specs.Prelude.{◌≡◌, ◌≤◌, ◌<◌, ◌⊎◌, ℕ, suc, ◌*◌, Bool, false, Some, None, List, [], ◌∷◌, length, map}
 use Rattle.sm_server.specs.declared.call.Cell.TheVariants.{Forwarding}
 use Rattle.sm_agent.specs.declared.request.Routing.TheVariants.{Execute}
@@ -10,9 +11,12 @@ use Rattle.laws_network.specs.Fleet.{Committed, Fleet, Routed, controller}
 use Rattle.laws_network.specs.FleetLaws.{IsFleetReached, real_cells, world_of}
 use Rattle.laws_network.specs.FleetReopening.{IsOneOf, base_seen, pass_seen, real_lasts, restore_seen}
 use Rattle.laws_network.specs.Net.{Deliver, Order, Served}
-use Rattle.laws_network.specs.Reopening.{Comes, Confirm, Entry, Inner, Reopen, Settlement, Settling, SettlingEvent, settling_comes, settling_run}
-use Rattle.laws_network.specs.ReopeningLaws.{AllSettlingFit, AllTook, Executes, IsOutset, IsSettlingReached, MayReopen, MaySettle, no_reopening}
-use Rattle.laws_agent.specs.Cluster.{Cluster, ClusterEvent, Envelope, Notes, base_kept, cluster_comes, cluster_run, entry_noted}
+use Rattle.laws_network.specs.Reopening.{Comes, Confirm, Entry, Inner, Reopen, Settlement, Settling, SettlingEvent}
+use Rattle.laws_network.specs.Reopening.{settling_comes, settling_run}
+use Rattle.laws_network.specs.ReopeningLaws.{AllSettlingFit, AllTook, Executes, IsOutset, IsSettlingReached, MayReopen}
+use Rattle.laws_network.specs.ReopeningLaws.{MaySettle, no_reopening}
+use Rattle.laws_agent.specs.Cluster.{Cluster, ClusterEvent, Envelope, Notes, base_kept, cluster_comes, cluster_run}
+use Rattle.laws_agent.specs.Cluster.{entry_noted}
 
 -- ---- what a cluster stands for
 
@@ -68,14 +72,16 @@ AllClusterFit (e ∷ es) c = ClusterFits c e × AllClusterFit es (cluster_comes 
 
 -- ---- laws
 
--- The model takes steps of its own that fit, after which the cluster stands for it again. What an agent executes or commits, the model does.
+-- The model takes steps of its own that fit, after which the cluster stands for it again. What an agent executes or
+-- commits, the model does.
 pub record IsSimulated (c : Cluster) (x : Settling) (e : ClusterEvent) : Type 0 where
   pub events : List SettlingEvent
   pub fit : AllSettlingFit events x
   pub stands : StandsFor (cluster_comes c e).1 (settling_run events x)
   pub executes : (s v : ℕ) → (cluster_comes c e).0 ≡ Routed s v Execute → Executes x s v
   pub commits : (o : Order) → (cluster_comes c e).0 ≡ Committed o →
-      (k : ℕ) × (events ≡ Comes (Inner (Deliver k)) ∷ []) × ((settling_comes x (Comes (Inner (Deliver k)))).0 ≡ Served o)
+      (k : ℕ) × (events ≡ Comes (Inner (Deliver k)) ∷ [])
+      × ((settling_comes x (Comes (Inner (Deliver k)))).0 ≡ Served o)
 
 -- whatever comes to a cluster that stands for a state to which events lead
 abbrev pub AgentsAreSimulated : Type 0
@@ -99,7 +105,8 @@ cluster_of f = record {
 
 -- no server that is Unknown stands above the base of the fleet's controller
 abbrev pub AreUnknownLow : Fleet → Type 0
-AreUnknownLow f = (v nonce : ℕ) → (f.servers v).base.nonce ≡ Some nonce → (f.servers v).base.number ≤ (controller f).base
+AreUnknownLow f = (v nonce : ℕ) → (f.servers v).base.nonce ≡ Some nonce
+    → (f.servers v).base.number ≤ (controller f).base
 
 -- The servers of each fleet to which events lead stand for a state over which a reopening may begin.
 abbrev pub ClustersOpen : Type 0
@@ -125,14 +132,15 @@ pub record IsClusterReached (setup : Setup) (c : Cluster) : Type 0 where
 abbrev pub EachCluster : (Setup → Cluster → Type 0) → Type 0
 EachCluster P = (setup : Setup) (c : Cluster) → IsClusterReached setup c → P setup c
 
--- Over each placement on which a controller can open there are such servers, with these cells, and a reopening of each number that is high enough
--- can begin over them.
+-- Over each placement on which a controller can open there are such servers, with these cells, and a reopening of each
+-- number that is high enough can begin over them.
 abbrev pub ClustersAreReached : Type 0
-ClustersAreReached = (setup : Setup) (p : Place) (room base servers : ℕ) → IsOpening setup p room → 2 * MOST_PLACES ≤ base → ((s : ℕ) → p.version s < base) →
+ClustersAreReached = (setup : Setup) (p : Place) (room base servers : ℕ) → IsOpening setup p room
+    → 2 * MOST_PLACES ≤ base → ((s : ℕ) → p.version s < base) →
     (c : Cluster) × IsClusterReached setup c × ((s v : ℕ) → ((c.fleet.servers v).slots s).cell ≡ p.cells s v)
 
--- The cluster stands for a state to which events of the model lead: so what the laws of a reopening say of cells, bases, messages and the map they
--- say of its agents.
+-- The cluster stands for a state to which events of the model lead: so what the laws of a reopening say of cells,
+-- bases, messages and the map they say of its agents.
 abbrev pub StandsForReached : Setup → Cluster → Type 0
 StandsForReached setup c = (x : Settling) × IsSettlingReached setup x × StandsFor c x
 
@@ -140,8 +148,8 @@ StandsForReached setup c = (x : Settling) × IsSettlingReached setup x × Stands
 abbrev pub AgentExecutes : Cluster → ℕ → ℕ → Type 0
 AgentExecutes c s v = (e : ClusterEvent) × ((cluster_comes c e).0 ≡ Routed s v Execute)
 
--- At most one agent executes requests of a shard, and it has its slots. The agent that the map shows is that one, or forwards to it, if neither it
--- nor the map's owner is fenced.
+-- At most one agent executes requests of a shard, and it has its slots. The agent that the map shows is that one, or
+-- forwards to it, if neither it nor the map's owner is fenced.
 pub record OneAgentExecutes (setup : Setup) (c : Cluster) : Type 0 where
   pub one : (s u v : ℕ) → AgentExecutes c s u → AgentExecutes c s v → u ≡ v
   pub known : (s v : ℕ) → AgentExecutes c s v → (c.fleet.servers v).base.nonce ≡ None

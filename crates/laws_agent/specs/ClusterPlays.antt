@@ -1,5 +1,5 @@
--- A worked play of agents in a reopening: server 0 hands the primary of shard 0 over to server 1, which is lost; server 2 has a secondary, and an
--- order is on its way there. All others tell, and the old owner serves again.
+-- A worked play of agents in a reopening: server 0 hands the primary of shard 0 over to server 1, which is lost; server
+-- 2 has a secondary, and an order is on its way there. All others tell, and the old owner serves again.
 use Rattle.std.specs.Prelude.{◌≡◌, ℕ, ◌==◌, Bool, false, Some, None, List, [], ◌∷◌, map}
 use Rattle.sm_server.specs.declared.call.Cell.TheVariants.{Secondary, Primary, Prepared, Forwarding}
 use Rattle.sm_server.specs.declared.call.Call.TheVariants.{Drop}
@@ -78,8 +78,8 @@ all_taken = cluster_run (Notes 7 3000000 (Confirm brought) ∷ receive (6 ∷ 7 
 abbrev pub outcomes_of : Cluster → List FleetOutcome
 outcomes_of c = map (λ e. (cluster_comes c e).0) (Handles (Judge 0) ∷ Handles (Serve 0 0 0) ∷ [])
 
--- The controller may begin and confirm what it does. Until the fence has come the order begins and requests are passed on, then neither; and at
--- last the old owner executes requests, and the order is old.
+-- The controller may begin and confirm what it does. Until the fence has come the order begins and requests are passed
+-- on, then neither; and at last the old owner executes requests, and the order is old.
 pub record ServesAgain : Type 0 where
   pub begins : MayNote server_lost (Reopen 3000000 3 one_lost)
   pub confirms : MayNote others_told (Confirm brought)

@@ -1,5 +1,5 @@
--- The next try of a stream's call, and laws that it stays as it is: the call that a stream stands before changes only with the stream's step,
--- and if a try of it is lost, the next one is the same call under the same number.
+-- The next try of a stream's call, and laws that it stays as it is: the call that a stream stands before changes only
+-- with the stream's step, and if a try of it is lost, the next one is the same call under the same number.
 use Rattle.std.specs.Prelude.{◌≡◌, ℕ, Bool, true, Option, Some, None, List}
 use Rattle.sm_placement.specs.Setup.{Setup, sizes_of}
 use Rattle.sm_reservation.specs.declared.stream_id.StreamId.{StreamId}
@@ -14,8 +14,8 @@ use Rattle.sm_protocol.specs.Log.{steps_in}
 use Rattle.sm_protocol.specs.Next.{instruction_before}
 use Rattle.sm_protocol.specs.Laws.{AllFit, IsReached}
 
--- A try of a call: the position of its instruction, the call with its shard, its server and the handover number that it carries, and the number
--- that the call is made under.
+-- A try of a call: the position of its instruction, the call with its shard, its server and the handover number that it
+-- carries, and the number that the call is made under.
 pub record Try : Type 0 where
   pub at : ℕ
   pub call : ServerCall
@@ -39,8 +39,8 @@ try_of w id (Some x) = Some (record { at = (progress_of w id).at; call = x; numb
 abbrev pub next_try : State → StreamId → Option Try
 next_try w id = try_of w id (tried_next w id)
 
--- Any events that fit have led from one state to the other, the halt flag aside: it may have been set and cleared among them. The log has no
--- further step of the stream. So none of the stream's tries among them was answered.
+-- Any events that fit have led from one state to the other, the halt flag aside: it may have been set and cleared among
+-- them. The log has no further step of the stream. So none of the stream's tries among them was answered.
 pub record IsUnanswered (setup : Setup) (id : StreamId) (w new : State) : Type 0 where
   pub events : List Happening
   pub fit : AllFit (sizes_of setup) events
@@ -49,13 +49,15 @@ pub record IsUnanswered (setup : Setup) (id : StreamId) (w new : State) : Type 0
 
 -- The call that a running stream tries next stays the same until the stream makes its step.
 abbrev pub CallsStay : Type 0
-CallsStay = (setup : Setup) (w new : State) (id : StreamId) (x : ServerCall) → IsReached setup w → tried_next w id ≡ Some x → IsUnanswered setup id w new →
+CallsStay = (setup : Setup) (w new : State) (id : StreamId) (x : ServerCall) → IsReached setup w
+    → tried_next w id ≡ Some x → IsUnanswered setup id w new →
     tried_next new id ≡ Some x
 
--- An event by which a call of the stream is lost loses the try that the stream makes next. From then on its next try is the same, until the stream
--- makes its step.
+-- An event by which a call of the stream is lost loses the try that the stream makes next. From then on its next try is
+-- the same, until the stream makes its step.
 abbrev pub FurtherTriesRepeat : Type 0
-FurtherTriesRepeat = (setup : Setup) (w new : State) (id : StreamId) (after : Bool) → IsReached setup w → (happens w (Lose id after)).0 ≡ Answered played.Lost →
+FurtherTriesRepeat = (setup : Setup) (w new : State) (id : StreamId) (after : Bool) → IsReached setup w
+    → (happens w (Lose id after)).0 ≡ Answered played.Lost →
     IsUnanswered setup id (happens w (Lose id after)).1 new →
     (t : Try) × (next_try w id ≡ Some t) × (next_try new id ≡ Some t)
 

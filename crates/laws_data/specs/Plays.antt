@@ -1,7 +1,9 @@
 -- Worked plays: the premises of the laws can be met, and each way to another primary can be gone.
 use Rattle.std.specs.Prelude.{◌≡◌, ◌==◌, nat_lt, ℕ, true, false, List, [], ◌∷◌, ◌++◌, Some}
 use Rattle.sm_copies.specs.Lists.{ListEntry, beginning}
-use Rattle.laws_data.specs.Shard.{Acknowledges, Changes, Chooses, Copies, Ends, Event, Executes, Follows, Goes, HasPrimary, Hears, Joins, Loses, Lowers, MayHappenInTurn, Releases, Shard, Succeeds, Takes, Tells, all_left, new_shard}
+use Rattle.laws_data.specs.Shard.{Acknowledges, Changes, Chooses, Copies, Ends, Event, Executes, Follows, Goes}
+use Rattle.laws_data.specs.Shard.{HasPrimary, Hears, Joins, Loses, Lowers, MayHappenInTurn, Releases, Shard, Succeeds}
+use Rattle.laws_data.specs.Shard.{Takes, Tells, all_left, new_shard}
 
 -- three replicas, of which 0 is primary; two have each write
 abbrev pub THREE : Shard

@@ -1,6 +1,7 @@
 -- What happens to the data of one shard: writes, copies, losses, replicas that come and go, other primaries. What a
 -- server has is what is durable there.
-use Rattle.std.specs.Prelude.{◌≡◌, ◌≢◌, ◌<◌, ◌≤◌, ◌⊎◌, ◌+◌, ◌==◌, ◌&&◌, nat_lt, ℕ, zero, suc, Bool, true, false, not, List, [], ◌∷◌, ◌++◌, Option, Some, None, is_some, length, slice_get, if◌then◌else◌}
+use Rattle.std.specs.Prelude.{◌≡◌, ◌≢◌, ◌<◌, ◌≤◌, ◌⊎◌, ◌+◌, ◌==◌, ◌&&◌, nat_lt, ℕ, zero, suc, Bool, true, false, not}
+use Rattle.std.specs.Prelude.{List, [], ◌∷◌, ◌++◌, Option, Some, None, is_some, length, slice_get, if◌then◌else◌}
 use Rattle.sm_placement.specs.Sums.{put, count_below}
 use Rattle.sm_copies.specs.declared.order.ToldCopy.{ToldCopy}
 use Rattle.sm_copies.specs.Order.{IsAtLeast}
@@ -179,21 +180,25 @@ pub record IsChosen (w : Shard) (choice : Choice) (copy : List ListEntry) : Type
 abbrev pub MayHappen : Shard → Event → Type 0
 MayHappen w (Executes write) = (is_some (w.copies w.primary) ≡ true) × HasPrimary w
 MayHappen w (Copies s) = (is_some (w.copies w.primary) ≡ true) × HasPrimary w
-MayHappen w (Follows s list) = (copy source : List ListEntry) × (w.copies s ≡ Some copy) × (w.copies w.primary ≡ Some source)
+MayHappen w (Follows s list) = (copy source : List ListEntry) × (w.copies s ≡ Some copy)
+    × (w.copies w.primary ≡ Some source)
     × Resumes (told_of copy) (views_of source) (length source)
     × (begins list source ≡ true) × (length copy ≤ length list) × HasPrimary w
 MayHappen w (Tells s) = (is_some (w.copies s) ≡ true) × (w.leaving s ≡ false)
 MayHappen w (Hears which) = (word : Word) × (slice_get w.words which ≡ Some word)
-MayHappen w (Acknowledges list) = (source : List ListEntry) × (position : ℕ) × (w.copies w.primary ≡ Some source) × (begins list source ≡ true)
+MayHappen w (Acknowledges list) = (source : List ListEntry) × (position : ℕ) × (w.copies w.primary ≡ Some source)
+    × (begins list source ≡ true)
     × (view_of list ≡ w.view) × (length w.acknowledged ≤ length list)
-    × IsAcknowledged (asked_copies w w.needed) (told_of source) (told w) position × (length list ≤ position) × HasPrimary w
+    × IsAcknowledged (asked_copies w w.needed) (told_of source) (told w) position × (length list ≤ position)
+    × HasPrimary w
 MayHappen w (Joins s) = Unit
 MayHappen w (Leave s) = HasHeardEnough (record w { leaving = put w.leaving s true; known = put w.known s false })
     w.needed (length w.acknowledged)
 MayHappen w (Goes s) = w.leaving s ≡ true
 MayHappen w (Stays s) = Unit
 MayHappen w (Loses s) = Unit
-MayHappen w (Hands s) = (copy : List ListEntry) × (w.copies w.primary ≡ Some copy) × (w.copies s ≡ Some copy) × HasPrimary w
+MayHappen w (Hands s) = (copy : List ListEntry) × (w.copies w.primary ≡ Some copy) × (w.copies s ≡ Some copy)
+    × HasPrimary w
 MayHappen w (Restarts view) = (is_some (w.copies w.primary) ≡ true) × IsLater w view × HasPrimary w
 MayHappen w (Raises needed) = HasHeardEnough w needed (length w.acknowledged)
 MayHappen w (Lowers needed) = needed ≤ w.needed
@@ -202,11 +207,13 @@ MayHappen w (Changes s view answered) = (copy : List ListEntry) × (w.copies s �
     × IsLater w view × (gone w answered < w.needed)
 MayHappen w (Chooses choice) = (copy : List ListEntry) × IsChosen w choice copy
 MayHappen w (Ends number) = (is_some (w.copies w.primary) ≡ true) × IsLater w number × HasPrimary w
-MayHappen w (Succeeds s view former) = (copy kept : List ListEntry) × (w.copies s ≡ Some copy) × (w.copies former ≡ Some kept)
+MayHappen w (Succeeds s view former) = (copy kept : List ListEntry) × (w.copies s ≡ Some copy)
+    × (w.copies former ≡ Some kept)
     × (w.former former ≡ w.ended) × IsAtLeast (told_of copy) (told_of kept) × IsLater w view × HasNoPrimary w
 MayHappen w (Releases s others) = (copy : List ListEntry) × (w.copies s ≡ Some copy) × HaveNoLess w others s copy
     × (w.needed ≤ count_below w.servers others) × (view_of copy < w.ended)
-MayHappen w (Takes s source) = (list : List ListEntry) × (w.copies source ≡ Some list) × MayTake w s list × HasNoPrimary w
+MayHappen w (Takes s source) =
+    (list : List ListEntry) × (w.copies source ≡ Some list) × MayTake w s list × HasNoPrimary w
 
 -- the list of a whole copy, empty without one
 abbrev pub list_of : Option (List ListEntry) → List ListEntry

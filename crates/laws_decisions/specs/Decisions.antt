@@ -1,6 +1,7 @@
--- Decisions on the record. Calls of which no answer has come may have had their effects, and publications may have been taken. Had the
--- record these effects, it would be one in which the answers of these calls are lost, and these publications are made. The controller's
--- decisions are the same there. Only the reason why a plan does not begin may be another: what is Taken here may be Untrue there.
+-- Decisions on the record. Calls of which no answer has come may have had their effects, and publications may have been
+-- taken. Had the record these effects, it would be one in which the answers of these calls are lost, and these
+-- publications are made. The controller's decisions are the same there. Only the reason why a plan does not begin may
+-- be another: what is Taken here may be Untrue there.
 use Rattle.std.specs.Prelude.{◌≡◌, ◌≢◌, ◌↔◌, ◌<◌, ◌||◌, ℕ, Bool, true, false, List, [], ◌∷◌, is_some, length, map}
 use Rattle.std.specs.List.{AllByRecursion}
 use Rattle.sm_placement.specs.Setup.{Setup}
@@ -15,7 +16,8 @@ use Rattle.sm_protocol.specs.Laws.{IsCheckedPlan}
 use Rattle.laws_network.specs.Net.{cell_above}
 use Rattle.laws_network.specs.Fleet.{Fleet, controller, has_lost}
 
--- the stream stands before a call or an entry of the published map: an order or a publication of it is under way, or will be
+-- the stream stands before a call or an entry of the published map: an order or a publication of it is under way, or
+-- will be
 abbrev pub is_awaiting : State → StreamId → Bool
 is_awaiting w id = is_some (next_call_of w id) || is_some (next_entry_of w id)
 
@@ -29,15 +31,18 @@ pub record AreAwaiting (w : State) (ids : List StreamId) : Type 0 where
   pub apart : AreNamedOnce ids
   pub awaiting : AllByRecursion (λ id. is_awaiting w id ≡ true) ids
 
--- the record in which each of these streams' calls has had its effect and the answer is lost, and each of their publications is made
+-- the record in which each of these streams' calls has had its effect and the answer is lost, and each of their
+-- publications is made
 abbrev pub with_effects : List StreamId → State → State
 with_effects ids w = run (map (λ id. Lose id true) ids) w
 
--- The servers that have their slots have what the record says with the effects of some streams, with the base in handover numbers.
+-- The servers that have their slots have what the record says with the effects of some streams, with the base in
+-- handover numbers.
 pub record AreTold (f : Fleet) : Type 0 where
   pub ids : List StreamId
   pub awaiting : AreAwaiting (controller f).w ids
-  pub cells : (s v : ℕ) → s < (controller f).w.sizes.shards → v < (controller f).w.sizes.servers → has_lost f v ≡ false →
+  pub cells : (s v : ℕ) → s < (controller f).w.sizes.shards → v < (controller f).w.sizes.servers
+      → has_lost f v ≡ false →
       ((f.servers v).slots s).cell ≡ cell_above (controller f).base ((with_effects ids (controller f).w).place.cells s v)
 
 -- wherever events lead, it is
@@ -55,5 +60,6 @@ ApprovesAlike setup f = (ids : List StreamId) (v : ℕ) → AreAwaiting (control
 
 -- a checked plan begins, or does not
 abbrev pub StartsAlike : Setup → Fleet → Type 0
-StartsAlike setup f = (ids : List StreamId) (plan : PlanModel) → AreAwaiting (controller f).w ids → IsCheckedPlan (controller f).w.sizes plan →
+StartsAlike setup f = (ids : List StreamId) (plan : PlanModel) → AreAwaiting (controller f).w ids
+    → IsCheckedPlan (controller f).w.sizes plan →
     Begins (with_effects ids (controller f).w) plan ↔ Begins (controller f).w plan

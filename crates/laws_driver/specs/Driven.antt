@@ -2,10 +2,12 @@
 use Rattle.std.specs.Prelude.{◌≡◌, ◌++◌, List, [], ◌∷◌}
 pub use Rattle.std.specs.List.{AllByRecursion}
 pub use Rattle.sm_placement.specs.Setup.{Setup}
-pub use Rattle.laws_network.specs.Fleet.{End, Fleet, FleetEvent, HearAsk, HearOwner, HearServer, Make, Open, controller, fleet_comes}
+pub use Rattle.laws_network.specs.Fleet.{End, Fleet, FleetEvent, HearAsk, HearOwner, HearServer, Make, Open, controller}
+pub use Rattle.laws_network.specs.Fleet.{fleet_comes}
 pub use Rattle.laws_network.specs.FleetLaws.{HasAskedUnder, IsFleetOpening, IsFleetReached}
 pub use Rattle.laws_network.specs.FleetReopening.{IsOneOf}
-pub use Rattle.laws_driver.specs.Control.{Answered, Command, DriverModel, IsCallable, IsControllerOf, JournalEntry, Restored, Stored, Writes}
+pub use Rattle.laws_driver.specs.Control.{Answered, Command, DriverModel, IsCallable, IsControllerOf, JournalEntry}
+pub use Rattle.laws_driver.specs.Control.{Restored, Stored, Writes}
 
 -- A driver, and the fleet that it is the controller of.
 pub record Driven : Type 0 where
@@ -53,7 +55,8 @@ TellsTruth f _ = Unit {0}
 -- Commands are given as they have to be, and only after what they tell has happened.
 abbrev pub TurnFits : Driven → Turn → Type 0
 TurnFits x (Goes e) = WritesNothing e
-TurnFits x (Takes command driver es) = IsCallable x.driver command × Writes command x.driver driver es × AllByRecursion (TellsTruth x.fleet) es
+TurnFits x (Takes command driver es) = IsCallable x.driver command × Writes command x.driver driver es
+    × AllByRecursion (TellsTruth x.fleet) es
 
 -- each of these turns is so when it comes
 abbrev pub AllTurnsFit : List Turn → Driven → Type 0

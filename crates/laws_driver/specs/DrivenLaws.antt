@@ -5,12 +5,19 @@ use Rattle.sm_placement.specs.Setup.{sizes_of}
 use Rattle.sm_placement.specs.Place.{Place}
 use Rattle.sm_protocol.specs.State.{opened}
 use Rattle.sm_protocol.specs.Laws.{IsOpening}
-use Rattle.laws_network.specs.Controller.{Controller, Letter, Notice, Order, Publication, StreamId, order_of, publication_of}
+use Rattle.laws_network.specs.Controller.{Controller, Letter, Notice, Order, Publication, StreamId, order_of}
+use Rattle.laws_network.specs.Controller.{publication_of}
 use Rattle.laws_network.specs.Fleet.{SendOrder, SendPublication, fleet_run}
-use Rattle.laws_network.specs.FleetLaws.{AllFleetFit, ArePermits, BeginningsAreHarmless, CommitsOncePerNumber, CommitsWhereUp, ExecutesAtOneServer, FleetCanFinish, FleetIsReached, FleetIsSafe, MapIsRight, NoLetterIsRefused, OnlyPresentCommits, PermitsEndOnce, PresentIsHeard, ServersAreAtEnds, ServersAreNear, ServersAreRecorded, SomeFleetCanGoOn}
+use Rattle.laws_network.specs.FleetLaws.{AllFleetFit, ArePermits, BeginningsAreHarmless, CommitsOncePerNumber}
+use Rattle.laws_network.specs.FleetLaws.{CommitsWhereUp, ExecutesAtOneServer, FleetCanFinish, FleetIsReached}
+use Rattle.laws_network.specs.FleetLaws.{FleetIsSafe, MapIsRight, NoLetterIsRefused, OnlyPresentCommits, PermitsEndOnce}
+use Rattle.laws_network.specs.FleetLaws.{PresentIsHeard, ServersAreAtEnds, ServersAreNear, ServersAreRecorded}
+use Rattle.laws_network.specs.FleetLaws.{SomeFleetCanGoOn}
 use Rattle.sm_driver.specs.Driver.{base, record_of}
 use Rattle.sm_driver.specs.Permits.{AreEarlierPermits, opening_permits}
-use Rattle.laws_driver.specs.Driven.{Command, Driven, DriverModel, Fleet, FleetEvent, IsControllerOf, IsDrivenOpening, IsFleetReached, JournalEntry, Setup, Takes, TurnFits, controller, fleet_comes, driver_setup, with_entries}
+use Rattle.laws_driver.specs.Driven.{Command, Driven, DriverModel, Fleet, FleetEvent, IsControllerOf, IsDrivenOpening}
+use Rattle.laws_driver.specs.Driven.{IsFleetReached, JournalEntry, Setup, Takes, TurnFits, controller, fleet_comes}
+use Rattle.laws_driver.specs.Driven.{driver_setup, with_entries}
 
 -- The fleet is one that the laws of the fleet are about, and the driver is its controller.
 abbrev pub IsFleetDriven : Driven → Type 0
@@ -18,8 +25,10 @@ IsFleetDriven x = IsFleetReached (driver_setup x) x.fleet × IsControllerOf x.dr
 
 -- A command writes events of the fleet that all fit: servers, map and whatever was sent stay as they were.
 abbrev pub CommandsAreEvents : Driven → Type 0
-CommandsAreEvents x = (command : Command) (driver : DriverModel) (es : List JournalEntry) → TurnFits x (Takes command driver es) →
-    (events : List FleetEvent) × AllFleetFit (driver_setup x) x.fleet events × (fleet_run events x.fleet ≡ with_entries x.fleet es)
+CommandsAreEvents x = (command : Command) (driver : DriverModel) (es : List JournalEntry)
+    → TurnFits x (Takes command driver es) →
+    (events : List FleetEvent) × AllFleetFit (driver_setup x) x.fleet events
+    × (fleet_run events x.fleet ≡ with_entries x.fleet es)
 
 -- So all laws of the fleet hold of the fleet of a driver.
 pub record IsDrivenSafely (x : Driven) : Type 0 where
@@ -83,11 +92,14 @@ HasFleet d = (f : Fleet) × IsDrivenOpening (record { driver = d; fleet = f })
 
 -- The first driver of a journal is the controller of a fleet that opens, whose servers have the cells of the placement.
 abbrev pub DriversOpen : Type 0
-DriversOpen = (setup : Setup) (p : Place) (room : ℕ) (d : DriverModel) → IsOpening setup p room → IsJustOpened setup p room [] d → d.fence ≡ 0 →
-    (f : Fleet) × IsDrivenOpening (record { driver = d; fleet = f }) × ((s v : ℕ) → ((f.servers v).slots s).cell ≡ p.cells s v)
+DriversOpen = (setup : Setup) (p : Place) (room : ℕ) (d : DriverModel) → IsOpening setup p room
+    → IsJustOpened setup p room [] d → d.fence ≡ 0 →
+    (f : Fleet) × IsDrivenOpening (record { driver = d; fleet = f })
+    × ((s v : ℕ) → ((f.servers v).slots s).cell ≡ p.cells s v)
 
 -- A driver that has just been opened, with permits of before, is a controller that has given no restore, and whose
 -- permits are apart.
 abbrev pub OpenedControls : Type 0
-OpenedControls = (setup : Setup) (p : Place) (room : ℕ) (before : List (Option ℕ)) (d : DriverModel) → IsOpening setup p room → IsJustOpened setup p room before d →
+OpenedControls = (setup : Setup) (p : Place) (room : ℕ) (before : List (Option ℕ)) (d : DriverModel)
+    → IsOpening setup p room → IsJustOpened setup p room before d →
     AreEarlierPermits (base d) before → (c : Controller) × IsControllerOf d c × (c.restores ≡ []) × ArePermits c

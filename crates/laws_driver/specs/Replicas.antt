@@ -13,7 +13,8 @@ LeadTo (c ∷ cs) old new = (between : DriverModel) × IsWritten c old between �
 
 -- The same commands make drivers of them that are alike.
 abbrev pub StayAlike : DriverModel → DriverModel → Type 0
-StayAlike d e = (commands : List Command) (new next : DriverModel) → LeadTo commands d new → LeadTo commands e next → AreAlike new next
+StayAlike d e = (commands : List Command) (new next : DriverModel) → LeadTo commands d new → LeadTo commands e next
+    → AreAlike new next
 
 -- Both drivers have just been opened, in the same epoch of the same journal, over the same placement, with the same
 -- servers carried over.
@@ -27,4 +28,5 @@ pub record OpenedAlike (rows : Setup) (p : Place) (room : ℕ) (before : List (O
 
 -- Drivers that open alike are alike.
 abbrev pub ReplicasOpenAlike : Type 0
-ReplicasOpenAlike = (rows : Setup) (p : Place) (room : ℕ) (before : List (Option ℕ)) (d e : DriverModel) → OpenedAlike rows p room before d e → AreAlike d e
+ReplicasOpenAlike = (rows : Setup) (p : Place) (room : ℕ) (before : List (Option ℕ)) (d e : DriverModel)
+    → OpenedAlike rows p room before d e → AreAlike d e

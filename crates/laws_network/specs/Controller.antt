@@ -1,14 +1,18 @@
--- The controller as its journal makes it: what it knows is what the entries of the journal say, and what it sends depends on that alone.
-use Rattle.std.specs.Prelude.{ℕ, ◌+◌, ◌*◌, ◌==◌, ◌&&◌, ◌++◌, Bool, false, not, nat_lt, Option, Some, None, List, [], ◌∷◌, length, is_none, option_map, if◌then◌else◌}
+-- The controller as its journal makes it: what it knows is what the entries of the journal say, and what it sends
+-- depends on that alone.
+use Rattle.std.specs.Prelude.{ℕ, ◌+◌, ◌*◌, ◌==◌, ◌&&◌, ◌++◌, Bool, false, not, nat_lt, Option, Some, None, List, []}
+use Rattle.std.specs.Prelude.{◌∷◌, length, is_none, option_map, if◌then◌else◌}
 use Rattle.sm_placement.specs.Sums.{any_below, put}
 use Rattle.sm_plan_code.specs.declared.limits.TheConstants.{MOST_PLACES}
 use Rattle.sm_protocol.specs.Happens.{engaged}
 use Rattle.sm_agent.specs.declared.base.Restoration.{Restoration}
-pub use Rattle.laws_network.specs.Words.{Cell, Happening, Place, Sizes, State, StreamId, Step, Approve, Done, happens, is_unfinished, opened}
+pub use Rattle.laws_network.specs.Words.{Cell, Happening, Place, Sizes, State, StreamId, Step, Approve, Done, happens}
+pub use Rattle.laws_network.specs.Words.{is_unfinished, opened}
 pub use Rattle.laws_network.specs.Net.{Order, cell_above, is_awaited, is_own, order_of}
 pub use Rattle.laws_network.specs.World.{Publication, is_answered_by, publication_now, publication_of}
 
--- An order as it leaves the controller: with the journal, the journal's last reopening, the shard's load and the server's room.
+-- An order as it leaves the controller: with the journal, the journal's last reopening, the shard's load and the
+-- server's room.
 pub record Letter : Type 0 where
   pub order : Order
   pub journal : ℕ
@@ -102,13 +106,13 @@ has_no_plan w = not (any_below (length w.plans) (is_unfinished w))
 abbrev pub are_versions_low : State → Bool
 are_versions_low w = not (any_below w.sizes.shards (λ s. nat_lt MOST_PLACES (w.place.version s)))
 
--- No log is longer than half of this, and no epoch but the first opens with a version above half of it: so bases that are so far apart keep
--- the numbers and the versions of epochs apart.
+-- No log is longer than half of this, and no epoch but the first opens with a version above half of it: so bases that
+-- are so far apart keep the numbers and the versions of epochs apart.
 abbrev pub EPOCH : ℕ
 EPOCH = 2 * MOST_PLACES
 
--- The next epoch opens if all plans are done and versions are low, on the placement that is recorded. Versions stay, and numbers are
--- counted anew.
+-- The next epoch opens if all plans are done and versions are low, on the placement that is recorded. Versions stay,
+-- and numbers are counted anew.
 abbrev pub next_epoch : Controller → ℕ → Controller
 next_epoch c room =
     if has_no_plan c.w && are_versions_low c.w then record c { w = opened c.w.sizes c.w.place room; base = c.base + EPOCH } else c

@@ -1,7 +1,8 @@
--- Controller, servers and the map's owner over a network, with all that may happen to them. A server keeps slots and a base, and what it
--- does depends on these and on the message alone (sm_agent). The controller is what its journal makes it. Messages that were ever sent
--- may come at any time, any number of times, or never.
-use Rattle.std.specs.Prelude.{ℕ, suc, ◌++◌, Bool, Option, Some, None, List, [], ◌∷◌, length, drop, slice_get, if◌then◌else◌}
+-- Controller, servers and the map's owner over a network, with all that may happen to them. A server keeps slots and a
+-- base, and what it does depends on these and on the message alone (sm_agent). The controller is what its journal makes
+-- it. Messages that were ever sent may come at any time, any number of times, or never.
+use Rattle.std.specs.Prelude.{ℕ, suc, ◌++◌, Bool, Option, Some, None, List, [], ◌∷◌, length, drop, slice_get}
+use Rattle.std.specs.Prelude.{if◌then◌else◌}
 use Rattle.std.specs.Option.{option_to_list}
 use Rattle.sm_placement.specs.Sums.{put, sum_below}
 use Rattle.sm_agent.specs.declared.base.Base.{Base}
@@ -18,10 +19,13 @@ use Rattle.sm_agent.specs.declared.request.Request.TheVariants.{Direct, Passed}
 use Rattle.sm_agent.specs.declared.request.Routing.{Routing}
 use Rattle.sm_agent.specs.declared.request.Routing.TheVariants as routing
 use Rattle.sm_agent.specs.Base.{forgotten, lacks_slots, restored}
-use Rattle.sm_agent.specs.Order.{abandoned, begun_slot, committed, judged, placed, published as judged_by_owner, sealed, vacant}
+use Rattle.sm_agent.specs.Order.{abandoned, begun_slot, committed, judged, placed, published as judged_by_owner, sealed}
+use Rattle.sm_agent.specs.Order.{vacant}
 use Rattle.sm_agent.specs.Request.{routed}
 pub use Rattle.laws_network.specs.Words.{Entry}
-pub use Rattle.laws_network.specs.Controller.{Answered, Cell, Controller, Ended, Happening, JournalEntry, Letter, Made, Notice, Opened, Order, Place, Publication, Restore, Restored, Stored, StreamId, letter_of, notice_of, replayed}
+pub use Rattle.laws_network.specs.Controller.{Answered, Cell, Controller, Ended, Happening, JournalEntry, Letter, Made}
+pub use Rattle.laws_network.specs.Controller.{Notice, Opened, Order, Place, Publication, Restore, Restored, Stored}
+pub use Rattle.laws_network.specs.Controller.{StreamId, letter_of, notice_of, replayed}
 
 -- The state of a server.
 pub record Server : Type 0 where
@@ -44,8 +48,8 @@ pub record Fleet : Type 0 where
   pub had : ℕ → ℕ → Cell
   pub owner : Base
   pub shown : ℕ → Entry
-  -- all that was ever sent: orders and their answers, publications and theirs, requests that were passed on, and the servers that
-  -- have asked for their slots
+  -- all that was ever sent: orders and their answers, publications and theirs, requests that were passed on, and the
+  -- servers that have asked for their slots
   pub sent : List Letter
   pub answers : List Order
   pub published : List Notice

@@ -1,5 +1,6 @@
 -- The laws of the fleet, behind their premises.
-use Rattle.std.specs.Prelude.{◌≡◌, ◌≢◌, ◌≤◌, ◌<◌, ◌⊎◌, ℕ, suc, ◌+◌, ◌==◌, ◌&&◌, ◌++◌, Bool, true, false, not, if◌then◌else◌, Some, List, [], ◌∷◌, IsSome, count_by, length, map, slice_get}
+use Rattle.std.specs.Prelude.{◌≡◌, ◌≢◌, ◌≤◌, ◌<◌, ◌⊎◌, ℕ, suc, ◌+◌, ◌==◌, ◌&&◌, ◌++◌, Bool, true, false, not}
+use Rattle.std.specs.Prelude.{if◌then◌else◌, Some, List, [], ◌∷◌, IsSome, count_by, length, map, slice_get}
 use Rattle.sm_server.specs.declared.call.Cell.TheVariants.{Absent, Forwarding, Prepared}
 use Rattle.sm_server.specs.declared.call.Refusal.{Refusal}
 use Rattle.sm_server.specs.Call.{led_to}
@@ -13,16 +14,21 @@ use Rattle.sm_agent.specs.Base.{lacks_slots}
 use Rattle.sm_plan_code.specs.declared.limits.TheConstants.{MOST_PLACES}
 use Rattle.sm_agent.specs.Order.{begun_slot, committed, is_done, cell_load}
 use Rattle.sm_protocol.specs.Happens.{engages}
-use Rattle.laws_network.specs.Words.{Setup, sizes_of, IsSafePlace, IsServing, AreDone, FitsConfig, IsOpening, IsReached, StreamId, Step, ends_of, is_begun, is_unfinished, stream_count, stream_id}
+use Rattle.laws_network.specs.Words.{Setup, sizes_of, IsSafePlace, IsServing, AreDone, FitsConfig, IsOpening, IsReached}
+use Rattle.laws_network.specs.Words.{StreamId, Step, ends_of, is_begun, is_unfinished, stream_count, stream_id}
 use Rattle.laws_network.specs.Net.{order_of, cell_above}
 use Rattle.laws_network.specs.Laws.{HasMovedOn, is_for}
 use Rattle.laws_network.specs.World.{World}
 use Rattle.laws_network.specs.WorldLaws.{IsWorldOpening}
 use Rattle.laws_network.specs.Controller.{Answered, EPOCH, Made, Notice, Stored, entry_recorded, is_permitted}
 use Rattle.laws_network.specs.Controller.{notice_of}
-use Rattle.laws_network.specs.Fleet.{Cell, Committed, Controller, End, Fleet, FleetEvent, FleetOutcome, Judged, Letter, Make, Open, Order, Place, Restore, Routed, Server, controller, earlier, fleet_comes, fleet_run, has_lost, held_cells, letter_of, order_read, owner_verdict, slot_for, verdict_of}
+use Rattle.laws_network.specs.Fleet.{Cell, Committed, Controller, End, Fleet, FleetEvent, FleetOutcome, Judged, Letter}
+use Rattle.laws_network.specs.Fleet.{Make, Open, Order, Place, Restore, Routed, Server, controller, earlier}
+use Rattle.laws_network.specs.Fleet.{fleet_comes, fleet_run, has_lost, held_cells, letter_of, order_read, owner_verdict}
+use Rattle.laws_network.specs.Fleet.{slot_for, verdict_of}
 
--- The controller's own events name known servers and plans that were checked, and an epoch's log has room for those who are down.
+-- The controller's own events name known servers and plans that were checked, and an epoch's log has room for those who
+-- are down.
 abbrev pub FleetFits : Setup → Fleet → FleetEvent → Type 0
 FleetFits setup f (Make e) = FitsConfig (sizes_of setup) e
 FleetFits setup f (End v permit) = v < (sizes_of setup).servers
@@ -34,7 +40,8 @@ abbrev pub AllFleetFit : Setup → Fleet → List FleetEvent → Type 0
 AllFleetFit setup f [] = Unit {0}
 AllFleetFit setup f (e ∷ es) = FleetFits setup f e × AllFleetFit setup (fleet_comes f e).1 es
 
--- controller, servers and the map's owner as the laws of the network see them, with the numbers of the last orders that had an effect
+-- controller, servers and the map's owner as the laws of the network see them, with the numbers of the last orders that
+-- had an effect
 abbrev pub world_of : Fleet → (ℕ → ℕ → ℕ) → World
 world_of f last = record {
   net = record {
@@ -76,11 +83,12 @@ pub record IsOwner (c : Controller) (owner : Base) : Type 0 where
 
 -- Each permit is of one server, and is below all that will be given, or beside them.
 pub record ArePermits (c : Controller) : Type 0 where
-  pub range : (v permit : ℕ) → c.permits v ≡ Some permit → (permit ≤ c.base) ⊎ ((c.base + MOST_PLACES < permit) × (permit ≤ c.base + EPOCH))
+  pub range : (v permit : ℕ) → c.permits v ≡ Some permit
+      → (permit ≤ c.base) ⊎ ((c.base + MOST_PLACES < permit) × (permit ≤ c.base + EPOCH))
   pub apart : (u v permit : ℕ) → c.permits u ≡ Some permit → c.permits v ≡ Some permit → u ≡ v
 
--- A fleet opens on what is there: a settled placement and an empty journal. Servers have their slots, or have lost them and ask for
--- them. Orders that were sent earlier may come, and are old.
+-- A fleet opens on what is there: a settled placement and an empty journal. Servers have their slots, or have lost them
+-- and ask for them. Orders that were sent earlier may come, and are old.
 pub record IsFleetOpening (setup : Setup) (f : Fleet) : Type 0 where
   pub journal : f.journal ≡ []
   pub last : ℕ → ℕ → ℕ
@@ -117,7 +125,8 @@ FleetIsReached setup f = IsReached setup (controller f).w
 
 -- no server refuses an order
 abbrev pub NoLetterIsRefused : Setup → Fleet → Type 0
-NoLetterIsRefused setup f = (e : FleetEvent) (l : Letter) (why : Refusal) → (fleet_comes f e).0 ≢ Judged l (verdict.Refused why)
+NoLetterIsRefused setup f = (e : FleetEvent) (l : Letter) (why : Refusal)
+    → (fleet_comes f e).0 ≢ Judged l (verdict.Refused why)
 
 -- An order is the present one of its stream: the controller that has the whole journal sends it.
 abbrev pub IsPresent : Fleet → Letter → Type 0
@@ -133,16 +142,19 @@ abbrev pub orders_committed : List FleetEvent → Fleet → List Order
 orders_committed [] f = []
 orders_committed (e ∷ es) f = order_committed (fleet_comes f e).0 ++ orders_committed es (fleet_comes f e).1
 
--- An order or a restore of a controller with any beginning of the journal does no harm. An order of it is still the present one of its stream, or
--- nothing has an effect under its number on its cell any more; and its restores are among those of the whole journal.
+-- An order or a restore of a controller with any beginning of the journal does no harm. An order of it is still the
+-- present one of its stream, or nothing has an effect under its number on its cell any more; and its restores are among
+-- those of the whole journal.
 pub record BeginningsAreHarmless (setup : Setup) (f : Fleet) : Type 0 where
   pub orders : (lost : ℕ) (id : StreamId) (l : Letter) → letter_of (earlier f lost) id ≡ Some l →
       (order_of (controller f).base (controller f).w l.order.stream ≡ Some l.order)
       ⊎ ((es : List FleetEvent) → AllFleetFit setup f es →
       count_by (is_for l.order.call.shard l.order.call.server l.order.number) (orders_committed es f) ≡ 0)
-  pub restores : (lost k : ℕ) (r : Restore) → slice_get (earlier f lost).restores k ≡ Some r → slice_get (controller f).restores k ≡ Some r
+  pub restores : (lost k : ℕ) (r : Restore) → slice_get (earlier f lost).restores k ≡ Some r
+      → slice_get (controller f).restores k ≡ Some r
 
--- A present order is begun, goes on or is answered again, unless its server has lost its slots: so what is turned away as old is past.
+-- A present order is begun, goes on or is answered again, unless its server has lost its slots: so what is turned away
+-- as old is past.
 abbrev pub PresentIsHeard : Setup → Fleet → Type 0
 PresentIsHeard setup f = (l : Letter) → IsPresent f l →
     (has_lost f l.order.call.server ≡ true)
@@ -155,7 +167,8 @@ OnlyPresentCommits setup f = (e : FleetEvent) (o : Order) → (fleet_comes f e).
 
 -- No server that is recorded as down commits an order: so whatever comes to one in its restart changes nothing there.
 abbrev pub CommitsWhereUp : Setup → Fleet → Type 0
-CommitsWhereUp setup f = (e : FleetEvent) (o : Order) → (fleet_comes f e).0 ≡ Committed o → (controller f).w.place.down o.call.server ≡ false
+CommitsWhereUp setup f = (e : FleetEvent) (o : Order) → (fleet_comes f e).0 ≡ Committed o
+    → (controller f).w.place.down o.call.server ≡ false
 
 -- the placement as the servers have it, or had it before they lost it
 abbrev pub held_place : Fleet → Place
@@ -169,16 +182,19 @@ real_cells f s v = if has_lost f v then Absent else ((f.servers v).slots s).cell
 abbrev pub live_and_known : Fleet → ℕ → ℕ
 live_and_known f s = count_below (controller f).w.sizes.servers (λ v. is_live_at (held_place f) s v && not (has_lost f v))
 
--- At most one server serves each shard, and loads are within room, whichever servers have lost their slots. If only servers that are recorded as
--- down have lost theirs, no fewer replicas are live at the others than the floor.
+-- At most one server serves each shard, and loads are within room, whichever servers have lost their slots. If only
+-- servers that are recorded as down have lost theirs, no fewer replicas are live at the others than the floor.
 pub record FleetIsSafe (setup : Setup) (f : Fleet) : Type 0 where
   pub held : IsSafePlace (controller f).w.sizes (held_place f)
   pub serving : (s u v : ℕ) → serves (real_cells f s) u ≡ true → serves (real_cells f s) v ≡ true → u ≡ v
-  pub rooms : (v : ℕ) → v < (controller f).w.sizes.servers → load_of (controller f).w.sizes (real_cells f) v ≤ (controller f).w.sizes.room v
-  pub floors : ((v : ℕ) → v < (controller f).w.sizes.servers → has_lost f v ≡ true → (controller f).w.place.down v ≡ true) →
+  pub rooms : (v : ℕ) → v < (controller f).w.sizes.servers
+      → load_of (controller f).w.sizes (real_cells f) v ≤ (controller f).w.sizes.room v
+  pub floors : ((v : ℕ) → v < (controller f).w.sizes.servers → has_lost f v ≡ true
+      → (controller f).w.place.down v ≡ true) →
       (s : ℕ) → s < (controller f).w.sizes.shards → (controller f).w.sizes.floor s ≤ live_and_known f s
 
--- A server that executes a request, which came from a client or was passed on however long ago, has its slots and is the one server that serves.
+-- A server that executes a request, which came from a client or was passed on however long ago, has its slots and is
+-- the one server that serves.
 abbrev pub ExecutesAtOneServer : Setup → Fleet → Type 0
 ExecutesAtOneServer setup f = (e : FleetEvent) (s v : ℕ) → (fleet_comes f e).0 ≡ Routed s v Execute →
     (has_lost f v ≡ false) × IsServing (held_place f) s v × ((u : ℕ) → IsServing (held_place f) s u → u ≡ v)
@@ -209,7 +225,8 @@ pub record IsAheadAt (f : Fleet) (s v : ℕ) : Type 0 where
   pub shard : order.call.shard ≡ s
   pub server : order.call.server ≡ v
   pub last : ((f.servers v).slots s).last ≡ order.number
-  pub led : led_to order.call.call (cell_above (controller f).base ((controller f).w.place.cells s v)) ≡ Some ((f.servers v).slots s).cell
+  pub led : led_to order.call.call (cell_above (controller f).base ((controller f).w.place.cells s v))
+      ≡ Some ((f.servers v).slots s).cell
 
 -- Each cell of a server that has its slots is as recorded, or one call further.
 abbrev pub ServersAreNear : Setup → Fleet → Type 0
@@ -219,10 +236,13 @@ ServersAreNear setup f = (s v : ℕ) → has_lost f v ≡ false →
 -- If no present order is the last one that its server has served, each server that has its slots has what is recorded.
 abbrev pub ServersAreRecorded : Setup → Fleet → Type 0
 ServersAreRecorded setup f =
-    ((o : Order) → order_of (controller f).base (controller f).w o.stream ≡ Some o → ((f.servers o.call.server).slots o.call.shard).last ≢ o.number) →
-    (s v : ℕ) → has_lost f v ≡ false → ((f.servers v).slots s).cell ≡ cell_above (controller f).base ((controller f).w.place.cells s v)
+    ((o : Order) → order_of (controller f).base (controller f).w o.stream ≡ Some o
+    → ((f.servers o.call.server).slots o.call.shard).last ≢ o.number) →
+    (s v : ℕ) → has_lost f v ≡ false
+    → ((f.servers v).slots s).cell ≡ cell_above (controller f).base ((controller f).w.place.cells s v)
 
--- once all plans of the epoch are done, the servers that have their slots have the end of its plans in the order of their starts
+-- once all plans of the epoch are done, the servers that have their slots have the end of its plans in the order of
+-- their starts
 abbrev pub ServersAreAtEnds : Setup → Fleet → Type 0
 ServersAreAtEnds setup f = AreDone (controller f).w → (s v : ℕ) → has_lost f v ≡ false →
     ((f.servers v).slots s).cell ≡
@@ -237,11 +257,13 @@ MapNeverGoesBack = (f : Fleet) (es : List FleetEvent) (s : ℕ) →
 -- the shown server, if any, serves the shard, or forwards to the one that does
 abbrev pub MapIsRight : Setup → Fleet → Type 0
 MapIsRight setup f = (s u : ℕ) → (f.shown s).server ≡ Some u →
-    IsServing (held_place f) s u ⊎ ((v number : ℕ) × (held_cells f s u ≡ Forwarding v number) × IsServing (held_place f) s v)
+    IsServing (held_place f) s u ⊎ ((v number : ℕ) × (held_cells f s u ≡ Forwarding v number)
+    × IsServing (held_place f) s v)
 
 -- each server that an unfinished plan names has its slots
 abbrev pub AreNamedKnown : Fleet → Type 0
-AreNamedKnown f = (id : StreamId) (v : ℕ) → is_begun (controller f).w id ≡ true → engages (controller f).w v id ≡ true → has_lost f v ≡ false
+AreNamedKnown f = (id : StreamId) (v : ℕ) → is_begun (controller f).w id ≡ true → engages (controller f).w v id ≡ true
+    → has_lost f v ≡ false
 
 -- A new owner waits for the cut of the old one, which has its slots, forwards to the new one and knows the cut.
 pub record TellsCut (f : Fleet) (l : Letter) : Type 0 where
@@ -257,14 +279,16 @@ pub record TellsCut (f : Fleet) (l : Letter) : Type 0 where
 abbrev pub CanBeDone : Fleet → Letter → Type 0
 CanBeDone f l = ((at : ℕ) × (is_done l.order.call.call (slot_for f l).cell (slot_for f l).cut at ≡ true)) ⊎ TellsCut f l
 
--- The order of a stream is heard when it comes. If it has not had its effect, its work can be done, and is committed once it is begun and
--- done; and once it is answered, the stream moves on.
+-- The order of a stream is heard when it comes. If it has not had its effect, its work can be done, and is committed
+-- once it is begun and done; and once it is answered, the stream moves on.
 pub record GoesByOrder (f : Fleet) (id : StreamId) : Type 0 where
   pub letter : Letter
   pub present : letter_of (controller f) id ≡ Some letter
-  pub heard : (verdict_of f letter ≡ verdict.Begin) ⊎ ((verdict_of f letter ≡ verdict.Working) ⊎ (verdict_of f letter ≡ verdict.Again))
+  pub heard : (verdict_of f letter ≡ verdict.Begin)
+      ⊎ ((verdict_of f letter ≡ verdict.Working) ⊎ (verdict_of f letter ≡ verdict.Again))
   pub done : verdict_of f letter ≢ verdict.Again → CanBeDone f letter
-  pub commits : (at : ℕ) → is_done letter.order.call.call (slot_for f letter).cell (slot_for f letter).cut at ≡ true → verdict_of f letter ≢ verdict.Again →
+  pub commits : (at : ℕ) → is_done letter.order.call.call (slot_for f letter).cell (slot_for f letter).cut at ≡ true
+      → verdict_of f letter ≢ verdict.Again →
       IsSome (committed (f.servers letter.order.call.server).base (begun_slot (slot_for f letter) (order_read letter)) (order_read letter) at)
   pub answered : HasMovedOn (controller f).w id (entry_recorded (controller f) (Answered letter.order)).w
 
@@ -278,14 +302,18 @@ pub record GoesByPublication (f : Fleet) (id : StreamId) : Type 0 where
 -- the stream can go on: by a local step, by its order or by its publication
 abbrev pub FleetGoesOn : Fleet → StreamId → Type 0
 FleetGoesOn f id =
-    HasMovedOn (controller f).w id (entry_recorded (controller f) (Made (Step id))).w ⊎ (GoesByOrder f id ⊎ GoesByPublication f id)
+    HasMovedOn (controller f).w id (entry_recorded (controller f) (Made (Step id))).w
+    ⊎ (GoesByOrder f id ⊎ GoesByPublication f id)
 
 -- if each server that unfinished plans name has its slots, some stream of each such plan can go on
 abbrev pub SomeFleetCanGoOn : Setup → Fleet → Type 0
-SomeFleetCanGoOn setup f = AreNamedKnown f → (k : ℕ) → k < length (controller f).w.plans → is_unfinished (controller f).w k ≡ true →
-    (i : ℕ) × (i < stream_count (controller f).w k) × (((controller f).w.progress k i).done ≡ false) × FleetGoesOn f (stream_id k i)
+SomeFleetCanGoOn setup f = AreNamedKnown f → (k : ℕ) → k < length (controller f).w.plans
+    → is_unfinished (controller f).w k ≡ true →
+    (i : ℕ) × (i < stream_count (controller f).w k) × (((controller f).w.progress k i).done ≡ false)
+    × FleetGoesOn f (stream_id k i)
 
--- If each server that unfinished plans name has its slots, events can lead on until all plans are done, whatever is under way or was lost.
+-- If each server that unfinished plans name has its slots, events can lead on until all plans are done, whatever is
+-- under way or was lost.
 abbrev pub FleetCanFinish : Setup → Fleet → Type 0
 FleetCanFinish setup f = AreNamedKnown f →
     (es : List FleetEvent) × AllFleetFit setup f es × AreDone (controller (fleet_run es f)).w

@@ -19,7 +19,10 @@ use Rattle.sm_agent.specs.declared.order.Verdict.TheVariants as verdict
 use Rattle.sm_agent.specs.declared.request.Routing.{Routing}
 use Rattle.sm_agent.specs.declared.request.Routing.TheVariants as routing
 use Rattle.sm_agent.specs.Order.{cell_load}
-use Rattle.laws_network.specs.Fleet.{Abandon, StreamId, Commit, Committed, Fleet, FleetEvent, FleetOutcome, Forget, HearAsk, HearOwner, HearServer, Judge, Judged, Make, Open, Publish, Receive, Recover, Routed, Seal, SendOrder, SendPublication, Serve, Silent, controller, fleet_comes, fleet_run, has_lost, held_cells}
+use Rattle.laws_network.specs.Fleet.{Abandon, StreamId, Commit, Committed, Fleet, FleetEvent, FleetOutcome, Forget}
+use Rattle.laws_network.specs.Fleet.{HearAsk, HearOwner, HearServer, Judge, Judged, Make, Open, Publish, Receive}
+use Rattle.laws_network.specs.Fleet.{Recover, Routed, Seal, SendOrder, SendPublication, Serve, Silent, controller}
+use Rattle.laws_network.specs.Fleet.{fleet_comes, fleet_run, has_lost, held_cells}
 
 -- ---- the fleet
 
@@ -121,8 +124,8 @@ row_recorded f s = map (λ v. (controller f).w.place.cells s v) (range_with_len 
 
 -- ---- plays
 
--- A handover begins. The answer to its first order is lost, and the order comes again: it is answered again, and only then the step is
--- recorded. Much later the order comes once more, and is answered again.
+-- A handover begins. The answer to its first order is lost, and the order comes again: it is answered again, and only
+-- then the step is recorded. Much later the order comes once more, and is answered again.
 abbrev pub lost_answer : List FleetEvent
 lost_answer =
     Make (Begin (example_plan 0 0 1 4)) ∷ SendOrder 0 (stream_id 0 0) ∷ Judge 0 ∷ Commit 0 0 ∷ Judge 0 ∷ HearServer 1 ∷ Judge 0 ∷ []
@@ -135,8 +138,9 @@ LostAnswerIsHarmless =
     × (row_held (fleet_run lost_answer example_fleet) 0 ≡ Primary ∷ Prepared 0 1 ∷ Secondary ∷ [])
     × (row_recorded (fleet_run lost_answer example_fleet) 0 ≡ Primary ∷ Prepared 0 1 ∷ Secondary ∷ [])
 
--- The server crashes while the first order of a handover is at work: the work begins anew. Then the order has its effect, and the controller
--- crashes before it hears of it. Once it has read its journal it sends the very same order, which is answered again.
+-- The server crashes while the first order of a handover is at work: the work begins anew. Then the order has its
+-- effect, and the controller crashes before it hears of it. Once it has read its journal it sends the very same order,
+-- which is answered again.
 abbrev pub crashes : List FleetEvent
 crashes =
     Make (Begin (example_plan 0 0 1 4)) ∷ SendOrder 0 (stream_id 0 0) ∷ Judge 0 ∷ Judge 0 ∷ Abandon 0 1 ∷ Commit 0 0 ∷ Judge 0 ∷ Commit 0 0
@@ -164,8 +168,8 @@ CrossingIsHarmless =
     × (row_recorded (fleet_run crossing example_fleet) 0 ≡ Primary ∷ Prepared 0 1 ∷ Secondary ∷ [])
     × (row_recorded (fleet_run crossing example_fleet) 1 ≡ Prepared 1 1 ∷ Primary ∷ Absent ∷ [])
 
--- Server 2 forgets, and asks; it forgets again before the restore comes, and asks again. The earlier restore comes late and is not taken,
--- nor is the later one by another server.
+-- Server 2 forgets, and asks; it forgets again before the restore comes, and asks again. The earlier restore comes late
+-- and is not taken, nor is the later one by another server.
 abbrev pub lost_memory : List FleetEvent
 lost_memory = Forget 2 ∷ HearAsk 0 ∷ Forget 2 ∷ HearAsk 1 ∷ Recover 0 2 ∷ Recover 1 0 ∷ []
 
@@ -184,17 +188,20 @@ order_trip k id = SendOrder 0 id ∷ Judge k ∷ Commit k 0 ∷ HearServer k ∷
 abbrev pub publication_trip : ℕ → StreamId → List FleetEvent
 publication_trip k id = SendPublication 0 id ∷ Publish k ∷ HearOwner k ∷ []
 
--- A whole handover from u to v, as the k-th. A request comes to the old owner while it forwards, is passed on, and tells the cut.
+-- A whole handover from u to v, as the k-th. A request comes to the old owner while it forwards, is passed on, and
+-- tells the cut.
 abbrev pub whole_handover : ℕ → ℕ → ℕ → ℕ → ℕ → StreamId → List FleetEvent
 whole_handover k s u v load id =
     Make (Begin (example_plan s u v load))
     ∷ (order_trip (4 * k) id ++ order_trip (4 * k + 1) id ++ (Serve s u 0 ∷ Seal k ∷ []) ++ order_trip (4 * k + 2) id
     ++ publication_trip k id ++ order_trip (4 * k + 3) id ++ (Make (Step id) ∷ []))
 
--- Shard 0 moves from server 0 to server 1 and back, and the next epoch opens. There the first handover begins anew, up to where server 1 is
--- prepared and server 0 still serves. Then a request comes that was passed on in the first handover, and the first order of all.
+-- Shard 0 moves from server 0 to server 1 and back, and the next epoch opens. There the first handover begins anew, up
+-- to where server 1 is prepared and server 0 still serves. Then a request comes that was passed on in the first
+-- handover, and the first order of all.
 abbrev pub across_epochs : List FleetEvent
-across_epochs = whole_handover 0 0 0 1 4 (stream_id 0 0) ++ whole_handover 1 0 1 0 4 (stream_id 1 0) ++ (Open 65536 ∷ Make (Begin (example_plan 0 0 1 4)) ∷ order_trip 8 (stream_id 0 0))
+across_epochs = whole_handover 0 0 0 1 4 (stream_id 0 0) ++ whole_handover 1 0 1 0 4 (stream_id 1 0)
+    ++ (Open 65536 ∷ Make (Begin (example_plan 0 0 1 4)) ∷ order_trip 8 (stream_id 0 0))
 
 -- the request is not executed, since handover numbers have the base added, and the order is old
 abbrev pub OldMessagesAreHarmless : Type 0

@@ -1,5 +1,7 @@
--- From the whole fleet to a reopening, which can begin wherever the fleet leads; and from what a reopening has settled to the fleet.
-use Rattle.std.specs.Prelude.{◌≡◌, ◌≤◌, ◌<◌, ◌⊎◌, ℕ, suc, pred, ◌&&◌, Bool, true, false, not, is_none, Option, Some, None, List, [], length, map, slice_get, slice_index_or, if◌then◌else◌}
+-- From the whole fleet to a reopening, which can begin wherever the fleet leads; and from what a reopening has settled
+-- to the fleet.
+use Rattle.std.specs.Prelude.{◌≡◌, ◌≤◌, ◌<◌, ◌⊎◌, ℕ, suc, pred, ◌&&◌, Bool, true, false, not, is_none, Option, Some}
+use Rattle.std.specs.Prelude.{None, List, [], length, map, slice_get, slice_index_or, if◌then◌else◌}
 use Rattle.sm_agent.specs.declared.base.Base.{Base as AgentBase}
 use Rattle.sm_agent.specs.declared.base.Reopening.{Reopening as AgentReopening}
 use Rattle.sm_agent.specs.declared.base.Settlement.{Settlement as AgentSettlement}
@@ -18,7 +20,9 @@ use Rattle.laws_network.specs.World.{World}
 use Rattle.laws_network.specs.Controller.{Restore as ServerRestore}
 use Rattle.laws_network.specs.Fleet.{Fleet, Handoff, controller, has_lost}
 use Rattle.laws_network.specs.FleetLaws.{ArePermits, HasAskedUnder, IsFleetOpening, real_cells}
-use Rattle.laws_network.specs.Reopening.{Base, MapOwner, Message, Party, Restore, Server, Settlement, Settling, after_fence, is_fenced_at, is_handing, is_settled_at, names_nonce, settled_base, takes_number, takes_settle, unknown_base}
+use Rattle.laws_network.specs.Reopening.{Base, MapOwner, Message, Party, Restore, Server, Settlement, Settling}
+use Rattle.laws_network.specs.Reopening.{after_fence, is_fenced_at, is_handing, is_settled_at, names_nonce}
+use Rattle.laws_network.specs.Reopening.{settled_base, takes_number, takes_settle, unknown_base}
 use Rattle.laws_network.specs.ReopeningLaws.{AllTook, IsOutset, no_reopening}
 
 -- a base, but for its journal; a server that has lost its slots stands at no number
@@ -58,8 +62,8 @@ IsOneOf xs y = (k : ℕ) × (slice_get xs k ≡ Some y)
 abbrev pub pass_seen : Handoff → Ticket
 pass_seen h = record { place = 0; shard = h.shard; sender = h.pass.from; target = h.target; number = h.pass.handover }
 
--- A reopening can begin over the fleet as it stands: over a world that has what the controller has recorded, what the map shows, and all
--- that was sent.
+-- A reopening can begin over the fleet as it stands: over a world that has what the controller has recorded, what the
+-- map shows, and all that was sent.
 pub record FleetCanReopen (setup : Setup) (f : Fleet) : Type 0 where
   pub world : World
   pub record_is : world.net.w ≡ (controller f).w
@@ -84,17 +88,20 @@ pub record IsSettledServer (x : Settling) (s : Settlement) (f : Fleet) (v : ℕ)
   pub base : (f.servers v).base ≡ agent_settled f.start.journal x.reopening.base
   pub cells : (k : ℕ) → ((f.servers v).slots k).cell ≡ x.world.net.cells k v
   pub lasts : (k : ℕ) → ((f.servers v).slots k).last ≡ x.world.net.last k v
-  pub loads : (k : ℕ) → ((f.servers v).slots k).load ≡ cell_load ((f.servers v).slots k).cell ((sizes_of s.setup).load k)
+  pub loads : (k : ℕ) → ((f.servers v).slots k).load
+      ≡ cell_load ((f.servers v).slots k).cell ((sizes_of s.setup).load k)
 
 -- A number that is no server's has what the placement says of it, which is nothing.
 pub record IsNoServer (x : Settling) (s : Settlement) (f : Fleet) (v : ℕ) : Type 0 where
   pub base : (f.servers v).base ≡ agent_settled f.start.journal x.reopening.base
   pub cells : (k : ℕ) → ((f.servers v).slots k).cell ≡ s.place.cells k v
   pub lasts : (k : ℕ) → ((f.servers v).slots k).last ≤ x.reopening.base
-  pub loads : (k : ℕ) → ((f.servers v).slots k).load ≡ cell_load ((f.servers v).slots k).cell ((sizes_of s.setup).load k)
+  pub loads : (k : ℕ) → ((f.servers v).slots k).load
+      ≡ cell_load ((f.servers v).slots k).cell ((sizes_of s.setup).load k)
 
--- The controller opens on this fleet: the number of the reopening is its base, and orders that were sent before may still come. A server that has
--- not taken its part has lost its slots: it turns Unknown by the next message, and counts with what a restore will bring it.
+-- The controller opens on this fleet: the number of the reopening is its base, and orders that were sent before may
+-- still come. A server that has not taken its part has lost its slots: it turns Unknown by the next message, and counts
+-- with what a restore will bring it.
 pub record IsFleetInForce (x : Settling) (s : Settlement) (f : Fleet) : Type 0 where
   pub journal : f.journal ≡ []
   pub record_is : f.start.w ≡ opened (sizes_of s.setup) s.place s.room
@@ -135,19 +142,27 @@ abbrev pub is_answered : Reception → Bool
 is_answered Ignored = false
 is_answered _ = true
 
--- An agent does what a party does here, journals aside: it takes no settle and no restore, looks at no order and replies to no
--- request that a party would not. If an agent turns Unknown by what a message says, a party forgets.
+-- An agent does what a party does here, journals aside: it takes no settle and no restore, looks at no order and
+-- replies to no request that a party would not. If an agent turns Unknown by what a message says, a party forgets.
 pub record AgentsDoSo : Type 0 where
   pub fence : (base : AgentBase) (at : AgentReopening) (nonce : ℕ) →
       (base_seen (base_after base (fenced base at nonce)) ≡ after_fence (base_seen base) at.number nonce)
-      × (is_answered (fenced base at nonce) ≡ true → is_fenced_at at.number (after_fence (base_seen base) at.number nonce) ≡ true)
+      × (is_answered (fenced base at nonce) ≡ true
+      → is_fenced_at at.number (after_fence (base_seen base) at.number nonce) ≡ true)
   pub settle : (base new : AgentBase) (s : AgentSettlement) → settled base s ≡ Taken new →
-      (takes_settle s.reopening.number s.nonce (base_seen base) ≡ true) × (base_seen new ≡ settled_base s.reopening.number)
-  pub settle_again : (base : AgentBase) (s : AgentSettlement) → settled base s ≡ Again → is_settled_at s.reopening.number (base_seen base) ≡ true
-  pub restore : (base new : AgentBase) (r : Restoration) → restored base r ≡ Taken new → (names_nonce base.nonce (Some r.nonce) ≡ true) × (base_seen new ≡ settled_base r.number)
-  pub heed : (base : AgentBase) (last : AgentReopening) (nonce : ℕ) → (heeded base last nonce ≡ base) ⊎ (base_seen (heeded base last nonce) ≡ unknown_base nonce)
-  pub order : (base : AgentBase) (stamp : Stamp) → turned_away base stamp ≡ None → takes_number (base_seen base) stamp.number ≡ true
-  pub execute : (base : AgentBase) (slot : Slot) (applied : ℕ) (request : Request) → routed base slot applied request ≡ Execute →
+      (takes_settle s.reopening.number s.nonce (base_seen base) ≡ true)
+      × (base_seen new ≡ settled_base s.reopening.number)
+  pub settle_again : (base : AgentBase) (s : AgentSettlement) → settled base s ≡ Again
+      → is_settled_at s.reopening.number (base_seen base) ≡ true
+  pub restore : (base new : AgentBase) (r : Restoration) → restored base r ≡ Taken new
+      → (names_nonce base.nonce (Some r.nonce) ≡ true) × (base_seen new ≡ settled_base r.number)
+  pub heed : (base : AgentBase) (last : AgentReopening) (nonce : ℕ)
+      → (heeded base last nonce ≡ base) ⊎ (base_seen (heeded base last nonce) ≡ unknown_base nonce)
+  pub order : (base : AgentBase) (stamp : Stamp) → turned_away base stamp ≡ None
+      → takes_number (base_seen base) stamp.number ≡ true
+  pub execute : (base : AgentBase) (slot : Slot) (applied : ℕ) (request : Request)
+      → routed base slot applied request ≡ Execute →
       (is_none base.nonce && not (base.fenced && is_handing slot.cell)) ≡ true
-  pub pass_on : (base : AgentBase) (slot : Slot) (applied : ℕ) (request : Request) (to handover cut : ℕ) → routed base slot applied request ≡ PassOn to handover cut →
+  pub pass_on : (base : AgentBase) (slot : Slot) (applied : ℕ) (request : Request) (to handover cut : ℕ)
+      → routed base slot applied request ≡ PassOn to handover cut →
       (is_none base.nonce && not (base.fenced && is_handing slot.cell)) ≡ true

@@ -1,8 +1,13 @@
 -- The laws of the network, behind their premises.
-use Rattle.std.specs.Prelude.{◌≡◌, ◌≢◌, ◌≤◌, ◌<◌, ℕ, ◌+◌, ◌==◌, ◌&&◌, ◌++◌, ◌⊎◌, Bool, true, false, Option, Some, None, List, [], ◌∷◌, length, count_by, map, option_map, slice_get}
-pub use Rattle.laws_network.specs.Words.{AllByRecursion, AreDone, FitsConfig, IsOpening, IsReached, IsSafePlace, IsServing, Setup, ends_of, is_unfinished, led_to, sizes_of, stream_count, stream_id}
+use Rattle.std.specs.Prelude.{◌≡◌, ◌≢◌, ◌≤◌, ◌<◌, ℕ, ◌+◌, ◌==◌, ◌&&◌, ◌++◌, ◌⊎◌, Bool, true, false, Option, Some, None}
+use Rattle.std.specs.Prelude.{List, [], ◌∷◌, length, count_by, map, option_map, slice_get}
+pub use Rattle.laws_network.specs.Words.{AllByRecursion, AreDone, FitsConfig, IsOpening, IsReached, IsSafePlace}
+pub use Rattle.laws_network.specs.Words.{IsServing, Setup, ends_of, is_unfinished, led_to, sizes_of, stream_count}
+pub use Rattle.laws_network.specs.Words.{stream_id}
 use Rattle.sm_protocol.specs.Steps.{Refused as refused_call}
-use Rattle.laws_network.specs.Net.{Answer, Ask, Control, Deliver, Made, Net, NetEvent, NetOutcome, Order, Pass, Place, Played, Refusal, Refused, Replied, Send, Served, Sizes, State, Step, StreamId, cell_above, comes, is_token, net_run, opened, order_of, progress_of, real}
+use Rattle.laws_network.specs.Net.{Answer, Ask, Control, Deliver, Made, Net, NetEvent, NetOutcome, Order, Pass, Place}
+use Rattle.laws_network.specs.Net.{Played, Refusal, Refused, Replied, Send, Served, Sizes, State, Step, StreamId}
+use Rattle.laws_network.specs.Net.{cell_above, comes, is_token, net_run, opened, order_of, progress_of, real}
 
 -- what the controller makes by itself names known servers, and plans that were checked
 abbrev pub NetFits : Sizes → NetEvent → Type 0
@@ -17,8 +22,9 @@ AllNetFit c es = AllByRecursion (NetFits c) es
 abbrev pub AreOld : Net → List Order → Type 0
 AreOld n os = AllByRecursion (λ o. o.number ≤ n.last o.call.shard o.call.server) os
 
--- A controller opens on servers as they are: the placement is settled, and orders of earlier controllers and their answers, which
--- still may come, are old. Requests that were passed on then still may come too, under handover numbers that are not above the base.
+-- A controller opens on servers as they are: the placement is settled, and orders of earlier controllers and their
+-- answers, which still may come, are old. Requests that were passed on then still may come too, under handover numbers
+-- that are not above the base.
 pub record IsNetOpening (setup : Setup) (n : Net) : Type 0 where
   pub place : Place
   pub room : ℕ
@@ -42,13 +48,15 @@ pub record IsNetReached (setup : Setup) (n : Net) : Type 0 where
 abbrev pub EachNet : (Setup → Net → Type 0) → Type 0
 EachNet P = (setup : Setup) (n : Net) → IsNetReached setup n → P setup n
 
--- what the controller has recorded is a state that events of the protocol lead to: so all laws of the protocol hold of it
+-- what the controller has recorded is a state that events of the protocol lead to: so all laws of the protocol hold of
+-- it
 abbrev pub RecordIsReached : Setup → Net → Type 0
 RecordIsReached setup n = IsReached setup n.w
 
 -- no server refuses an order, and no event that the controller records is one that is refused
 abbrev pub NoneIsRefused : Setup → Net → Type 0
-NoneIsRefused setup n = (e : NetEvent) → NetFits n.w.sizes e → ((why : Refusal) → (comes n e).0 ≢ Refused why) × ((comes n e).0 ≢ Made refused_call)
+NoneIsRefused setup n = (e : NetEvent) → NetFits n.w.sizes e
+    → ((why : Refusal) → (comes n e).0 ≢ Refused why) × ((comes n e).0 ≢ Made refused_call)
 
 -- no server that is recorded as down serves an order: so whatever comes to one that is restarted changes nothing there
 abbrev pub ServesWhereUp : Setup → Net → Type 0
@@ -76,14 +84,17 @@ is_for s v number o = (o.call.shard == s) && ((o.call.server == v) && (o.number 
 abbrev pub is_of_instruction : StreamId → ℕ → Order → Bool
 is_of_instruction id at o = is_token id o.stream && (o.at == at)
 
--- Wherever events lead, and whatever comes then: a cell has the effect of a number once at most, and never if its last number is as
--- high already. No instruction of any stream has its effect twice.
+-- Wherever events lead, and whatever comes then: a cell has the effect of a number once at most, and never if its last
+-- number is as high already. No instruction of any stream has its effect twice.
 pub record HasEffectsOnce (setup : Setup) (n : Net) : Type 0 where
   pub numbers : (es : List NetEvent) (s v number : ℕ) → AllNetFit n.w.sizes es →
-      (count_by (is_for s v number) (orders_served es n) ≤ 1) × (number ≤ n.last s v → count_by (is_for s v number) (orders_served es n) ≡ 0)
-  pub instructions : (es : List NetEvent) (id : StreamId) (at : ℕ) → AllNetFit n.w.sizes es → count_by (is_of_instruction id at) (orders_served es n) ≤ 1
+      (count_by (is_for s v number) (orders_served es n) ≤ 1)
+      × (number ≤ n.last s v → count_by (is_for s v number) (orders_served es n) ≡ 0)
+  pub instructions : (es : List NetEvent) (id : StreamId) (at : ℕ) → AllNetFit n.w.sizes es
+      → count_by (is_of_instruction id at) (orders_served es n) ≤ 1
 
--- The order of a stream has had its effect on the cell, and its answer is outstanding: the cell is one call further than is recorded.
+-- The order of a stream has had its effect on the cell, and its answer is outstanding: the cell is one call further
+-- than is recorded.
 pub record IsFurther (n : Net) (s v : ℕ) : Type 0 where
   pub stream : StreamId
   pub order : Order
@@ -100,19 +111,23 @@ RealIsNear setup n = (s v : ℕ) → (n.cells s v ≡ cell_above n.base (n.w.pla
 -- if no stream's order has had its effect, the servers have what is recorded, with the base added to handover numbers
 abbrev pub RealIsRecorded : Setup → Net → Type 0
 RealIsRecorded setup n =
-    ((id : StreamId) (o : Order) → order_of n.base n.w id ≡ Some o → n.last o.call.shard o.call.server ≢ o.number) → (s v : ℕ) → n.cells s v ≡ cell_above n.base (n.w.place.cells s v)
+    ((id : StreamId) (o : Order) → order_of n.base n.w id ≡ Some o → n.last o.call.shard o.call.server ≢ o.number)
+    → (s v : ℕ) → n.cells s v ≡ cell_above n.base (n.w.place.cells s v)
 
 -- once all plans are done, the servers have the end of the plans in the order of their starts
 abbrev pub RealIsAtEnds : Setup → Net → Type 0
-RealIsAtEnds setup n = AreDone n.w → (s v : ℕ) → n.cells s v ≡ cell_above n.base ((ends_of n.w.sizes (map (λ x. x.plan) n.w.plans) n.w.opening).cells s v)
+RealIsAtEnds setup n = AreDone n.w → (s v : ℕ)
+    → n.cells s v ≡ cell_above n.base ((ends_of n.w.sizes (map (λ x. x.plan) n.w.plans) n.w.opening).cells s v)
 
 -- another controller opens on what the servers have, with an empty log, and numbers above all of this one's
 abbrev pub reopened : Net → Sizes → Place → ℕ → Net
 reopened n c place room = record n { w = opened c place room; base = n.base + length n.w.log }
 
--- once all plans are done, another one can open on a placement with the servers' cells, while all orders, answers and passes of this one still may come
+-- once all plans are done, another one can open on a placement with the servers' cells, while all orders, answers and
+-- passes of this one still may come
 abbrev pub CanReopen : Setup → Net → Type 0
-CanReopen setup n = AreDone n.w → (place : Place) (room : ℕ) → IsOpening setup place room → ((s v : ℕ) → n.cells s v ≡ place.cells s v) →
+CanReopen setup n = AreDone n.w → (place : Place) (room : ℕ) → IsOpening setup place room
+    → ((s v : ℕ) → n.cells s v ≡ place.cells s v) →
     IsNetOpening setup (reopened n (sizes_of setup) place room)
 
 -- a stream's order makes a round trip: it is sent, comes to its server, and the answer comes back
@@ -123,9 +138,11 @@ round_trip n id = Send id ∷ Deliver (length n.sent) ∷ Answer (length n.answe
 abbrev pub HasMovedOn : State → StreamId → State → Type 0
 HasMovedOn w id new = ((progress_of new id).at ≡ (progress_of w id).at + 1) ⊎ ((progress_of new id).done ≡ true)
 
--- The stream can go on: the controller can make its next step by itself, or a round trip of its order takes it past its call.
+-- The stream can go on: the controller can make its next step by itself, or a round trip of its order takes it past its
+-- call.
 abbrev pub CanMoveOn : Net → StreamId → Type 0
-CanMoveOn n id = HasMovedOn n.w id (net_run (Control (Step id) ∷ []) n).w ⊎ HasMovedOn n.w id (net_run (round_trip n id) n).w
+CanMoveOn n id = HasMovedOn n.w id (net_run (Control (Step id) ∷ []) n).w
+    ⊎ HasMovedOn n.w id (net_run (round_trip n id) n).w
 
 -- of each plan that isn't done some stream can go on
 abbrev pub SomeCanGoOn : Setup → Net → Type 0
@@ -152,5 +169,6 @@ shard_asked n _ = None
 
 -- who executes a request, which came directly or by however late a pass, is the one server that serves its shard then
 abbrev pub ExecutesWhereServing : Setup → Net → Type 0
-ExecutesWhereServing setup n = (e : NetEvent) (s v : ℕ) → shard_asked n e ≡ Some s → (comes n e).0 ≡ Replied (Played.Executed v) →
+ExecutesWhereServing setup n = (e : NetEvent) (s v : ℕ) → shard_asked n e ≡ Some s
+    → (comes n e).0 ≡ Replied (Played.Executed v) →
     IsServing (real n) s v × ((u : ℕ) → IsServing (real n) s u → u ≡ v)

@@ -1,11 +1,16 @@
 -- The protocol over a network. The controller holds no lock while a call is under way: it sends orders, which may come
 -- to their servers late, in any order, many times or never, and so may the answers. Its record is a state of the
 -- protocol, in which a call has its effect only once its answer has come; what the servers have is beside it.
-use Rattle.std.specs.Prelude.{ℕ, ◌+◌, ◌==◌, ◌&&◌, ◌++◌, ◌-◌, Bool, true, false, Option, Some, None, List, [], ◌∷◌, is_some, is_none, slice_get, if◌then◌else◌}
+use Rattle.std.specs.Prelude.{ℕ, ◌+◌, ◌==◌, ◌&&◌, ◌++◌, ◌-◌, Bool, true, false, Option, Some, None, List, [], ◌∷◌}
+use Rattle.std.specs.Prelude.{is_some, is_none, slice_get, if◌then◌else◌}
 use Rattle.sm_server.specs.declared.call.Cell.TheVariants as cell
 use Rattle.sm_server.specs.declared.call.Call.{Call}
 use Rattle.sm_server.specs.declared.call.Call.TheVariants as call
-pub use Rattle.laws_network.specs.Words.{Cell, Delivery, Happening, Instr, Logged, Outcome, Place, Played, Refusal, ServerCall, Sizes, State, StreamId, Ticket, Step, Lose, Refill, Arrive, PassOn, Approve, Done, Begin, delivery_of, happens, is_begun, is_running, is_step_of, is_token, load_of, next_call, next_instruction, no_start, opened, option_to_list, progress_of, put2, since_in, since_of}
+pub use Rattle.laws_network.specs.Words.{Cell, Delivery, Happening, Instr, Logged, Outcome, Place, Played, Refusal}
+pub use Rattle.laws_network.specs.Words.{ServerCall, Sizes, State, StreamId, Ticket, Step, Lose, Refill, Arrive, PassOn}
+pub use Rattle.laws_network.specs.Words.{Approve, Done, Begin, delivery_of, happens, is_begun, is_running, is_step_of}
+pub use Rattle.laws_network.specs.Words.{is_token, load_of, next_call, next_instruction, no_start, opened}
+pub use Rattle.laws_network.specs.Words.{option_to_list, progress_of, put2, since_in, since_of}
 use Rattle.sm_protocol.specs.Happens.{answer_by}
 
 -- An order: the call of a stream's instruction, the cell that it is for, and its number.
@@ -19,13 +24,14 @@ pub record Order : Type 0 where
 pub record Net : Type 0 where
   -- what the controller has recorded
   pub w : State
-  -- The numbers of its orders are above this number, and so are those of handovers once they leave it. It is a constant of the
-  -- controller, and no order had a number above it under an earlier one.
+  -- The numbers of its orders are above this number, and so are those of handovers once they leave it. It is a constant
+  -- of the controller, and no order had a number above it under an earlier one.
   pub base : ℕ
   -- what the servers have: of each shard its cell, and the number of the last order that had an effect on it
   pub cells : ℕ → ℕ → Cell
   pub last : ℕ → ℕ → ℕ
-  -- all orders, answers, and passes of requests from server to server that were ever sent: any of them may come at any time, and again
+  -- all orders, answers, and passes of requests from server to server that were ever sent: any of them may come at any
+  -- time, and again
   pub sent : List Order
   pub answers : List Order
   pub passes : List Ticket
@@ -45,8 +51,8 @@ instruction_call numbers (Some i) = next_call numbers i
 abbrev pub call_now : State → StreamId → Option ServerCall
 call_now w id = instruction_call w.numbers (next_instruction w id)
 
--- A call as it leaves the controller: the base is added to its handover number. So no request that was passed on under an earlier
--- controller fits a handover of this one.
+-- A call as it leaves the controller: the base is added to its handover number. So no request that was passed on under
+-- an earlier controller fits a handover of this one.
 abbrev pub call_above : ℕ → Call → Call
 call_above base (call.PrepareAdd owner number) = call.PrepareAdd owner (base + number)
 call_above base (call.PrepareDrop new_owner number) = call.PrepareDrop new_owner (base + number)
@@ -157,8 +163,8 @@ abbrev pub pass_by : ℕ → ℕ → Played → Option Ticket
 pass_by s v (Played.Passed to number place) = Some (record { place = place; shard = s; sender = v; target = to; number = number })
 pass_by s v _ = None
 
--- A server's reply to a request, by its own cell alone: the controller has no part in it, and it may be up although it is recorded
--- as down. One that is really down does not reply. A pass has no place in a log: 0 stands for it.
+-- A server's reply to a request, by its own cell alone: the controller has no part in it, and it may be up although it
+-- is recorded as down. One that is really down does not reply. A pass has no place in a log: 0 stands for it.
 abbrev pub real_reply : Net → ℕ → ℕ → Option Ticket → Played
 real_reply n s v sent = answer_by (n.cells s v) v sent 0
 

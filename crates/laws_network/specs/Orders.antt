@@ -12,8 +12,8 @@ abbrev pub by_served : Result Cell Refusal → Delivery
 by_served (Ok next) = Delivery.Served next
 by_served (Err why) = Delivery.Refused why
 
--- An order with a lower number than the last one that had an effect on the cell has none; one with that number has had its own
--- before; and one with a higher number is served or refused, by a server that is up.
+-- An order with a lower number than the last one that had an effect on the cell has none; one with that number has had
+-- its own before; and one with a higher number is served or refused, by a server that is up.
 abbrev pub delivery_of : Cell → ℕ → ℕ → ℕ → ℕ → Call → Delivery
 delivery_of cell last number free_room load call =
     if nat_lt number last then Delivery.Old

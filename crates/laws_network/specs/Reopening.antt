@@ -1,6 +1,8 @@
--- A reopening: a controller ends all plans, fences the servers and the map's owner, lets each of them tell what it has, and settles all
--- of them anew, while whatever was sent before still comes. One may be replaced by another at any point.
-use Rattle.std.specs.Prelude.{ℕ, zero, suc, ◌==◌, ◌&&◌, ◌||◌, ◌++◌, Bool, true, false, not, Option, Some, None, List, [], ◌∷◌, is_some, is_none, max, nat_lt, option_map, slice_get, if◌then◌else◌}
+-- A reopening: a controller ends all plans, fences the servers and the map's owner, lets each of them tell what it has,
+-- and settles all of them anew, while whatever was sent before still comes. One may be replaced by another at any
+-- point.
+use Rattle.std.specs.Prelude.{ℕ, zero, suc, ◌==◌, ◌&&◌, ◌||◌, ◌++◌, Bool, true, false, not, Option, Some, None, List}
+use Rattle.std.specs.Prelude.{[], ◌∷◌, is_some, is_none, max, nat_lt, option_map, slice_get, if◌then◌else◌}
 use Rattle.sm_server.specs.declared.call.Cell.TheVariants.{Absent}
 use Rattle.sm_placement.specs.Sums.{put}
 pub use Rattle.sm_placement.specs.Opening.{is_handing}
@@ -15,8 +17,8 @@ pub data Party : Type 0 where
   Server : (number : ℕ) → Party
   MapOwner : Party
 
--- A base: no order at or below its number has an effect. A party that is fenced there takes no order at all. A server that has lost its
--- slots is Unknown: it asks for them under a nonce.
+-- A base: no order at or below its number has an effect. A party that is fenced there takes no order at all. A server
+-- that has lost its slots is Unknown: it asks for them under a nonce.
 pub record Base : Type 0 where
   pub number : ℕ
   pub fenced : Bool
@@ -31,7 +33,8 @@ after_fence base number nonce =
 abbrev pub is_fenced_at : ℕ → Base → Bool
 is_fenced_at number base = base.fenced && base.number == number
 
--- what comes is meant for the party as it stands: it names the nonce of one that is Unknown, and none of one that has its slots
+-- what comes is meant for the party as it stands: it names the nonce of one that is Unknown, and none of one that has
+-- its slots
 abbrev pub names_nonce : Option ℕ → Option ℕ → Bool
 names_nonce None None = true
 names_nonce (Some nonce) (Some named) = nonce == named
@@ -87,7 +90,8 @@ pub data Message : Type 0 where
 pub record Reopening : Type 0 where
   -- its number: no order of the plans that have ended is above it
   pub base : ℕ
-  -- the servers of the record, of its document and of those of the reopenings that it replaced are all below this number
+  -- the servers of the record, of its document and of those of the reopenings that it replaced are all below this
+  -- number
   pub servers : ℕ
   -- who is lost for good
   pub lost : ℕ → Bool
@@ -158,7 +162,8 @@ settle_by base s p (Some inventory) = Settle p base None s ∷ []
 -- what the controller sends once it has recorded an entry; it may send it again at any time
 abbrev pub sends : Entry → Reopening → List Message
 sends (Reopen base servers lost) r = fence_to r MapOwner ++ to_each r.servers (λ v. fence_to r (Server v))
-sends (Confirm s) r = settle_by r.base s MapOwner (r.told MapOwner) ++ to_each r.servers (λ v. settle_by r.base s (Server v) (r.told (Server v)))
+sends (Confirm s) r = settle_by r.base s MapOwner (r.told MapOwner)
+    ++ to_each r.servers (λ v. settle_by r.base s (Server v) (r.told (Server v)))
 sends _ r = []
 
 -- ---- all of it
@@ -180,7 +185,8 @@ pub record Settling : Type 0 where
 pub data SettlingEvent : Type 0 where
   -- an order, a publication, a request or a passed request comes
   Comes : (event : WorldEvent) → SettlingEvent
-  -- of all messages that were sent, the one at this place comes. A server that tells what it has says which cuts it has reached.
+  -- of all messages that were sent, the one at this place comes. A server that tells what it has says which cuts it has
+  -- reached.
   Arrives : (place : ℕ) (reached : ℕ → Bool) → SettlingEvent
   -- a server loses its slots
   Forgets : (server : ℕ) → SettlingEvent

@@ -1,17 +1,23 @@
 -- The laws of a reopening, behind their premises.
-use Rattle.std.specs.Prelude.{◌≡◌, ◌≢◌, ◌≤◌, ◌<◌, ◌⊎◌, ℕ, ◌+◌, ◌*◌, ◌&&◌, ◌++◌, Bool, true, false, not, Option, Some, None, List, [], ◌∷◌, is_some, is_none, length, max, if◌then◌else◌}
+use Rattle.std.specs.Prelude.{◌≡◌, ◌≢◌, ◌≤◌, ◌<◌, ◌⊎◌, ℕ, ◌+◌, ◌*◌, ◌&&◌, ◌++◌, Bool, true, false, not, Option, Some}
+use Rattle.std.specs.Prelude.{None, List, [], ◌∷◌, is_some, is_none, length, max, if◌then◌else◌}
 use Rattle.sm_server.specs.declared.call.Cell.TheVariants as cell
 use Rattle.sm_protocol.specs.Laws.{MOST_PLACES}
-pub use Rattle.laws_network.specs.Words.{AllByRecursion, Played, Setup, Sizes, State, IsOpening, load_of, opened, sizes_of}
+pub use Rattle.laws_network.specs.Words.{AllByRecursion, Played, Setup, Sizes, State, IsOpening, load_of, opened}
+pub use Rattle.laws_network.specs.Words.{sizes_of}
 pub use Rattle.laws_network.specs.Net.{Refusal, Refused, Replied}
 pub use Rattle.laws_network.specs.Laws.{shard_asked}
 pub use Rattle.laws_network.specs.WorldLaws.{IsWorldOpening, IsWorldReached}
-pub use Rattle.laws_network.specs.Reopening.{Base, Cell, Comes, Confirm, Entry, Fence, Fenced, Settling, SettlingEvent, Inner, Inventory, MapOwner, Message, Net, NetOutcome, Order, Party, Records, Reopen, Reopening, Restore, Server, Settle, Settled, Settlement, Slots, World, WorldEvent, settling_comes, settled_base, settling_run, is_asked, is_handing, entered, records, sends}
+pub use Rattle.laws_network.specs.Reopening.{Base, Cell, Comes, Confirm, Entry, Fence, Fenced, Settling, SettlingEvent}
+pub use Rattle.laws_network.specs.Reopening.{Inner, Inventory, MapOwner, Message, Net, NetOutcome, Order, Party}
+pub use Rattle.laws_network.specs.Reopening.{Records, Reopen, Reopening, Restore, Server, Settle, Settled, Settlement}
+pub use Rattle.laws_network.specs.Reopening.{Slots, World, WorldEvent, settling_comes, settled_base, settling_run}
+pub use Rattle.laws_network.specs.Reopening.{is_asked, is_handing, entered, records, sends}
 
 -- ---- what may be settled
 
--- The cells that a cell may become: a primary stays; a secondary stays, or becomes the primary; a party of a handover becomes the primary, or
--- gives the shard up.
+-- The cells that a cell may become: a primary stays; a secondary stays, or becomes the primary; a party of a handover
+-- becomes the primary, or gives the shard up.
 abbrev pub Keeps : Cell → Cell → Type 0
 Keeps cell.Primary next = next ≡ cell.Primary
 Keeps cell.Secondary next = (next ≡ cell.Secondary) ⊎ (next ≡ cell.Primary)
@@ -28,7 +34,8 @@ claim (cell.Prepared from number) true = 3
 claim (cell.Forwarding to number) reached = 3
 claim cell.Primary reached = 4
 
--- A server that has not answered may be carried over as it is recorded: it is recorded as down, and was sent no settle since.
+-- A server that has not answered may be carried over as it is recorded: it is recorded as down, and was sent no settle
+-- since.
 abbrev pub is_carried : Reopening → State → ℕ → Bool
 is_carried r w v = is_asked r (Server v) && (is_none (r.told (Server v)) && (w.place.down v && not (r.promised v)))
 
@@ -49,13 +56,16 @@ pub record MaySettle (r : Reopening) (w : State) (s : Settlement) : Type 0 where
   pub opening : IsOpening s.setup s.place s.room
   pub servers : length s.setup.servers ≤ r.servers
   pub map : is_some (r.told MapOwner) ≡ true
-  pub answered : (v : ℕ) → is_asked r (Server v) ≡ true → (is_some (r.told (Server v)) ≡ true) ⊎ (is_carried r w v ≡ true)
-  pub kept : (k v : ℕ) (cells : ℕ → Cell) (reached : ℕ → Bool) → r.told (Server v) ≡ Some (Slots cells reached) → Keeps (cells k) (s.place.cells k v)
+  pub answered : (v : ℕ) → is_asked r (Server v) ≡ true
+      → (is_some (r.told (Server v)) ≡ true) ⊎ (is_carried r w v ≡ true)
+  pub kept : (k v : ℕ) (cells : ℕ → Cell) (reached : ℕ → Bool) → r.told (Server v) ≡ Some (Slots cells reached)
+      → Keeps (cells k) (s.place.cells k v)
   pub carried : (k v : ℕ) → is_carried r w v ≡ true → s.place.cells k v ≡ w.place.cells k v
   pub down : (v : ℕ) → is_carried r w v ≡ true → v < length s.setup.servers → s.place.down v ≡ true
   pub lost : (k v : ℕ) → r.lost v ≡ true → s.place.cells k v ≡ cell.Absent
   pub claims : (k u v : ℕ) → s.place.cells k v ≡ cell.Primary → 0 < claim_of r w k u → 0 < claim_of r w k v
-  pub handed : (k v : ℕ) (cells : ℕ → Cell) (reached : ℕ → Bool) → r.told (Server v) ≡ Some (Slots cells reached) → is_handing (cells k) ≡ true →
+  pub handed : (k v : ℕ) (cells : ℕ → Cell) (reached : ℕ → Bool) → r.told (Server v) ≡ Some (Slots cells reached)
+      → is_handing (cells k) ≡ true →
       (u : ℕ) × (s.place.cells k u ≡ cell.Primary)
 
 -- ---- how a reopening begins, and what may come
@@ -64,17 +74,19 @@ pub record MaySettle (r : Reopening) (w : State) (s : Settlement) : Type 0 where
 abbrev pub IsWithinRoom : Sizes → (ℕ → ℕ → Cell) → ℕ → Type 0
 IsWithinRoom c cells v = v < c.servers → load_of c cells v ≤ c.room v
 
--- The server has the slots that the network's laws speak of, and was told rooms and loads as they are recorded if it is recorded as up. Their last numbers are the same, or both at or below its base: then no order
--- meets a difference.
+-- The server has the slots that the network's laws speak of, and was told rooms and loads as they are recorded if it is
+-- recorded as up. Their last numbers are the same, or both at or below its base: then no order meets a difference.
 pub record HasSlots (w : World) (x : Settling) (v : ℕ) : Type 0 where
   pub cells : (s : ℕ) → x.world.net.cells s v ≡ w.net.cells s v
-  pub lasts : (s : ℕ) → (x.world.net.last s v ≡ w.net.last s v) ⊎ ((x.world.net.last s v ≤ (x.bases (Server v)).number) × (w.net.last s v ≤ (x.bases (Server v)).number))
+  pub lasts : (s : ℕ) → (x.world.net.last s v ≡ w.net.last s v)
+      ⊎ ((x.world.net.last s v ≤ (x.bases (Server v)).number) × (w.net.last s v ≤ (x.bases (Server v)).number))
   pub sizes : w.net.w.place.down v ≡ false → v < w.net.w.sizes.servers → x.sizes v ≡ w.net.w.sizes
   pub loads : IsWithinRoom (x.sizes v) x.world.net.cells v
 
 -- a settle that was sent long ago is taken by nobody: its party has gone on, or asks under another nonce
 pub record IsOutdated (base : Base) (number : ℕ) (nonce : Option ℕ) : Type 0 where
-  pub has_slots : base.nonce ≡ None → nonce ≡ None → (number < base.number) ⊎ ((number ≡ base.number) × (base.fenced ≡ false))
+  pub has_slots : base.nonce ≡ None → nonce ≡ None
+      → (number < base.number) ⊎ ((number ≡ base.number) × (base.fenced ≡ false))
   pub has_none : (n : ℕ) → nonce ≡ Some n → base.nonce ≢ Some n
 
 -- a settle for the server has a number at or below this one
@@ -95,9 +107,11 @@ abbrev pub IsPast : World → Settling → Message → Type 0
 IsPast w x (Fence p base) = base ≤ w.net.base + length w.net.w.log
 IsPast w x (Fenced p base inventory) = base ≤ w.net.base + length w.net.w.log
 IsPast w x (Settle p base nonce s) =
-    (base ≤ w.net.base + length w.net.w.log) × ((n : ℕ) → nonce ≡ Some n → n < x.nonces) × IsOutdated (x.bases p) base nonce
+    (base ≤ w.net.base + length w.net.w.log) × ((n : ℕ) → nonce ≡ Some n → n < x.nonces)
+    × IsOutdated (x.bases p) base nonce
 IsPast w x (Settled p base) = base ≤ w.net.base + length w.net.w.log
-IsPast w x (Restore v nonce number sizes cells) = (nonce < x.nonces) × ((x.bases (Server v)).nonce ≡ Some nonce → IsRestoring w x v number sizes cells)
+IsPast w x (Restore v nonce number sizes cells) = (nonce < x.nonces)
+    × ((x.bases (Server v)).nonce ≡ Some nonce → IsRestoring w x v number sizes cells)
 
 -- The world before a reopening is one that the network leads to, but for the slots that servers have lost.
 pub record IsOutset (setup : Setup) (x : Settling) : Type 0 where
@@ -119,14 +133,15 @@ IsNotFor v n (Settle p base nonce s) = p ≡ Server v → nonce ≢ Some n
 IsNotFor v n (Restore u nonce number sizes cells) = u ≡ v → nonce ≢ n
 IsNotFor v n _ = Unit {0}
 
--- A controller that gives a server up is right that it will not serve again with its old slots: it has lost them, and nothing that was sent brings them back.
+-- A controller that gives a server up is right that it will not serve again with its old slots: it has lost them, and
+-- nothing that was sent brings them back.
 pub record IsGivenUp (x : Settling) (v : ℕ) : Type 0 where
   pub nonce : ℕ
   pub unknown : (x.bases (Server v)).nonce ≡ Some nonce
   pub unmet : AllByRecursion (IsNotFor v nonce) x.messages
 
--- A reopening may begin with this number: it is above that of the one under way, and above all numbers of the epoch before, whose log
--- has at most this many places.
+-- A reopening may begin with this number: it is above that of the one under way, and above all numbers of the epoch
+-- before, whose log has at most this many places.
 pub record MayReopen (x : Settling) (base : ℕ) (lost : ℕ → Bool) : Type 0 where
   pub later : x.reopening.base < base
   pub places : x.world.net.base + 2 * MOST_PLACES ≤ base
@@ -170,10 +185,11 @@ shard_requested w _ = None
 
 -- a request for the shard, direct or passed on however long ago, may be executed at the server now
 abbrev pub Executes : Settling → ℕ → ℕ → Type 0
-Executes x s v = (e : WorldEvent) × (shard_requested x.world e ≡ Some s) × ((settling_comes x (Comes e)).0 ≡ Replied (Played.Executed v))
+Executes x s v = (e : WorldEvent) × (shard_requested x.world e ≡ Some s)
+    × ((settling_comes x (Comes e)).0 ≡ Replied (Played.Executed v))
 
--- At most one server executes requests of a shard, by the slots that it has: none that is Unknown does, and one that is fenced only as the
--- primary.
+-- At most one server executes requests of a shard, by the slots that it has: none that is Unknown does, and one that is
+-- fenced only as the primary.
 pub record ExecutesSafely (x : Settling) : Type 0 where
   pub one : (s u v : ℕ) → Executes x s u → Executes x s v → u ≡ v
   pub slots : (s v : ℕ) → Executes x s v → (x.bases (Server v)).nonce ≡ None
@@ -189,10 +205,12 @@ RefusesNone x = (e : SettlingEvent) (why : Refusal) → (settling_comes x e).0 �
 
 -- what a server has told is what it has, unless it forgot since
 abbrev pub ToldIsHad : Settling → Type 0
-ToldIsHad x = (v : ℕ) (cells : ℕ → Cell) (reached : ℕ → Bool) → x.reopening.told (Server v) ≡ Some (Slots cells reached) → x.reopening.settlement ≡ None →
+ToldIsHad x = (v : ℕ) (cells : ℕ → Cell) (reached : ℕ → Bool)
+    → x.reopening.told (Server v) ≡ Some (Slots cells reached) → x.reopening.settlement ≡ None →
     (x.bases (Server v)).nonce ≡ None → (s : ℕ) → x.world.net.cells s v ≡ cells s
 
--- The server that the map shows executes, or forwards to the one that does; or it is fenced, or Unknown, or the map's owner is fenced.
+-- The server that the map shows executes, or forwards to the one that does; or it is fenced, or Unknown, or the map's
+-- owner is fenced.
 abbrev pub ShownExecutes : Settling → Type 0
 ShownExecutes x = (s u v : ℕ) → (x.world.shown s).server ≡ Some u → (x.bases MapOwner).fenced ≡ false →
     (x.bases (Server u)).nonce ≡ None → (x.bases (Server u)).fenced ≡ false → Executes x s v →
@@ -215,11 +233,12 @@ in_force x s =
       };
     }
 
--- Once all have taken it, what the servers have is the settlement, and it opens an epoch with a past: all laws of the network hold from
--- there on, whatever of the epochs before still comes.
+-- Once all have taken it, what the servers have is the settlement, and it opens an epoch with a past: all laws of the
+-- network hold from there on, whatever of the epochs before still comes.
 abbrev pub OpensWithPast : Settling → Type 0
 OpensWithPast x = (s : Settlement) → x.reopening.settlement ≡ Some s → AllTook x.reopening →
-    ((k v : ℕ) → (x.bases (Server v)).nonce ≡ None → x.world.net.cells k v ≡ s.place.cells k v) × IsWorldOpening s.setup (in_force x s)
+    ((k v : ℕ) → (x.bases (Server v)).nonce ≡ None → x.world.net.cells k v ≡ s.place.cells k v)
+    × IsWorldOpening s.setup (in_force x s)
 
 -- ---- before the first one, and after each
 
@@ -257,7 +276,8 @@ after_it x s = record x {
 
 -- Once a settlement is in force, the next reopening can begin, if no server waits for a restore of before.
 abbrev pub CanBeginAgain : Settling → Type 0
-CanBeginAgain x = (s : Settlement) → x.reopening.settlement ≡ Some s → AllTook x.reopening → AllByRecursion (IsUnawaited x) x.messages → IsOutset s.setup (after_it x s)
+CanBeginAgain x = (s : Settlement) → x.reopening.settlement ≡ Some s → AllTook x.reopening
+    → AllByRecursion (IsUnawaited x) x.messages → IsOutset s.setup (after_it x s)
 
 -- ---- what a settlement keeps
 
@@ -269,18 +289,22 @@ IsKnownAs r w s v c =
 
 -- no server that told its slots has part in a handover of the shard
 abbrev pub IsAtRest : Reopening → ℕ → Type 0
-IsAtRest r s = (v : ℕ) (cells : ℕ → Cell) (reached : ℕ → Bool) → r.told (Server v) ≡ Some (Slots cells reached) → is_handing (cells s) ≡ false
+IsAtRest r s = (v : ℕ) (cells : ℕ → Cell) (reached : ℕ → Bool) → r.told (Server v) ≡ Some (Slots cells reached)
+    → is_handing (cells s) ≡ false
 
 -- who is primary once a handover is settled: who is known to have something of the shard
 abbrev pub IsSuccessor : Reopening → State → ℕ → ℕ → Type 0
 IsSuccessor r w s u = (c : Cell) × IsKnownAs r w s u c × (c ≢ cell.Absent)
 
--- A shard with no handover under way, whose primary is there, keeps the cells of its survivors; one of whose handover a party is left
--- has one primary.
+-- A shard with no handover under way, whose primary is there, keeps the cells of its survivors; one of whose handover a
+-- party is left has one primary.
 pub record IsFair (r : Reopening) (w : State) (s : Settlement) : Type 0 where
-  pub kept : (k u v : ℕ) (c : Cell) → IsAtRest r k → IsKnownAs r w k u cell.Primary → IsKnownAs r w k v c → s.place.cells k v ≡ c
-  pub handed : (k v : ℕ) (cells : ℕ → Cell) (reached : ℕ → Bool) → r.told (Server v) ≡ Some (Slots cells reached) → is_handing (cells k) ≡ true →
-      (u : ℕ) × (s.place.cells k u ≡ cell.Primary) × ((v : ℕ) → s.place.cells k v ≡ cell.Primary → v ≡ u) × IsSuccessor r w k u
+  pub kept : (k u v : ℕ) (c : Cell) → IsAtRest r k → IsKnownAs r w k u cell.Primary → IsKnownAs r w k v c
+      → s.place.cells k v ≡ c
+  pub handed : (k v : ℕ) (cells : ℕ → Cell) (reached : ℕ → Bool) → r.told (Server v) ≡ Some (Slots cells reached)
+      → is_handing (cells k) ≡ true →
+      (u : ℕ) × (s.place.cells k u ≡ cell.Primary) × ((v : ℕ) → s.place.cells k v ≡ cell.Primary → v ≡ u)
+      × IsSuccessor r w k u
 
 -- whatever may be confirmed is fair
 abbrev pub SettlesFairly : Type 0
@@ -300,4 +324,5 @@ journal_sends (e ∷ es) r = sends e (entered e r) ++ journal_sends es (entered 
 
 -- Whatever a controller with any beginning of a journal sends is among what the whole journal sends.
 abbrev pub SendsFromBeginnings : Type 0
-SendsFromBeginnings = (front back : List Entry) (r : Reopening) → journal_sends (front ++ back) r ≡ journal_sends front r ++ journal_sends back (journal_run front r)
+SendsFromBeginnings = (front back : List Entry) (r : Reopening)
+    → journal_sends (front ++ back) r ≡ journal_sends front r ++ journal_sends back (journal_run front r)

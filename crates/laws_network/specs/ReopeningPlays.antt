@@ -1,12 +1,15 @@
--- Worked plays of reopenings: one that brings a shard back, and what happens without some of the rules. There is one shard, 0, and there are
--- the servers 0, 1 and 2.
-use Rattle.std.specs.Prelude.{◌≡◌, ◌≢◌, ℕ, ◌==◌, ◌++◌, true, false, Option, Some, None, List, [], ◌∷◌, map, slice_index_or, if◌then◌else◌}
+-- Worked plays of reopenings: one that brings a shard back, and what happens without some of the rules. There is one
+-- shard, 0, and there are the servers 0, 1 and 2.
+use Rattle.std.specs.Prelude.{◌≡◌, ◌≢◌, ℕ, ◌==◌, ◌++◌, true, false, Option, Some, None, List, [], ◌∷◌, map}
+use Rattle.std.specs.Prelude.{slice_index_or, if◌then◌else◌}
 use Rattle.std.specs.List.{list_any}
 use Rattle.sm_server.specs.declared.call.Cell.TheVariants.{Absent, Prepared, Secondary, Primary, Forwarding}
 use Rattle.sm_placement.specs.Setup.{ServerRow}
 use Rattle.laws_network.specs.Words.{Cell, Place, Played, Setup, opened, sizes_of}
 use Rattle.laws_network.specs.Net.{Ask, Replied}
-use Rattle.laws_network.specs.Reopening.{Arrives, Comes, Confirm, Fence, Forgets, Inner, MapOwner, Message, Records, Reopen, Server, Settle, Settlement, Settling, SettlingEvent, is_asked, part_taken, settled_base, settling_comes, settling_run}
+use Rattle.laws_network.specs.Reopening.{Arrives, Comes, Confirm, Fence, Forgets, Inner, MapOwner, Message, Records}
+use Rattle.laws_network.specs.Reopening.{Reopen, Server, Settle, Settlement, Settling, SettlingEvent, is_asked}
+use Rattle.laws_network.specs.Reopening.{part_taken, settled_base, settling_comes, settling_run}
 use Rattle.laws_network.specs.ReopeningLaws.{MaySettle}
 
 -- a server with room for the shard, of this name
@@ -62,7 +65,8 @@ reopen base servers lost = Records (Reopen base servers (λ v. v == lost))
 -- two servers execute what clients ask of the shard
 abbrev pub TwoExecute : Settling → ℕ → ℕ → Type 0
 TwoExecute x u v =
-    ((settling_comes x (Comes (Inner (Ask 0 u)))).0 ≡ Replied (Played.Executed u)) × ((settling_comes x (Comes (Inner (Ask 0 v)))).0 ≡ Replied (Played.Executed v)) × (u ≢ v)
+    ((settling_comes x (Comes (Inner (Ask 0 u)))).0 ≡ Replied (Played.Executed u))
+    × ((settling_comes x (Comes (Inner (Ask 0 v)))).0 ≡ Replied (Played.Executed v)) × (u ≢ v)
 
 -- Server 1, to which a primary is being handed over, is lost, and all others have told what they have.
 abbrev pub lost_in_handover : Settling
@@ -95,9 +99,11 @@ moving = to_settle (Secondary ∷ Primary ∷ Absent ∷ []) (Some 1)
 
 -- none may be confirmed that does so
 abbrev pub MovesNoPrimary : Type 0
-MovesNoPrimary = (MaySettle all_told.reopening all_told.world.net.w moving → ⊥) × TwoExecute (settling_run (Records (Confirm moving) ∷ arrive (10 ∷ [])) all_told) 0 1
+MovesNoPrimary = (MaySettle all_told.reopening all_told.world.net.w moving → ⊥)
+    × TwoExecute (settling_run (Records (Confirm moving) ∷ arrive (10 ∷ [])) all_told) 0 1
 
--- Server 0 was settled as the primary, which has moved to server 1 since. It forgets; the old fence comes again, and then the old settle.
+-- Server 0 was settled as the primary, which has moved to server 1 since. It forgets; the old fence comes again, and
+-- then the old settle.
 abbrev pub old_settle : Settlement
 old_settle = to_settle (Primary ∷ Absent ∷ Absent ∷ []) (Some 0)
 
@@ -109,7 +115,8 @@ fenced_again = settling_run (Forgets 0 ∷ arrive (0 ∷ []))
 -- it takes none but for its nonce
 abbrev pub TakesNoOldSettle : Type 0
 TakesNoOldSettle =
-    ((settling_run (arrive (1 ∷ [])) fenced_again).world.net.cells 0 0 ≡ Absent) × TwoExecute (part_taken fenced_again (Server 0) 1000 old_settle) 0 1
+    ((settling_run (arrive (1 ∷ [])) fenced_again).world.net.cells 0 0 ≡ Absent)
+    × TwoExecute (part_taken fenced_again (Server 0) 1000 old_settle) 0 1
 
 -- Server 0 was settled as the primary at its base, and the primary has moved on; the settle comes again.
 abbrev pub settled_before : Settling
@@ -118,10 +125,11 @@ settled_before = record (standing_still (with_row (Absent ∷ Primary ∷ Absent
 -- it is taken once
 abbrev pub TakesNoSettleTwice : Type 0
 TakesNoSettleTwice =
-    ((settling_run (arrive (0 ∷ [])) settled_before).world.net.cells 0 0 ≡ Absent) × TwoExecute (part_taken settled_before (Server 0) 1000 old_settle) 0 1
+    ((settling_run (arrive (0 ∷ [])) settled_before).world.net.cells 0 0 ≡ Absent)
+    × TwoExecute (part_taken settled_before (Server 0) 1000 old_settle) 0 1
 
--- The primary is lost. Server 1, which is recorded as down, is settled as the primary and serves; then another reopening replaces this one, and
--- server 1 is silent.
+-- The primary is lost. Server 1, which is recorded as down, is settled as the primary and serves; then another
+-- reopening replaces this one, and server 1 is silent.
 abbrev pub replaced : Settling
 replaced = settling_run
     (Forgets 0 ∷ reopen 1000 3 0 ∷ arrive (0 ∷ 1 ∷ 2 ∷ 3 ∷ 4 ∷ 5 ∷ []) ++ Records (Confirm (to_settle (Absent ∷ Primary ∷ Secondary ∷ []) (Some 1))) ∷ arrive (7 ∷ [])
@@ -134,10 +142,11 @@ passed_over = to_settle (Absent ∷ Secondary ∷ Primary ∷ []) (Some 2)
 
 -- it can't be carried over
 abbrev pub CarriesNoneSettled : Type 0
-CarriesNoneSettled = (MaySettle replaced.reopening replaced.world.net.w passed_over → ⊥) × TwoExecute (settling_run (Records (Confirm passed_over) ∷ arrive (16 ∷ [])) replaced) 1 2
+CarriesNoneSettled = (MaySettle replaced.reopening replaced.world.net.w passed_over → ⊥)
+    × TwoExecute (settling_run (Records (Confirm passed_over) ∷ arrive (16 ∷ [])) replaced) 1 2
 
--- Two servers are recorded: the primary's is lost, and the other one has nothing. Server 2 is new, was settled as the primary and
--- serves; then another reopening replaces this one, whose document has server 1 alone.
+-- Two servers are recorded: the primary's is lost, and the other one has nothing. Server 2 is new, was settled as the
+-- primary and serves; then another reopening replaces this one, whose document has server 1 alone.
 abbrev pub newcomer : Settling
 newcomer = settling_run
     (Forgets 0 ∷ Forgets 2 ∷ reopen 1000 3 0 ∷ arrive (0 ∷ 1 ∷ 2 ∷ 3 ∷ 4 ∷ 5 ∷ []) ++ Records (Confirm (to_settle (Absent ∷ Absent ∷ Primary ∷ []) (Some 2))) ∷ arrive (8 ∷ [])
@@ -150,4 +159,5 @@ without_it = to_settle (Absent ∷ Primary ∷ Absent ∷ []) (Some 1)
 
 -- it is asked all the same
 abbrev pub AsksNewcomers : Type 0
-AsksNewcomers = (is_asked newcomer.reopening (Server 2) ≡ true) × TwoExecute (part_taken newcomer (Server 1) 2000 without_it) 1 2
+AsksNewcomers = (is_asked newcomer.reopening (Server 2) ≡ true)
+    × TwoExecute (part_taken newcomer (Server 1) 2000 without_it) 1 2

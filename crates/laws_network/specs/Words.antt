@@ -16,11 +16,13 @@ pub use Rattle.sm_plan_code.specs.Acts.{next_call}
 pub use Rattle.sm_plan_code.specs.After.{to_list}
 pub use Rattle.sm_reservation.specs.Pool.{leads_of}
 pub use Rattle.sm_verifier.specs.PlanEnd.{ends_of}
-pub use Rattle.sm_protocol.specs.State.{State, is_begun, is_running, is_unfinished, next_instruction, no_start, opened, progress_of, stream_count, stream_id}
+pub use Rattle.sm_protocol.specs.State.{State, is_begun, is_running, is_unfinished, next_instruction, no_start, opened}
+pub use Rattle.sm_protocol.specs.State.{progress_of, stream_count, stream_id}
 pub use Rattle.sm_protocol.specs.Next.{since_in, since_of}
 pub use Rattle.sm_protocol.specs.Steps.{Outcome}
 pub use Rattle.sm_protocol.specs.Hand.{is_token}
-pub use Rattle.sm_protocol.specs.Happens.{Happening, Step, Lose, Refill, Arrive, PassOn, Approve, Done, Begin, happens, reply_of}
+pub use Rattle.sm_protocol.specs.Happens.{Happening, Step, Lose, Refill, Arrive, PassOn, Approve, Done, Begin, happens}
+pub use Rattle.sm_protocol.specs.Happens.{reply_of}
 pub use Rattle.sm_protocol.specs.Safe.{IsStep}
 pub use Rattle.sm_protocol.specs.Laws.{AreDone, FitsConfig, IsOpening, IsReached}
 pub use Rattle.sm_protocol.specs.declared.event.Logged.{Logged}

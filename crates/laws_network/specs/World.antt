@@ -1,12 +1,14 @@
--- The network with the published map at its owner. A publication, or an unlisting, is an order to the map's owner: it has its effect
--- there when it comes, and the controller records the stream's step when its answer comes. Like any order it may come late, in any
--- order, many times or never, and so may its answer.
-use Rattle.std.specs.Prelude.{ℕ, suc, ◌+◌, ◌==◌, ◌&&◌, ◌++◌, Bool, false, Option, Some, None, List, [], ◌∷◌, is_some, slice_get, if◌then◌else◌}
+-- The network with the published map at its owner. A publication, or an unlisting, is an order to the map's owner: it
+-- has its effect there when it comes, and the controller records the stream's step when its answer comes. Like any
+-- order it may come late, in any order, many times or never, and so may its answer.
+use Rattle.std.specs.Prelude.{ℕ, suc, ◌+◌, ◌==◌, ◌&&◌, ◌++◌, Bool, false, Option, Some, None, List, [], ◌∷◌, is_some}
+use Rattle.std.specs.Prelude.{slice_get, if◌then◌else◌}
 use Rattle.sm_placement.specs.Sums.{put}
 use Rattle.sm_plan_code.specs.declared.instruction.Instr.TheVariants as instr
 use Rattle.laws_network.specs.Orders.{newer}
 pub use Rattle.laws_network.specs.Words.{Entry, leads_of, to_list}
-pub use Rattle.laws_network.specs.Net.{Control, Instr, Net, NetEvent, NetOutcome, Quiet, State, Step, StreamId, comes, is_running, next_instruction, option_to_list}
+pub use Rattle.laws_network.specs.Net.{Control, Instr, Net, NetEvent, NetOutcome, Quiet, State, Step, StreamId, comes}
+pub use Rattle.laws_network.specs.Net.{is_running, next_instruction, option_to_list}
 
 -- An order to the map's owner: what is to be shown of a shard. The entry's version is its number.
 pub record Publication : Type 0 where
@@ -66,7 +68,8 @@ is_withheld n _ = false
 abbrev pub within : World → NetOutcome × Net → NetOutcome × World
 within x o = (o.0, record x { net = o.1 })
 
--- A publication comes to the map's owner. It is taken if its version is above the one that is shown, and it is answered in any case.
+-- A publication comes to the map's owner. It is taken if its version is above the one that is shown, and it is answered
+-- in any case.
 abbrev pub kept_by : World → Publication → World
 kept_by x p = record x {
   shown = put x.shown p.shard (newer (x.shown p.shard) p.entry);

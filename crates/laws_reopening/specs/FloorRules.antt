@@ -5,7 +5,8 @@ use Rattle.laws_network.specs.Controller.{is_permitted}
 use Rattle.laws_network.specs.Fleet.{End, Fleet, FleetEvent, Forget, controller, fleet_comes, fleet_run, has_lost}
 use Rattle.laws_network.specs.FleetLaws.{AllFleetFit, live_and_known}
 
--- A server loses its slots only while it is recorded as down, and its permit ends its restart only once it has slots again.
+-- A server loses its slots only while it is recorded as down, and its permit ends its restart only once it has slots
+-- again.
 abbrev pub FollowsRules : Fleet → FleetEvent → Type 0
 FollowsRules f (Forget v) = (controller f).w.place.down v ≡ true
 FollowsRules f (End v permit) = is_permitted ((controller f).permits v) permit ≡ true → has_lost f v ≡ false
@@ -24,7 +25,8 @@ AreLostDown f = (v : ℕ) → has_lost f v ≡ true → (controller f).w.place.d
 abbrev pub HasFloors : Fleet → Type 0
 HasFloors f = (s : ℕ) → s < (controller f).w.sizes.shards → (controller f).w.sizes.floor s ≤ live_and_known f s
 
--- If only servers that are down have lost their slots, and all that happens follows the rules, floors are kept, and so it stays.
+-- If only servers that are down have lost their slots, and all that happens follows the rules, floors are kept, and so
+-- it stays.
 abbrev pub RulesKeepFloors : Setup → Fleet → Type 0
 RulesKeepFloors setup f = AreLostDown f → (es : List FleetEvent) → AllFleetFit setup f es → AllFollowRules f es →
     AreLostDown (fleet_run es f) × HasFloors (fleet_run es f)

@@ -10,7 +10,8 @@ HasSettledNone x = (v : ℕ) → x.reopening.promised v ≡ false
 
 -- only servers that are recorded as down have lost their slots
 abbrev pub AreOthersKnown : Settling → Type 0
-AreOthersKnown x = (v : ℕ) → v < x.world.net.w.sizes.servers → (x.bases (Server v)).nonce ≢ None → x.world.net.w.place.down v ≡ true
+AreOthersKnown x = (v : ℕ) → v < x.world.net.w.sizes.servers → (x.bases (Server v)).nonce ≢ None
+    → x.world.net.w.place.down v ≡ true
 
 -- the placement as the servers have it, with those as down that are recorded so
 abbrev pub present_place : Settling → Place
@@ -20,7 +21,8 @@ present_place x = record x.world.net.w.place { cells = x.world.net.cells }
 abbrev pub live_in_fact : Settling → ℕ → ℕ
 live_in_fact x k = count_below x.world.net.w.sizes.servers (λ v. is_live_at (present_place x) k v && is_none (x.bases (Server v)).nonce)
 
--- Until a settlement is confirmed no fewer replicas are live than the floor of the record that the reopening began over, whatever comes, as
--- long as only servers that are recorded as down have lost their slots.
+-- Until a settlement is confirmed no fewer replicas are live than the floor of the record that the reopening began
+-- over, whatever comes, as long as only servers that are recorded as down have lost their slots.
 abbrev pub FloorsRemain : Settling → Type 0
-FloorsRemain x = HasSettledNone x → AreOthersKnown x → (k : ℕ) → k < x.world.net.w.sizes.shards → x.world.net.w.sizes.floor k ≤ live_in_fact x k
+FloorsRemain x = HasSettledNone x → AreOthersKnown x → (k : ℕ) → k < x.world.net.w.sizes.shards
+    → x.world.net.w.sizes.floor k ≤ live_in_fact x k

@@ -1,4 +1,5 @@
--- A worked play of floors: a shard wants two replicas, server 0 hands its primary over to server 1, which is lost, and server 2 has a secondary.
+-- A worked play of floors: a shard wants two replicas, server 0 hands its primary over to server 1, which is lost, and
+-- server 2 has a secondary.
 use Rattle.std.specs.Prelude.{◌≡◌, Some, List, [], ◌∷◌, map}
 use Rattle.sm_server.specs.declared.call.Cell.TheVariants.{Absent, Secondary, Primary}
 use Rattle.sm_placement.specs.Place.{live_at}
@@ -23,9 +24,10 @@ two_settled = settling_run (Records (Confirm two_kept) ∷ []) lost_in_handover
 abbrev pub courses : List (List SettlingEvent)
 courses = [] ∷ arrive (7 ∷ []) ∷ arrive (7 ∷ 8 ∷ []) ∷ (reopen 2000 3 1 ∷ []) ∷ []
 
--- There are two replicas all along, though one of them is live only once server 0 has taken its settle. There is one if server 2 forgets, which
--- is up.
+-- There are two replicas all along, though one of them is live only once server 0 has taken its settle. There is one if
+-- server 2 forgets, which is up.
 pub record KeepsTwo : Type 0 where
   pub kept : map (λ es. replicas (settling_run es two_settled) two_kept 0) courses ≡ 2 ∷ 2 ∷ 2 ∷ 2 ∷ []
-  pub live : map (λ es. live_at (sizes_of two_wanted) (had_place (settling_run es two_settled) two_kept) 0) courses ≡ 1 ∷ 2 ∷ 2 ∷ 1 ∷ []
+  pub live : map (λ es. live_at (sizes_of two_wanted) (had_place (settling_run es two_settled) two_kept) 0) courses
+      ≡ 1 ∷ 2 ∷ 2 ∷ 1 ∷ []
   pub forgot : replicas (settling_run (Forgets 2 ∷ []) two_settled) two_kept 0 ≡ 1

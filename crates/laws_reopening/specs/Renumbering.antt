@@ -1,5 +1,5 @@
--- Other numbers of servers and shards. A reopening has numbers for all that it asks; the next controller numbers those of its document, in the
--- document's order.
+-- Other numbers of servers and shards. A reopening has numbers for all that it asks; the next controller numbers those
+-- of its document, in the document's order.
 use Rattle.std.specs.Prelude.{◌≡◌, ◌≢◌, ◌≤◌, ℕ, true, false, Option, Some, None, List, [], length, slice_get}
 use Rattle.std.specs.List.{AllByRecursion, range_with_len}
 use Rattle.sm_server.specs.declared.call.Cell.TheVariants.{Absent}
@@ -20,7 +20,8 @@ pub record Renumbering : Type 0 where
 
 -- no number stands at two places
 abbrev pub StandsAtOnePlace : List ℕ → Type 0
-StandsAtOnePlace numbers = (u v number : ℕ) → slice_get numbers u ≡ Some number → slice_get numbers v ≡ Some number → u ≡ v
+StandsAtOnePlace numbers = (u v number : ℕ) → slice_get numbers u ≡ Some number → slice_get numbers v ≡ Some number
+    → u ≡ v
 
 -- what is known of a shard and a server that had numbers, and otherwise this
 abbrev pub at_old_numbers : {A : Type 0} → (ℕ → ℕ → A) → A → Option ℕ → Option ℕ → A
@@ -38,8 +39,8 @@ IsSameServer n None None = Unit {0}
 IsSameServer n (Some old) (Some new) = slice_get n.servers new ≡ Some old
 IsSameServer n _ _ = ⊥
 
--- A settlement in new numbers: a controller may open on it, cells and listed servers are the same, and whoever has something of a shard has a new
--- number, as the shard has.
+-- A settlement in new numbers: a controller may open on it, cells and listed servers are the same, and whoever has
+-- something of a shard has a new number, as the shard has.
 pub record IsRenumberedAs (n : Renumbering) (old new : Settlement) : Type 0 where
   pub opening : IsOpening new.setup new.place new.room
   pub servers : StandsAtOnePlace n.servers
@@ -47,7 +48,8 @@ pub record IsRenumberedAs (n : Renumbering) (old new : Settlement) : Type 0 wher
   pub cells : (k v : ℕ) → new.place.cells k v ≡ renumbered n old.place.cells Absent k v
   pub listed : (k i : ℕ) → slice_get n.shards k ≡ Some i → IsSameServer n (old.place.listed i) (new.place.listed k)
   pub versions : (k i : ℕ) → slice_get n.shards k ≡ Some i → new.place.version k ≡ old.place.version i
-  pub all : (i j : ℕ) → old.place.cells i j ≢ Absent → (k : ℕ) × (v : ℕ) × (slice_get n.shards k ≡ Some i) × (slice_get n.servers v ≡ Some j)
+  pub all : (i j : ℕ) → old.place.cells i j ≢ Absent
+      → (k : ℕ) × (v : ℕ) × (slice_get n.shards k ≡ Some i) × (slice_get n.servers v ≡ Some j)
 
 -- the numbers that a configuration has in its own order: each stays
 abbrev pub own_numbers : Setup → Renumbering
@@ -62,11 +64,13 @@ NumbersMayStay = (s : Settlement) → IsOpening s.setup s.place s.room → IsRen
 -- an order, or its answer: of the same number, to the same server and of the same shard
 abbrev pub IsOrderAs : Renumbering → Order → Order → Type 0
 IsOrderAs n old new =
-    (new.number ≡ old.number) × (slice_get n.shards new.call.shard ≡ Some old.call.shard) × (slice_get n.servers new.call.server ≡ Some old.call.server)
+    (new.number ≡ old.number) × (slice_get n.shards new.call.shard ≡ Some old.call.shard)
+    × (slice_get n.servers new.call.server ≡ Some old.call.server)
 
 -- a request that was passed on: under the same number, to the same server and of the same shard
 abbrev pub IsPassAs : Renumbering → Ticket → Ticket → Type 0
-IsPassAs n old new = (new.number ≡ old.number) × (slice_get n.shards new.shard ≡ Some old.shard) × (slice_get n.servers new.target ≡ Some old.target)
+IsPassAs n old new = (new.number ≡ old.number) × (slice_get n.shards new.shard ≡ Some old.shard)
+    × (slice_get n.servers new.target ≡ Some old.target)
 
 -- a publication, or its answer: of the same version and the same shard
 abbrev pub IsPublicationAs : Renumbering → Publication → Publication → Type 0
@@ -88,11 +92,12 @@ pub record HasSettledAs (x : Settling) (n : Renumbering) (s : Settlement) (f : F
   pub base : (f.servers v).base ≡ agent_settled f.start.journal x.reopening.base
   pub cells : (k : ℕ) → ((f.servers v).slots k).cell ≡ renumbered n x.world.net.cells Absent k v
   pub lasts : (k : ℕ) → ((f.servers v).slots k).last ≡ renumbered n x.world.net.last 0 k v
-  pub loads : (k : ℕ) → ((f.servers v).slots k).load ≡ cell_load ((f.servers v).slots k).cell ((sizes_of s.setup).load k)
+  pub loads : (k : ℕ) → ((f.servers v).slots k).load
+      ≡ cell_load ((f.servers v).slots k).cell ((sizes_of s.setup).load k)
 
--- The controller opens on this fleet, whose servers and shards have new numbers, over the settlement in these: the number of the reopening is its
--- base, and what was sent before may still come. A server that has not taken its part has lost its slots: it turns Unknown by the next message,
--- and counts with what a restore will bring it.
+-- The controller opens on this fleet, whose servers and shards have new numbers, over the settlement in these: the
+-- number of the reopening is its base, and what was sent before may still come. A server that has not taken its part
+-- has lost its slots: it turns Unknown by the next message, and counts with what a restore will bring it.
 pub record IsFleetInForceAs (x : Settling) (n : Renumbering) (s : Settlement) (f : Fleet) : Type 0 where
   pub journal : f.journal ≡ []
   pub record_is : f.start.w ≡ opened (sizes_of s.setup) s.place s.room
@@ -106,20 +111,25 @@ pub record IsFleetInForceAs (x : Settling) (n : Renumbering) (s : Settlement) (f
   pub nonces : (v nonce : ℕ) → (f.servers v).base.nonce ≡ Some nonce → HasAskedUnder f.asks v nonce
   pub owner : f.owner ≡ agent_settled f.start.journal x.reopening.base
   pub shown : (k i : ℕ) → slice_get n.shards k ≡ Some i → IsEntryAs n (x.world.shown i) (f.shown k)
-  pub none_shown : (k : ℕ) → slice_get n.shards k ≡ None → ((f.shown k).server ≡ s.place.listed k) × ((f.shown k).version ≤ x.reopening.base)
+  pub none_shown : (k : ℕ) → slice_get n.shards k ≡ None
+      → ((f.shown k).server ≡ s.place.listed k) × ((f.shown k).version ≤ x.reopening.base)
   pub sent : AllByRecursion (λ l. WasOneOf (IsOrderAs n) x.world.net.sent l.order) f.sent
   pub answers : AllByRecursion (WasOneOf (IsOrderAs n) x.world.net.answers) f.answers
   pub passes : AllByRecursion (λ h. WasOneOf (IsPassAs n) x.world.net.passes (pass_seen h)) f.passes
   pub published : AllByRecursion (λ m. WasOneOf (IsPublicationAs n) x.world.published m.publication) f.published
   pub stored : AllByRecursion (WasOneOf (IsPublicationAs n) x.world.stored) f.stored
 
--- Once a settlement is in force, the fleet opens on it, whatever its numbers: so all laws of the fleet hold from there on.
+-- Once a settlement is in force, the fleet opens on it, whatever its numbers: so all laws of the fleet hold from there
+-- on.
 abbrev pub FleetOpensAs : Settling → Type 0
-FleetOpensAs x = (s new : Settlement) (n : Renumbering) (f : Fleet) → x.reopening.settlement ≡ Some s → AllTook x.reopening →
+FleetOpensAs x = (s new : Settlement) (n : Renumbering) (f : Fleet) → x.reopening.settlement ≡ Some s
+    → AllTook x.reopening →
     IsRenumberedAs n s new → IsFleetInForceAs x n new f → IsFleetOpening new.setup f
 
 -- There is such a fleet, without permits, in which each server that has taken its part has its slots.
 abbrev pub FleetIsThereAs : Settling → Type 0
-FleetIsThereAs x = (s new : Settlement) (n : Renumbering) → x.reopening.settlement ≡ Some s → AllTook x.reopening → IsRenumberedAs n s new →
+FleetIsThereAs x = (s new : Settlement) (n : Renumbering) → x.reopening.settlement ≡ Some s → AllTook x.reopening
+    → IsRenumberedAs n s new →
     (f : Fleet) × IsFleetInForceAs x n new f × ((v : ℕ) → f.start.permits v ≡ None)
-    × ((v j : ℕ) → slice_get n.servers v ≡ Some j → is_settled_at x.reopening.base (x.bases (Server j)) ≡ true → has_lost f v ≡ false)
+    × ((v j : ℕ) → slice_get n.servers v ≡ Some j → is_settled_at x.reopening.base (x.bases (Server j)) ≡ true
+    → has_lost f v ≡ false)

@@ -1,5 +1,5 @@
--- The service over all its epochs: a controller runs plans over a fleet; a reopening begins over it, may be replaced by another at any point,
--- settles the servers, and a controller opens on the fleet that comes of it.
+-- The service over all its epochs: a controller runs plans over a fleet; a reopening begins over it, may be replaced by
+-- another at any point, settles the servers, and a controller opens on the fleet that comes of it.
 use Rattle.std.specs.Prelude.{◌≡◌, ◌⊎◌, ◌<◌, ℕ, ◌+◌, Bool, Option, Some, None, List, [], ◌∷◌, slice_get}
 use Rattle.sm_plan_code.specs.declared.limits.TheConstants.{MOST_PLACES}
 pub use Rattle.laws_network.specs.Words.{Setup, sizes_of}
@@ -26,7 +26,8 @@ pub data ServiceEvent : Type 0 where
   Begins : (world : World) (base servers : ℕ) (lost : ℕ → Bool) → ServiceEvent
   -- something happens while it is under way; another one may replace it
   Meets : (event : SettlingEvent) → ServiceEvent
-  -- its settlement is in force, and a controller opens on this fleet, whose servers and shards have new numbers: by these it is this settlement
+  -- its settlement is in force, and a controller opens on this fleet, whose servers and shards have new numbers: by
+  -- these it is this settlement
   Opens : (numbers : Renumbering) (opening : Settlement) (fleet : Fleet) → ServiceEvent
 
 -- a controller opens on a fleet of this configuration, if something was settled
@@ -47,15 +48,16 @@ abbrev pub service_run : List ServiceEvent → Service → Service
 service_run [] p = p
 service_run (e ∷ es) p = service_run es (service_comes p e)
 
--- A reopening may begin over a fleet: with a number and servers given up as it may, over a world that has what the fleet's controller has
--- recorded, what the map shows, and all that was sent. There always is such a world.
+-- A reopening may begin over a fleet: with a number and servers given up as it may, over a world that has what the
+-- fleet's controller has recorded, what the map shows, and all that was sent. There always is such a world.
 pub record MayBegin (setup : Setup) (f : Fleet) (world : World) (base : ℕ) (lost : ℕ → Bool) : Type 0 where
   pub over : FleetCanReopen setup f
   pub world_is : over.world ≡ world
   pub may : MayReopen (settling_of f world) base lost
 
--- A controller may open on a fleet: all have taken the settlement, and the fleet is what comes of it in the controller's own numbers. The permit of a
--- server that is down is the one that it had, or one that was never given and is not among those that will be.
+-- A controller may open on a fleet: all have taken the settlement, and the fleet is what comes of it in the
+-- controller's own numbers. The permit of a server that is down is the one that it had, or one that was never given and
+-- is not among those that will be.
 pub record MayOpen (setup : Setup) (before : Fleet) (x : Settling) (n : Renumbering) (new : Settlement) (after : Fleet) : Type 0 where
   pub settlement : Settlement
   pub settled : x.reopening.settlement ≡ Some settlement
@@ -63,7 +65,8 @@ pub record MayOpen (setup : Setup) (before : Fleet) (x : Settling) (n : Renumber
   pub renumbered : IsRenumberedAs n settlement new
   pub opens : IsFleetInForceAs x n new after
   pub permits : (v permit : ℕ) → after.start.permits v ≡ Some permit →
-      ((j : ℕ) × (slice_get n.servers v ≡ Some j) × (j < (sizes_of setup).servers) × ((controller before).permits j ≡ Some permit))
+      ((j : ℕ) × (slice_get n.servers v ≡ Some j) × (j < (sizes_of setup).servers)
+      × ((controller before).permits j ≡ Some permit))
       ⊎ (x.reopening.base + MOST_PLACES < permit)
 
 -- what the controller does is what it may

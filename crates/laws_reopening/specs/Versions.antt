@@ -1,7 +1,8 @@
 -- The published map over all epochs and reopenings.
 use Rattle.std.specs.Prelude.{◌≡◌, ◌≤◌, ℕ, Some, List, [], ◌∷◌, slice_get}
 use Rattle.laws_network.specs.Words.{Entry}
-use Rattle.laws_reopening.specs.Service.{AllServiceFit, Opens, Reopens, Runs, Service, ServiceEvent, service_comes, service_run}
+use Rattle.laws_reopening.specs.Service.{AllServiceFit, Opens, Reopens, Runs, Service, ServiceEvent, service_comes}
+use Rattle.laws_reopening.specs.Service.{service_run}
 
 -- what the map shows of each shard
 abbrev pub shown_by : Service → ℕ → Entry
@@ -16,7 +17,8 @@ IsNumberAfter _ _ s after = after ≡ s
 -- after a list of events
 abbrev pub IsNumberAfterAll : Service → List ServiceEvent → ℕ → ℕ → Type 0
 IsNumberAfterAll p [] s after = after ≡ s
-IsNumberAfterAll p (e ∷ es) s after = (between : ℕ) × IsNumberAfter p e s between × IsNumberAfterAll (service_comes p e) es between after
+IsNumberAfterAll p (e ∷ es) s after = (between : ℕ) × IsNumberAfter p e s between
+    × IsNumberAfterAll (service_comes p e) es between after
 
 -- No version that the map shows goes back, whatever comes, as long as its shard has a number.
 abbrev pub VersionsNeverGoBack : Service → Type 0

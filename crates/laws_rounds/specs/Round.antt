@@ -1,5 +1,6 @@
 -- Plans end: rounds in which what is outstanding comes, and how many of them a plan takes.
-use Rattle.std.specs.Prelude.{◌≡◌, ◌≤◌, ◌<◌, ◌⊎◌, ℕ, ◌+◌, ◌-◌, true, false, Some, List, [], ◌∷◌, length, slice_get, if◌then◌else◌}
+use Rattle.std.specs.Prelude.{◌≡◌, ◌≤◌, ◌<◌, ◌⊎◌, ℕ, ◌+◌, ◌-◌, true, false, Some, List, [], ◌∷◌, length, slice_get}
+use Rattle.std.specs.Prelude.{if◌then◌else◌}
 use Rattle.std.specs.List.{AllByRecursion}
 use Rattle.sm_placement.specs.Setup.{Setup}
 use Rattle.sm_placement.specs.Sums.{sum_below}
@@ -10,7 +11,8 @@ use Rattle.laws_network.specs.Words.{State, Step, StreamId}
 use Rattle.laws_network.specs.Net.{Order}
 use Rattle.laws_network.specs.World.{Publication}
 use Rattle.laws_network.specs.Controller.{Letter, Notice, letter_of, is_local, notice_of}
-use Rattle.laws_network.specs.Fleet.{Committed, Fleet, FleetEvent, HearOwner, HearServer, Judge, Make, Open, Publish, controller, fleet_comes, fleet_run, owner_verdict, verdict_of}
+use Rattle.laws_network.specs.Fleet.{Committed, Fleet, FleetEvent, HearOwner, HearServer, Judge, Make, Open, Publish}
+use Rattle.laws_network.specs.Fleet.{controller, fleet_comes, fleet_run, owner_verdict, verdict_of}
 use Rattle.laws_network.specs.FleetLaws.{AllFleetFit, AreNamedKnown}
 
 -- ---- along a list of events
@@ -35,8 +37,8 @@ AnswerComes o = Sometime (λ f e es. (k : ℕ) × (e ≡ HearServer k) × (slice
 abbrev pub WorkEnds : Order → List FleetEvent → Fleet → Type 0
 WorkEnds o = Sometime (λ f e es. ((fleet_comes f e).0 ≡ Committed o) × AnswerComes o es (fleet_comes f e).1)
 
--- What a server owes by its verdict: the end of a work that it begins or is at, and the answer to an order that has had its effect. It owes
--- nothing to an order that it turns away.
+-- What a server owes by its verdict: the end of a work that it begins or is at, and the answer to an order that has had
+-- its effect. It owes nothing to an order that it turns away.
 abbrev pub ServerKeeps : Verdict → Order → List FleetEvent → Fleet → Type 0
 ServerKeeps verdict.Begin o es f = WorkEnds o es f
 ServerKeeps verdict.Working o es f = WorkEnds o es f
@@ -45,7 +47,8 @@ ServerKeeps _ o es f = Unit {0}
 
 -- the order comes to its server, which keeps what it owes then
 abbrev pub OrderComes : Letter → List FleetEvent → Fleet → Type 0
-OrderComes l = Sometime (λ f e es. (k : ℕ) × (e ≡ Judge k) × (slice_get f.sent k ≡ Some l) × ServerKeeps (verdict_of f l) l.order es (fleet_comes f e).1)
+OrderComes l = Sometime (λ f e es. (k : ℕ) × (e ≡ Judge k) × (slice_get f.sent k ≡ Some l)
+    × ServerKeeps (verdict_of f l) l.order es (fleet_comes f e).1)
 
 -- the map owner's answer to the publication comes to the controller
 abbrev pub ConfirmationComes : Publication → List FleetEvent → Fleet → Type 0
@@ -59,7 +62,8 @@ OwnerKeeps _ p es f = Unit {0}
 
 -- the publication comes to the map's owner, which keeps what it owes then
 abbrev pub PublicationComes : Notice → List FleetEvent → Fleet → Type 0
-PublicationComes n = Sometime (λ f e es. (k : ℕ) × (e ≡ Publish k) × (slice_get f.published k ≡ Some n) × OwnerKeeps (owner_verdict f n) n.publication es (fleet_comes f e).1)
+PublicationComes n = Sometime (λ f e es. (k : ℕ) × (e ≡ Publish k) × (slice_get f.published k ≡ Some n)
+    × OwnerKeeps (owner_verdict f n) n.publication es (fleet_comes f e).1)
 
 -- Of a present order something comes: the order itself, the end of its work, or an answer to it.
 abbrev pub OrderGoesOn : Letter → List FleetEvent → Fleet → Type 0
@@ -82,7 +86,8 @@ pub record IsRound (setup : Setup) (f : Fleet) (es : List FleetEvent) : Type 0 w
   pub fit : AllFleetFit setup f es
   pub epoch : AllByRecursion StaysInEpoch es
   pub known : Always AreNamedKnown es f
-  pub steps : (id : StreamId) → is_running (controller f).w id ≡ true → is_local (controller f).w (Step id) ≡ true → Sometime (λ g e rest. e ≡ Make (Step id)) es f
+  pub steps : (id : StreamId) → is_running (controller f).w id ≡ true → is_local (controller f).w (Step id) ≡ true
+      → Sometime (λ g e rest. e ≡ Make (Step id)) es f
   pub orders : (id : StreamId) (l : Letter) → letter_of (controller f) id ≡ Some l → OrderGoesOn l es f
   pub publications : (id : StreamId) (n : Notice) → notice_of (controller f) id ≡ Some n → PublicationGoesOn n es f
 
@@ -108,7 +113,8 @@ after_rounds (es ∷ rounds) f = after_rounds rounds (fleet_run es f)
 
 -- A plan that has started is done after at most as many rounds as its streams have steps left.
 abbrev pub RoundsEndPlans : Setup → Fleet → Type 0
-RoundsEndPlans setup f = (rounds : List (List FleetEvent)) (k : ℕ) → AreRounds setup f rounds → k < length (controller f).w.plans →
+RoundsEndPlans setup f = (rounds : List (List FleetEvent)) (k : ℕ) → AreRounds setup f rounds
+    → k < length (controller f).w.plans →
     steps_left (controller f).w k ≤ length rounds → is_unfinished (controller (after_rounds rounds f)).w k ≡ false
 
 -- While each server that an unfinished plan names has its slots, a round can come.

@@ -9,13 +9,15 @@ use Rattle.laws_driver.specs.DrivenLaws.{IsDrivenSafely, IsFleetDriven}
 use Rattle.smpland_session.specs.Asked.{DoesAsSaid}
 use Rattle.smpland_session.specs.Changes.{SessionChanges}
 use Rattle.smpland_session.specs.declared.session.Session.{Session}
-use Rattle.laws_run.specs.Runs.{AllMomentsFit, Happens, LineFits, IsOpenWith, IsRunReached, Moment, Run, after_moment, after_moments}
+use Rattle.laws_run.specs.Runs.{AllMomentsFit, Happens, LineFits, IsOpenWith, IsRunReached, Moment, Run, after_moment}
+use Rattle.laws_run.specs.Runs.{after_moments}
 use Rattle.laws_run.specs.Truth.{LineIsTrue}
 
 -- A line that changes something is a command of the driver, whose entries tell the truth if the line does: the run goes
 -- on by it.
 abbrev pub LinesGoOn : Run → Type 0
-LinesGoOn x = (line : List ℕ) (session : Session) → SessionChanges x.session session → DoesAsSaid line x.session session →
+LinesGoOn x = (line : List ℕ) (session : Session) → SessionChanges x.session session
+    → DoesAsSaid line x.session session →
     session.under_way ≡ None → LineIsTrue x.driven line →
     (command : Command) × (driver : DriverModel) × (es : List JournalEntry) × LineFits x line command session driver es
 

@@ -2,7 +2,8 @@
 -- which anything may happen meanwhile. Processes are killed, and others go on.
 use Rattle.std.specs.Prelude.{◌≡◌, ℕ, List, [], ◌∷◌, Some, None}
 use Rattle.laws_driver.specs.Control.{Command, DriverModel, JournalEntry}
-use Rattle.laws_driver.specs.Driven.{Driven, FleetEvent, Goes, IsDrivenOpening, Takes, TurnFits, WritesNothing, after_turn, driver_setup}
+use Rattle.laws_driver.specs.Driven.{Driven, FleetEvent, Goes, IsDrivenOpening, Takes, TurnFits, WritesNothing}
+use Rattle.laws_driver.specs.Driven.{after_turn, driver_setup}
 use Rattle.smpland_session.specs.Asked.{DoesAsSaid}
 use Rattle.smpland_session.specs.Changes.{IsNew, SessionChanges, driver_of}
 use Rattle.smpland_session.specs.declared.session.Session.{Session}
@@ -24,7 +25,8 @@ pub data Moment : Type 0 where
   -- the process is gone, and another one has this session, and this driver
   Recovers : (session : Session) (driver : DriverModel) → Moment
   -- a line comes, which is this command of the driver; the session, its driver and what is written afterwards
-  Hears : (line : List ℕ) (command : Command) (session : Session) (driver : DriverModel) (entries : List JournalEntry) → Moment
+  Hears : (line : List ℕ) (command : Command) (session : Session) (driver : DriverModel) (entries : List JournalEntry)
+      → Moment
 
 -- what is there after it
 abbrev pub after_moment : Run → Moment → Run

@@ -3,13 +3,16 @@
 use Rattle.std.specs.Prelude.{◌≡◌, ◌<◌, ℕ, Bool, true, Option, Some, List, [], ◌∷◌, length, map, slice_get}
 use Rattle.sm_plan_code.specs.declared.limits.TheConstants.{MOST_PLACES}
 pub use Rattle.laws_network.specs.World.{World}
-pub use Rattle.laws_network.specs.Reopening.{Arrives, Comes, Confirm, Entry, Fenced, Forgets, Message, Records, Reopen, Settled, Settlement, Settling, SettlingEvent, Told, Took, entered, records, settling_comes}
+pub use Rattle.laws_network.specs.Reopening.{Arrives, Comes, Confirm, Entry, Fenced, Forgets, Message, Records, Reopen}
+pub use Rattle.laws_network.specs.Reopening.{Settled, Settlement, Settling, SettlingEvent, Told, Took, entered, records}
+pub use Rattle.laws_network.specs.Reopening.{settling_comes}
 pub use Rattle.laws_network.specs.ReopeningLaws.{AllTook, IsGivenUp, no_reopening}
 pub use Rattle.laws_network.specs.FleetReopening.{FleetCanReopen, IsOneOf, settling_of}
 pub use Rattle.sm_driver.specs.Driver.{DriverModel, base, record_of}
 pub use Rattle.sm_driver.specs.Orders.{epoch_base}
 pub use Rattle.sm_driver.specs.Permits.{permit_of}
-pub use Rattle.laws_driver.specs.Driven.{Driven, Fleet, IsControllerOf, IsDrivenOpening, Turn, TurnFits, after_turn, controller, driver_setup}
+pub use Rattle.laws_driver.specs.Driven.{Driven, Fleet, IsControllerOf, IsDrivenOpening, Turn, TurnFits, after_turn}
+pub use Rattle.laws_driver.specs.Driven.{controller, driver_setup}
 pub use Rattle.laws_driver.specs.DrivenLaws.{IsJustOpened}
 pub use Rattle.laws_reopening.specs.Renumbering.{IsFleetInForceAs, IsRenumberedAs, Renumbering}
 pub use Rattle.sm_reopening.specs.declared.ongoing.OngoingReopening.{OngoingReopening}
@@ -61,7 +64,8 @@ AreGivenUp y lost = (v : ℕ) → lost v ≡ true → IsGivenUp y v
 -- The driver takes the command to reopen: by its contract, the reopening is of a later epoch, over what the driver has
 -- recorded.
 pub record MayReopenAs (x : Driven) (world : World) (number servers : ℕ) (lost : ℕ → Bool) (new : OngoingReopening) : Type 0 where
-  pub reopening : net_reopening new ≡ entered (Reopen number servers lost) (no_reopening (length (driver_setup x).servers))
+  pub reopening : net_reopening new
+      ≡ entered (Reopen number servers lost) (no_reopening (length (driver_setup x).servers))
   pub place : recorded_place new ≡ (record_of x.driver).place
   pub epoch : ℕ
   pub later : x.driver.epoch < epoch

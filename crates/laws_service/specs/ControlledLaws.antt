@@ -11,7 +11,12 @@ use Rattle.laws_reopening.specs.OrderLaws.{OldOrdersRest, OrderActsOnce}
 use Rattle.laws_reopening.specs.Service.{IsServiceReached, Reopens as ServiceReopens, Runs, Service}
 use Rattle.laws_reopening.specs.PermitLaws.{PermitEndsOnce}
 use Rattle.laws_reopening.specs.ServiceLaws.{ServiceIsSafe}
-use Rattle.laws_service.specs.Controlled.{AllTook, AreGivenUp, AreLow, Controlled, Driven, DriverModel, Drives, Fleet, IsControlledReached, IsControllerOf, IsJustOpened, IsRenumberedAs, ControlledFits, OngoingReopening, Opens, Renumbering, Reopen, Reopens, Settlement, Settles, Settling, World, base, controller, driver_setup, entered, epoch_base, net_reopening, no_reopening, permits_as, record_of, recorded_place, settling_of}
+use Rattle.laws_service.specs.Controlled.{AllTook, AreGivenUp, AreLow, Controlled, Driven, DriverModel, Drives, Fleet}
+use Rattle.laws_service.specs.Controlled.{IsControlledReached, IsControllerOf, IsJustOpened, IsRenumberedAs}
+use Rattle.laws_service.specs.Controlled.{ControlledFits, OngoingReopening, Opens, Renumbering, Reopen, Reopens}
+use Rattle.laws_service.specs.Controlled.{Settlement, Settles, Settling, World, base, controller, driver_setup, entered}
+use Rattle.laws_service.specs.Controlled.{epoch_base, net_reopening, no_reopening, permits_as, record_of}
+use Rattle.laws_service.specs.Controlled.{recorded_place, settling_of}
 
 -- ---- the relation of a driver to its service
 
@@ -67,8 +72,10 @@ VersionsStayBelow c = (s : ℕ) → (record_of (driver_at c)).place.version s < 
 
 -- The first driver of a journal has a service, whose servers have what the placement says.
 abbrev pub ControlledOpens : Type 0
-ControlledOpens = (setup : Setup) (p : Place) (room : ℕ) (d : DriverModel) → IsOpening setup p room → IsJustOpened setup p room [] d → d.fence ≡ 0 → AreLow p.version →
-    (f : Fleet) × IsControlledReached (Drives (record { driver = d; fleet = f })) × ((s v : ℕ) → ((f.servers v).slots s).cell ≡ p.cells s v)
+ControlledOpens = (setup : Setup) (p : Place) (room : ℕ) (d : DriverModel) → IsOpening setup p room
+    → IsJustOpened setup p room [] d → d.fence ≡ 0 → AreLow p.version →
+    (f : Fleet) × IsControlledReached (Drives (record { driver = d; fleet = f }))
+    × ((s v : ℕ) → ((f.servers v).slots s).cell ≡ p.cells s v)
 
 -- Whenever the driver runs plans, it can reopen: there is a world for each reopening of a later epoch that begins over
 -- what it has recorded, if those that are given up are gone.
@@ -82,7 +89,9 @@ DriverCanReopen (Drives x) = (epoch servers : ℕ) (lost : ℕ → Bool) (new : 
 -- Once all have taken the settlement, a driver that opens on it, in whatever numbers, has a fleet.
 abbrev pub DriverCanOpen : Controlled → Type 0
 DriverCanOpen (Drives x) = Unit {0}
-DriverCanOpen (Settles x ongoing y) = (s new : Settlement) (n : Renumbering) (d : DriverModel) → (net_reopening ongoing).settlement ≡ Some s → AllTook (net_reopening ongoing) →
-    IsRenumberedAs n s new → IsJustOpened new.setup new.place new.room (permits_as n x.driver.permits) d → AreEarlierPermits (base d) (permits_as n x.driver.permits) →
+DriverCanOpen (Settles x ongoing y) = (s new : Settlement) (n : Renumbering) (d : DriverModel)
+    → (net_reopening ongoing).settlement ≡ Some s → AllTook (net_reopening ongoing) →
+    IsRenumberedAs n s new → IsJustOpened new.setup new.place new.room (permits_as n x.driver.permits) d
+    → AreEarlierPermits (base d) (permits_as n x.driver.permits) →
     base d ≡ (net_reopening ongoing).base → d.fence ≡ (net_reopening ongoing).base → AreLow new.place.version →
     (g : Fleet) × ControlledFits (Settles x ongoing y) (Opens n new d g)

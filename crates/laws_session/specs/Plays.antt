@@ -26,7 +26,8 @@ with_driver a o d = record a { opened = Some (record o { driver = d }) }
 
 -- Whenever the driver of a journal can open the next epoch, the line that asks for it can be an entry.
 abbrev pub NextEpochIsAnEntry : Type 0
-NextEpochIsAnEntry = (text : List ℕ) (a : Session) (o : JournalState) (next : DriverModel) → data_of text ≡ Some next_epoch_entry → a.opened ≡ Some o → a.under_way ≡ None →
+NextEpochIsAnEntry = (text : List ℕ) (a : Session) (o : JournalState) (next : DriverModel)
+    → data_of text ≡ Some next_epoch_entry → a.opened ≡ Some o → a.under_way ≡ None →
     OpensNext o.driver next → TakesEntry text a (with_driver a o next)
 
 -- the session with this reopening under way
@@ -36,5 +37,6 @@ with_reopening a r = record a { under_way = Some (record { reopening = r }) }
 -- Whenever the reopening under way can take the answer to a fence that a line says, the line can be an entry.
 abbrev pub AnswerIsAnEntry : Type 0
 AnswerIsAnEntry = (text : List ℕ) (value : Data) (server : Option (Bor (List ℕ))) (base : ℕ) (told : InventoryText) (a : Session) (u : UnderWay) (next : ReopeningModel)
-    → data_of text ≡ Some value → Says value (line.Reopening (reopening.Fenced server base told)) → a.under_way ≡ Some u → TakesFenced server base told u.reopening next
+    → data_of text ≡ Some value → Says value (line.Reopening (reopening.Fenced server base told))
+    → a.under_way ≡ Some u → TakesFenced server base told u.reopening next
     → TakesEntry text a (with_reopening a next)

@@ -41,7 +41,8 @@ pub record TakesEntry (text : List ℕ) (old new : Session) : Type 0 where
 
 -- If two sessions take the same entry, they are alike afterwards.
 abbrev pub EntriesGoAlike : Session → Session → Type 0
-EntriesGoAlike a b = (text : List ℕ) (new next : Session) → TakesEntry text a new → TakesEntry text b next → AreSessionsAlike new next
+EntriesGoAlike a b = (text : List ℕ) (new next : Session) → TakesEntry text a new → TakesEntry text b next
+    → AreSessionsAlike new next
 
 -- Entries, one after the other, lead from one session to another.
 abbrev pub TakesEntries : List (List ℕ) → Session → Session → Type 0
@@ -50,7 +51,8 @@ TakesEntries (text ∷ texts) old new = (between : Session) × TakesEntry text o
 
 -- The same entries make sessions that are alike of both.
 abbrev pub ReplaysStayAlike : Session → Session → Type 0
-ReplaysStayAlike a b = (texts : List (List ℕ)) (new next : Session) → TakesEntries texts a new → TakesEntries texts b next → AreSessionsAlike new next
+ReplaysStayAlike a b = (texts : List (List ℕ)) (new next : Session) → TakesEntries texts a new
+    → TakesEntries texts b next → AreSessionsAlike new next
 
 -- So sessions that begin with nothing and take the same entries are alike: a session after its recovery is like the one
 -- before.
@@ -61,7 +63,8 @@ ReplaysAgree = (a b : Session) → IsNew a → IsNew b → ReplaysStayAlike a b
 
 -- two lines name the same server, or none
 abbrev pub IsSameName : Option (Bor (List ℕ)) → Option (Bor (List ℕ)) → Type 0
-IsSameName server other = option_map (λ (name : Bor (List ℕ)). name.now) other ≡ option_map (λ (name : Bor (List ℕ)). name.now) server
+IsSameName server other = option_map (λ (name : Bor (List ℕ)). name.now) other
+    ≡ option_map (λ (name : Bor (List ℕ)). name.now) server
 
 -- two lines tell the same: rows of the same values, or the same nonce
 abbrev pub IsSameTold : InventoryText → InventoryText → Type 0
@@ -74,10 +77,13 @@ IsSameTold _ _ = ⊥
 -- afterwards.
 pub record ReopeningsGoAlike (r s : ReopeningModel) : Type 0 where
   pub fenced : (server other : Option (Bor (List ℕ))) (base : ℕ) (tells also : InventoryText) (new next : ReopeningModel) → IsSameName server other →
-      IsSameTold tells also → TakesFenced server base tells r new → TakesFenced other base also s next → AreReopeningsAlike new next
-  pub confirmed : (base : ℕ) (cells lost others more : List Tree) (new next : ReopeningModel) → items_view others ≡ items_view cells →
+      IsSameTold tells also → TakesFenced server base tells r new → TakesFenced other base also s next
+      → AreReopeningsAlike new next
+  pub confirmed : (base : ℕ) (cells lost others more : List Tree) (new next : ReopeningModel)
+      → items_view others ≡ items_view cells →
       ConfirmsAt base cells lost r new → ConfirmsAt base others more s next → AreReopeningsAlike new next
-  pub settled : (server other : Option (Bor (List ℕ))) (base : ℕ) (new next : ReopeningModel) → IsSameName server other → TakesSettledBy server base r new →
+  pub settled : (server other : Option (Bor (List ℕ))) (base : ℕ) (new next : ReopeningModel)
+      → IsSameName server other → TakesSettledBy server base r new →
       TakesSettledBy other base s next → AreReopeningsAlike new next
 
 -- so it is of all reopenings that are alike

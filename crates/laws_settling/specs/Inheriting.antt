@@ -1,5 +1,6 @@
 -- A settlement by what was told: each shard goes to a server with the best claim to it, and secondaries stay.
-use Rattle.std.specs.Prelude.{◌≢◌, ◌≤◌, ◌<◌, ℕ, ◌==◌, ◌&&◌, Bool, false, not, Option, Some, None, length, nat_lt, if◌then◌else◌}
+use Rattle.std.specs.Prelude.{◌≢◌, ◌≤◌, ◌<◌, ℕ, ◌==◌, ◌&&◌, Bool, false, not, Option, Some, None, length, nat_lt}
+use Rattle.std.specs.Prelude.{if◌then◌else◌}
 use Rattle.sm_server.specs.declared.call.Cell.{Cell}
 use Rattle.sm_server.specs.declared.call.Cell.TheVariants.{Absent, Secondary, Primary}
 use Rattle.sm_placement.specs.Sums.{any_below}
@@ -27,7 +28,8 @@ has_best r n k v = nat_lt 0 (claim_by r k v) && not (any_below n (λ u. nat_lt (
 abbrev pub successor : Reopening → ℕ → ℕ → Option ℕ
 successor r n k = first_below n (has_best r n k)
 
--- what becomes of a cell whose server does not inherit the shard: a secondary stays, and a party of a handover gives the shard up
+-- what becomes of a cell whose server does not inherit the shard: a secondary stays, and a party of a handover gives
+-- the shard up
 abbrev pub left_of : Cell → Cell
 left_of Secondary = Secondary
 left_of _ = Absent
@@ -41,7 +43,8 @@ is_successor (Some u) v = u == v
 abbrev pub inherited : Reopening → ℕ → ℕ → ℕ → Cell
 inherited r n k v = if is_successor (successor r n k) v then Primary else left_of (told_cell (r.told (Server v)) k)
 
--- The settlement of these cells under a configuration, with room for a log. The map lists who inherits, and no server is down.
+-- The settlement of these cells under a configuration, with room for a log. The map lists who inherits, and no server
+-- is down.
 abbrev pub settlement_told : Reopening → Setup → ℕ → ℕ → Settlement
 settlement_told r setup limit room = record {
   setup = setup;
@@ -61,6 +64,9 @@ settlement_told r setup limit room = record {
 pub record HasPlace (r : Reopening) (setup : Setup) : Type 0 where
   pub rows : IsSetup setup
   pub servers : length setup.servers ≤ r.servers
-  pub known : (k v : ℕ) → told_cell (r.told (Server v)) k ≢ Absent → (k < length setup.shards) × (v < length setup.servers)
-  pub rooms : (v : ℕ) → v < length setup.servers → load_of (sizes_of setup) (inherited r (length setup.servers)) v ≤ (sizes_of setup).room v
-  pub floors : (k : ℕ) → k < length setup.shards → (sizes_of setup).floor k ≤ live_in (length setup.servers) (inherited r (length setup.servers) k) (λ v. false)
+  pub known : (k v : ℕ) → told_cell (r.told (Server v)) k ≢ Absent
+      → (k < length setup.shards) × (v < length setup.servers)
+  pub rooms : (v : ℕ) → v < length setup.servers
+      → load_of (sizes_of setup) (inherited r (length setup.servers)) v ≤ (sizes_of setup).room v
+  pub floors : (k : ℕ) → k < length setup.shards
+      → (sizes_of setup).floor k ≤ live_in (length setup.servers) (inherited r (length setup.servers) k) (λ v. false)

@@ -1,5 +1,6 @@
 -- A server's base: what orders it turns away, and how fences, settles, restores and lost memory change it.
-use Rattle.std.specs.Prelude.{ℕ, ◌==◌, Bool, true, false, not, ◌&&◌, ◌||◌, nat_lt, Option, Some, None, is_some, option_map, if◌then◌else◌}
+use Rattle.std.specs.Prelude.{ℕ, ◌==◌, Bool, true, false, not, ◌&&◌, ◌||◌, nat_lt, Option, Some, None, is_some}
+use Rattle.std.specs.Prelude.{option_map, if◌then◌else◌}
 use Rattle.sm_agent.specs.declared.base.Base.{Base}
 use Rattle.sm_agent.specs.declared.base.Reopening.{Reopening}
 use Rattle.sm_agent.specs.declared.base.Settlement.{Settlement}
@@ -27,8 +28,8 @@ fenced base reopening nonce =
     else if base.fenced && is_at base reopening then Again
     else Ignored
 
--- A message is meant for the server as it stands: it names the nonce of one that is Unknown, and none of one that has its slots.
--- A nonce of 0 has yet to be made.
+-- A message is meant for the server as it stands: it names the nonce of one that is Unknown, and none of one that has
+-- its slots. A nonce of 0 has yet to be made.
 abbrev pub is_meant : Option ℕ → Option ℕ → Bool
 is_meant None None = true
 is_meant (Some nonce) (Some named) = nonce == named && not (nonce == 0)

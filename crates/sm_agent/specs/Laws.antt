@@ -1,4 +1,5 @@
--- The laws that the definitions come to: orders have their effect once and in their order, and none at a server that is Unknown or fenced.
+-- The laws that the definitions come to: orders have their effect once and in their order, and none at a server that is
+-- Unknown or fenced.
 use Rattle.std.specs.Prelude.{◌≡◌, ◌≢◌, ◌<◌, ◌≤◌, ◌⊎◌, ℕ, true, false, List, Some, None, Ok, IsSome, if◌then◌else◌}
 use Rattle.sm_server.specs.declared.call.Cell.TheVariants.{Prepared, Primary, Forwarding}
 use Rattle.sm_server.specs.declared.call.Role.TheVariants as role
@@ -22,7 +23,8 @@ use Rattle.sm_agent.specs.declared.request.Request.TheVariants.{Passed}
 use Rattle.sm_agent.specs.declared.request.Routing.TheVariants.{Execute, PassOn, NotHere, NotYet}
 use Rattle.sm_agent.specs.Assignment.{assigned, assigned_shard, count_brought}
 use Rattle.sm_agent.specs.Base.{lacks_slots, fenced, settled, restored, heeded}
-use Rattle.sm_agent.specs.Order.{vacant, cell_load, may_delete, judged, begun_slot, abandoned, is_done, committed, published}
+use Rattle.sm_agent.specs.Order.{vacant, cell_load, may_delete, judged, begun_slot, abandoned, is_done, committed}
+use Rattle.sm_agent.specs.Order.{published}
 use Rattle.sm_agent.specs.Request.{routed}
 
 -- A commit makes the call of the table.
@@ -54,7 +56,8 @@ WorkGoesOn = (base : Base) (slot : Slot) (used : ℕ) (order : Order) →
     judged base slot used order ≡ verdict.Begin →
     (judged base (begun_slot slot order) used order ≡ verdict.Working) ×
     (judged base (abandoned (begun_slot slot order)) used order ≡ verdict.Begin) ×
-    ((at : ℕ) → is_done order.call slot.cell slot.cut at ≡ true → IsSome (committed base (begun_slot slot order) order at))
+    ((at : ℕ) → is_done order.call slot.cell slot.cut at ≡ true
+    → IsSome (committed base (begun_slot slot order) order at))
 
 -- An Unknown server takes no order, commits none and executes nothing.
 abbrev pub UnknownDoesNothing : Type 0
@@ -70,7 +73,8 @@ FencedCommitsNothing = (base : Base) (reopening : Reopening) (nonce : ℕ) (next
     (base.number < next.number) × (next.number ≡ reopening.number) ×
     ((slot : Slot) (order : Order) (at : ℕ) → committed next slot order at ≡ None)
 
--- A settle is taken once, for the fence that the server stands at and the nonce that it answered with; then it is answered again.
+-- A settle is taken once, for the fence that the server stands at and the nonce that it answered with; then it is
+-- answered again.
 abbrev pub SettlesOnce : Type 0
 SettlesOnce = (base : Base) (settlement : Settlement) (next : Base) →
     settled base settlement ≡ Taken next →
@@ -85,8 +89,8 @@ RestoresOnce = (base : Base) (restoration : Restoration) (next : Base) →
     (base.nonce ≡ Some restoration.nonce) × (lacks_slots next ≡ false) ×
     ((other : Restoration) → restored next other ≡ Ignored)
 
--- A request is executed at a primary at which nothing is at work, or passed on to a new owner that has applied all writes up to
--- the cut and is not frozen.
+-- A request is executed at a primary at which nothing is at work, or passed on to a new owner that has applied all
+-- writes up to the cut and is not frozen.
 abbrev pub ExecutesAtOwner : Type 0
 ExecutesAtOwner = (base : Base) (slot : Slot) (applied : ℕ) (request : Request) →
     routed base slot applied request ≡ Execute →
@@ -119,7 +123,8 @@ PassesOnAtCut = (base : Base) (slot : Slot) (applied : ℕ) (request : Request) 
     routed base slot applied request ≡ PassOn to handover cut →
     (base.fenced ≡ false) × (slot.cell ≡ Forwarding to handover) × (slot.cut ≡ Some cut)
 
--- A server that still has its slots once it has heard of its journal's last reopening is as it was, and its base is not below that reopening's.
+-- A server that still has its slots once it has heard of its journal's last reopening is as it was, and its base is not
+-- below that reopening's.
 abbrev pub HeedsReopenings : Type 0
 HeedsReopenings = (base : Base) (last : Reopening) (nonce : ℕ) →
     lacks_slots (heeded base last nonce) ≡ false →
@@ -131,14 +136,15 @@ DeletedSaysTheSame = (base : Base) (slot : Slot) → may_delete base slot ≡ tr
     ((used : ℕ) (order : Order) → judged base slot used order ≡ judged base vacant used order) ×
     ((applied : ℕ) (request : Request) → routed base slot applied request ≡ routed base vacant applied request)
 
--- Whoever takes an assignment was given a part for each slot that it brings; afterwards it has slots, and is not fenced.
+-- Whoever takes an assignment was given a part for each slot that it brings; afterwards it has slots, and is not
+-- fenced.
 abbrev pub TakesWhole : Type 0
 TakesWhole = (base next : Base) (assignment : Assignment) (brought : ℕ) (shards : List ShardSlot) →
     assigned base assignment brought (count_brought shards) ≡ Ok (Taken next) →
     (count_brought shards ≡ brought) × (lacks_slots next ≡ false) × (next.fenced ≡ false)
 
--- The slot of which an assignment brings a part has that cell and load, and nothing at work. Its last number stays, and is 0 at a server that
--- was Unknown.
+-- The slot of which an assignment brings a part has that cell and load, and nothing at work. Its last number stays, and
+-- is 0 at a server that was Unknown.
 abbrev pub HasItsPart : Type 0
 HasItsPart = (base : Base) (shard : ShardSlot) (part : Part) → shard.brought ≡ Some part →
     ((assigned_shard base shard).slot.cell ≡ part.cell) ×
@@ -146,7 +152,8 @@ HasItsPart = (base : Base) (shard : ShardSlot) (part : Part) → shard.brought �
     ((assigned_shard base shard).slot.last ≡ (if lacks_slots base then 0 else shard.slot.last)) ×
     ((assigned_shard base shard).slot.at_work ≡ None) × ((assigned_shard base shard).slot.cut ≡ None)
 
--- A server that has taken an assignment executes and passes on nothing of a shard of which it was brought nothing, however late a request comes.
+-- A server that has taken an assignment executes and passes on nothing of a shard of which it was brought nothing,
+-- however late a request comes.
 abbrev pub LeavesTheRest : Type 0
 LeavesTheRest = (base next : Base) (shard : ShardSlot) → shard.brought ≡ None →
     ((assigned_shard base shard).slot.load ≡ 0) ×

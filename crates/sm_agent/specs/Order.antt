@@ -1,5 +1,6 @@
 -- A server's verdict on an order, and what its work does to the slot.
-use Rattle.std.specs.Prelude.{ℕ, ◌-◌, ◌==◌, Bool, true, false, not, ◌&&◌, ◌||◌, nat_lt, nat_le, Option, Some, None, Result, Ok, Err, is_none, unwrap_or, option_map, if◌then◌else◌}
+use Rattle.std.specs.Prelude.{ℕ, ◌-◌, ◌==◌, Bool, true, false, not, ◌&&◌, ◌||◌, nat_lt, nat_le, Option, Some, None}
+use Rattle.std.specs.Prelude.{Result, Ok, Err, is_none, unwrap_or, option_map, if◌then◌else◌}
 use Rattle.sm_server.specs.declared.call.Cell.{Cell}
 use Rattle.sm_server.specs.declared.call.Cell.TheVariants.{Absent, Prepared}
 use Rattle.sm_server.specs.declared.call.Role.TheVariants as role
@@ -84,8 +85,8 @@ may_commit base slot order at =
     is_none (turned_away base order.stamp) && nat_lt slot.last order.stamp.number
     && is_at_work slot.at_work order.stamp.number && is_done order.call slot.cell slot.cut at
 
--- The slot once the work of an order is committed, with the shard's writes applied up to a position; none if the work is thrown
--- away, or is not done yet.
+-- The slot once the work of an order is committed, with the shard's writes applied up to a position; none if the work
+-- is thrown away, or is not done yet.
 abbrev pub committed : Base → Slot → Order → ℕ → Option Slot
 committed base slot order at =
     if may_commit base slot order at then option_map (slot_after order at) (led_to order.call slot.cell) else None
@@ -103,8 +104,8 @@ sealed slot handover cut = if is_prepared_for slot.cell handover then record slo
 abbrev pub placed : Slot → Cell → ℕ → Slot
 placed slot cell load = record slot { cell = cell; at_work = None; load = cell_load cell load; cut = None }
 
--- The verdict of the published map's owner on a publication, whose number is its version: it is shown from now on (Begin), or is
--- answered all the same.
+-- The verdict of the published map's owner on a publication, whose number is its version: it is shown from now on
+-- (Begin), or is answered all the same.
 abbrev pub published : Base → ℕ → Stamp → Verdict
 published base shown stamp = unwrap_or (turned_away base stamp) (if nat_lt shown stamp.number then Begin else Again)
 
@@ -112,6 +113,7 @@ published base shown stamp = unwrap_or (turned_away base stamp) (if nat_lt shown
 abbrev pub vacant : Slot
 vacant = record { cell = Absent; last = 0; at_work = None; load = 0; cut = None }
 
--- A slot that may be deleted: the server has nothing of the shard, and the base alone turns away all that the slot would.
+-- A slot that may be deleted: the server has nothing of the shard, and the base alone turns away all that the slot
+-- would.
 abbrev pub may_delete : Base → Slot → Bool
 may_delete base slot = is_absent slot.cell && is_none slot.at_work && nat_le slot.last base.number

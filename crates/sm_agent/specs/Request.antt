@@ -23,8 +23,8 @@ received from number frozen applied relay =
     else if frozen || nat_lt applied relay.cut then NotYet
     else Execute
 
--- Where a request is executed, by the server's cell. A server that is frozen neither passes a request on nor executes one that was.
--- At a primary, whatever is at work ends its executing: requests wait for it.
+-- Where a request is executed, by the server's cell. A server that is frozen neither passes a request on nor executes
+-- one that was. At a primary, whatever is at work ends its executing: requests wait for it.
 abbrev by_cell : Cell → Slot → Bool → ℕ → Request → Routing
 by_cell Primary slot frozen applied request = if is_some slot.at_work then NotYet else Execute
 by_cell (Forwarding to number) slot frozen applied request = passed_on to number frozen slot.cut

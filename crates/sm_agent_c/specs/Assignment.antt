@@ -1,5 +1,6 @@
 -- Assignments of C, and what they make of all that a server has.
-use Rattle.std.specs.Prelude.{ℕ, ◌==◌, not, List, map, filter_map, Option, Some, None, is_some, Result, Ok, Err, option_map, if◌then◌else◌}
+use Rattle.std.specs.Prelude.{ℕ, ◌==◌, not, List, map, filter_map, Option, Some, None, is_some, Result, Ok, Err}
+use Rattle.std.specs.Prelude.{option_map, if◌then◌else◌}
 use Rattle.std.specs.List.{list_all}
 use Rattle.sm_agent.specs.declared.base.Base.{Base}
 use Rattle.sm_agent.specs.declared.base.Reception.{Reception}

@@ -3,7 +3,8 @@ use Rattle.std.specs.Prelude.{ℕ, ◌==◌, Bool, nat_le, Option, Some, None, i
 use Rattle.sm_server.specs.declared.call.Refusal.TheVariants.{Down, AlreadyHeld, NotHeld, WrongRole, NoRoom}
 use Rattle.sm_agent.specs.declared.order.Verdict.{Verdict}
 use Rattle.sm_agent.specs.declared.order.Verdict.TheVariants.{Begin, Working, Again, Old, Foreign, NotReady, Refused}
-use Rattle.sm_agent_c.specs.declared.code.TheConstants.{BEGIN, WORKING, AGAIN, OLD, FOREIGN, NOT_READY, DOWN, ALREADY_HELD, NOT_HELD, WRONG_ROLE, NO_ROOM, DONE, NOT_DONE}
+use Rattle.sm_agent_c.specs.declared.code.TheConstants.{BEGIN, WORKING, AGAIN, OLD, FOREIGN, NOT_READY, DOWN}
+use Rattle.sm_agent_c.specs.declared.code.TheConstants.{ALREADY_HELD, NOT_HELD, WRONG_ROLE, NO_ROOM, DONE, NOT_DONE}
 
 -- the number of a verdict
 abbrev pub verdict_code : Verdict → ℕ

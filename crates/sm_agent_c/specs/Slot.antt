@@ -5,7 +5,8 @@ use Rattle.sm_server.specs.declared.call.Cell.TheVariants.{Absent, Prepared, Sec
 use Rattle.sm_agent.specs.declared.slot.Slot.{Slot}
 use Rattle.sm_agent.specs.Order.{begun_slot, abandoned, sealed, is_filled}
 use Rattle.sm_agent.specs.declared.order.Order.{Order}
-use Rattle.sm_agent_c.specs.declared.code.TheConstants.{BAD, NOT_READY, DONE, UNKNOWN, ABSENT, PREPARED, SECONDARY, PRIMARY, FORWARDING}
+use Rattle.sm_agent_c.specs.declared.code.TheConstants.{BAD, NOT_READY, DONE, UNKNOWN, ABSENT, PREPARED, SECONDARY}
+use Rattle.sm_agent_c.specs.declared.code.TheConstants.{PRIMARY, FORWARDING}
 use Rattle.sm_agent_c.specs.declared.slot.RawSlot.{RawSlot}
 use Rattle.sm_agent_c.specs.declared.slot.Reading.{Reading}
 use Rattle.sm_agent_c.specs.declared.slot.Reading.TheVariants.{Bad, Unknown, Known}

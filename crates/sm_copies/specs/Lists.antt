@@ -35,8 +35,8 @@ last_view view (x ∷ xs) = last_view x.view xs
 abbrev pub view_of : List ListEntry → ℕ
 view_of xs = last_view 0 xs
 
--- The view and the position of a copy. A position counts entries here, and servers count writes alone: both differ by the views that began up to
--- there, and only positions of one view are compared, so that they decide alike.
+-- The view and the position of a copy. A position counts entries here, and servers count writes alone: both differ by
+-- the views that began up to there, and only positions of one view are compared, so that they decide alike.
 abbrev pub told_of : List ListEntry → ToldCopy
 told_of copy = record { view = view_of copy; position = length copy }
 

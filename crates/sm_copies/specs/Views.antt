@@ -10,5 +10,6 @@ view_end None end = end
 
 -- A copy goes on behind a source: the source has the copy's view, which did not end there before the copy does.
 abbrev pub Resumes : ToldCopy → List ViewStart → ℕ → Type 0
-Resumes copy views end = (index : ℕ) × (start : ViewStart) × (slice_get views index ≡ Some start) × (start.view ≡ copy.view)
+Resumes copy views end = (index : ℕ) × (start : ViewStart) × (slice_get views index ≡ Some start)
+    × (start.view ≡ copy.view)
     × (copy.position ≤ view_end (slice_get views (suc index)) end)

@@ -1,7 +1,8 @@
 -- Local steps: signals, waits for posted signals, and ends of streams. The driver makes them by itself, each time that
 -- of the lowest stream of the lowest plan that can make one. `IsFreeIn`, `IsFreeAlone` and `posts_signal` are internal:
 -- you need not read them for the public contracts.
-use Rattle.std.specs.Prelude.{◌≡◌, ◌&&◌, ℕ, Bool, true, false, Option, Some, None, List, [], ◌∷◌, is_none, length, map, if◌then◌else◌}
+use Rattle.std.specs.Prelude.{◌≡◌, ◌&&◌, ℕ, Bool, true, false, Option, Some, None, List, [], ◌∷◌, is_none, length, map}
+use Rattle.std.specs.Prelude.{if◌then◌else◌}
 use Rattle.sm_reservation.specs.declared.stream_id.StreamId.{StreamId}
 use Rattle.sm_plan_code.specs.declared.instruction.Instr.{Instr}
 use Rattle.sm_plan_code.specs.declared.instruction.Instr.TheVariants as instr

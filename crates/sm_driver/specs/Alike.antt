@@ -5,7 +5,8 @@ use Rattle.sm_plan_code.specs.Plan.{PlanModel}
 use Rattle.sm_protocol.specs.Happens.{Approve, Begin, engaged, happens}
 use Rattle.sm_driver.specs.declared.copies.ToldCopies.{ToldCopies}
 use Rattle.sm_driver.specs.Copies.{HasNotedCopies, copies_effect, kept_copies}
-use Rattle.sm_driver.specs.Driver.{DriverModel, HasApproved, HasBegunPlan, HasEndedRestart, HasRestored, HasTakenStep, base, is_due, is_past, record_of}
+use Rattle.sm_driver.specs.Driver.{DriverModel, HasApproved, HasBegunPlan, HasEndedRestart, HasRestored, HasTakenStep}
+use Rattle.sm_driver.specs.Driver.{base, is_due, is_past, record_of}
 use Rattle.sm_driver.specs.Epochs.{HasOpenedEpoch, epoch_fault}
 use Rattle.sm_driver.specs.Orders.{message_of}
 use Rattle.sm_driver.specs.Permits.{restart_effect, server_permitted}
@@ -35,7 +36,8 @@ pub record ReplyAlike (d e : DriverModel) : Type 0 where
   pub past : (id : StreamId) (number : ℕ) → is_past e id number ≡ is_past d id number
   pub approve : (v : ℕ) → (happens (record_of e) (Approve v)).0 ≡ (happens (record_of d) (Approve v)).0
   pub restarted : (permit : ℕ) (server_base : Option ℕ) →
-      restart_effect e.fence server_base (server_permitted e.permits permit) ≡ restart_effect d.fence server_base (server_permitted d.permits permit)
+      restart_effect e.fence server_base (server_permitted e.permits permit)
+      ≡ restart_effect d.fence server_base (server_permitted d.permits permit)
   pub told : (v nonce : ℕ) → is_last_restore e.restores v nonce ≡ is_last_restore d.restores v nonce
   pub naming : (v : ℕ) → engaged (record_of e) v ≡ engaged (record_of d) v
   pub copied : (s : ℕ) (told : ToldCopies) → copies_effect e s told ≡ copies_effect d s told
@@ -46,10 +48,17 @@ pub record ReplyAlike (d e : DriverModel) : Type 0 where
 -- Commands make drivers that are alike of drivers that are alike, and give the same numbers.
 pub record GoAlike (d e : DriverModel) : Type 0 where
   pub replies : ReplyAlike d e
-  pub begun : (plan : PlanModel) (m n : ℕ) (new next : DriverModel) → HasBegunPlan plan m d new → HasBegunPlan plan n e next → (n ≡ m) × AreAlike new next
-  pub taken : (id : StreamId) (new next : DriverModel) → HasTakenStep id d new → HasTakenStep id e next → AreAlike new next
-  pub approved : (v p q : ℕ) (new next : DriverModel) → HasApproved v p d new → HasApproved v q e next → (q ≡ p) × AreAlike new next
-  pub ended : (u v permit : ℕ) (server_base : Option ℕ) (new next : DriverModel) → HasEndedRestart u permit server_base d new → HasEndedRestart v permit server_base e next → (v ≡ u) × AreAlike new next
-  pub restored : (v nonce : ℕ) (new next : DriverModel) → HasRestored v nonce d new → HasRestored v nonce e next → AreAlike new next
-  pub noted : (s copies : ℕ) (new next : DriverModel) → HasNotedCopies s copies d new → HasNotedCopies s copies e next → AreAlike new next
+  pub begun : (plan : PlanModel) (m n : ℕ) (new next : DriverModel) → HasBegunPlan plan m d new
+      → HasBegunPlan plan n e next → (n ≡ m) × AreAlike new next
+  pub taken : (id : StreamId) (new next : DriverModel) → HasTakenStep id d new → HasTakenStep id e next
+      → AreAlike new next
+  pub approved : (v p q : ℕ) (new next : DriverModel) → HasApproved v p d new → HasApproved v q e next
+      → (q ≡ p) × AreAlike new next
+  pub ended : (u v permit : ℕ) (server_base : Option ℕ) (new next : DriverModel)
+      → HasEndedRestart u permit server_base d new → HasEndedRestart v permit server_base e next
+      → (v ≡ u) × AreAlike new next
+  pub restored : (v nonce : ℕ) (new next : DriverModel) → HasRestored v nonce d new → HasRestored v nonce e next
+      → AreAlike new next
+  pub noted : (s copies : ℕ) (new next : DriverModel) → HasNotedCopies s copies d new → HasNotedCopies s copies e next
+      → AreAlike new next
   pub opened : (new next : DriverModel) → HasOpenedEpoch d new → HasOpenedEpoch e next → AreAlike new next

@@ -1,6 +1,7 @@
 -- Copies: how many replicas of each shard surely have every acknowledged write, as far as it was told, and what a
 -- reopening keeps of it.
-use Rattle.std.specs.Prelude.{◌≡◌, ℕ, ◌==◌, ◌&&◌, ◌||◌, Bool, false, not, Option, Some, None, List, map, nat_le, nat_lt, slice_index_or, slice_set, if◌then◌else◌}
+use Rattle.std.specs.Prelude.{◌≡◌, ℕ, ◌==◌, ◌&&◌, ◌||◌, Bool, false, not, Option, Some, None, List, map, nat_le, nat_lt}
+use Rattle.std.specs.Prelude.{slice_index_or, slice_set, if◌then◌else◌}
 use Rattle.std.specs.List.{list_any, range_with_len}
 use Rattle.sm_placement.specs.Opening.{is_handing}
 use Rattle.sm_placement.specs.Setup.{Setup, no_shard}

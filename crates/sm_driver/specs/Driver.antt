@@ -1,6 +1,7 @@
 -- A driver, and what its commands make of what is recorded.
 -- `IsDriving` and `HasLostNone` are internal: you need not read them for the public contracts.
-use Rattle.std.specs.Prelude.{◌≡◌, ℕ, ◌+◌, ◌==◌, ◌||◌, Bool, false, true, List, Option, Some, None, length, nat_lt, slice_set, ◌&&◌, if◌then◌else◌}
+use Rattle.std.specs.Prelude.{◌≡◌, ℕ, ◌+◌, ◌==◌, ◌||◌, Bool, false, true, List, Option, Some, None, length, nat_lt}
+use Rattle.std.specs.Prelude.{slice_set, ◌&&◌, if◌then◌else◌}
 use Rattle.sm_reservation.specs.declared.stream_id.StreamId.{StreamId}
 use Rattle.sm_plan_code.specs.Plan.{PlanModel}
 use Rattle.sm_protocol.specs.declared.event.Played.TheVariants as played

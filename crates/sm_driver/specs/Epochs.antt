@@ -1,6 +1,7 @@
 -- The next epoch: it opens over the placement as it is recorded, once all plans are finished.
 -- `fault_by` is a step on the way to `epoch_fault`.
-use Rattle.std.specs.Prelude.{◌≡◌, ℕ, ◌+◌, ◌==◌, Bool, true, false, Option, Some, None, nat_le, slice_get, if◌then◌else◌}
+use Rattle.std.specs.Prelude.{◌≡◌, ℕ, ◌+◌, ◌==◌, Bool, true, false, Option, Some, None, nat_le, slice_get}
+use Rattle.std.specs.Prelude.{if◌then◌else◌}
 use Rattle.sm_placement.specs.Sums.{first_from}
 use Rattle.sm_plan_code.specs.declared.limits.TheConstants.{MOST_PLACES}
 use Rattle.sm_protocol.specs.Next.{unfinished_plans}

@@ -1,6 +1,7 @@
 -- Orders and publications as they leave the driver: those of the network.
 -- `handover_of` is internal: you need not read it for the public contracts.
-use Rattle.std.specs.Prelude.{ℕ, ◌+◌, ◌*◌, ◌^◌, ◌||◌, Bool, List, Option, Some, None, is_some, length, option_map, if◌then◌else◌}
+use Rattle.std.specs.Prelude.{ℕ, ◌+◌, ◌*◌, ◌^◌, ◌||◌, Bool, List, Option, Some, None, is_some, length, option_map}
+use Rattle.std.specs.Prelude.{if◌then◌else◌}
 use Rattle.std.specs.List.{filter_map, flat_map, range_with_len}
 use Rattle.std.specs.Option.{option_or}
 use Rattle.sm_server.specs.declared.call.Call.{Call}

@@ -1,6 +1,7 @@
 -- Permits of restarts: each server that is down has one, and its restart ends by that one alone.
 -- `AreGivenPermits` is internal: you need not read it for the public contracts.
-use Rattle.std.specs.Prelude.{◌≡◌, ◌≤◌, ◌<◌, ◌⊎◌, ℕ, ◌+◌, ◌*◌, Bool, false, Option, Some, None, List, is_some, length, map, nat_le, slice_index_or, if◌then◌else◌}
+use Rattle.std.specs.Prelude.{◌≡◌, ◌≤◌, ◌<◌, ◌⊎◌, ℕ, ◌+◌, ◌*◌, Bool, false, Option, Some, None, List, is_some, length}
+use Rattle.std.specs.Prelude.{map, nat_le, slice_index_or, if◌then◌else◌}
 use Rattle.std.specs.List.{range_with_len}
 use Rattle.std.specs.Option.{option_or}
 use Rattle.sm_placement.specs.Sums.{first_from}
@@ -49,7 +50,8 @@ pub record AreEarlierPermits (base : ℕ) (permits : List (Option ℕ)) : Type 0
 -- Permits of a driver whose log has come to this length above this base, no two alike: each is an earlier one or one of
 -- an approval in the log, or otherwise one that the opening gave.
 pub record AreGivenPermits (base recorded : ℕ) (permits : List (Option ℕ)) : Type 0 where
-  pub given : (v permit : ℕ) → permit_of permits v ≡ Some permit → (permit ≤ base + recorded) ⊎ ((base + MOST_PLACES < permit) × (permit ≤ base + 2 * MOST_PLACES))
+  pub given : (v permit : ℕ) → permit_of permits v ≡ Some permit
+      → (permit ≤ base + recorded) ⊎ ((base + MOST_PLACES < permit) × (permit ≤ base + 2 * MOST_PLACES))
   pub apart : (u v permit : ℕ) → permit_of permits u ≡ Some permit → permit_of permits v ≡ Some permit → u ≡ v
 
 -- The permits are those of the servers that are down.

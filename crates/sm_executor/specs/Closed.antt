@@ -1,6 +1,7 @@
 -- The facts that hold when a board is closed, and why one is not.
 -- `room_kept` is internal: you need not read it for the public contracts.
-use Rattle.std.specs.Prelude.{◌≡◌, ◌≤◌, ◌*◌, ◌++◌, ◌∷◌, [], ℕ, zero, suc, Bool, true, List, Option, Some, None, Vec, length, map, sum, if◌then◌else◌, vec_capacity}
+use Rattle.std.specs.Prelude.{◌≡◌, ◌≤◌, ◌*◌, ◌++◌, ◌∷◌, [], ℕ, zero, suc, Bool, true, List, Option, Some, None, Vec}
+use Rattle.std.specs.Prelude.{length, map, sum, if◌then◌else◌, vec_capacity}
 use Rattle.std.specs.Global.{Global}
 use Rattle.sm_placement.specs.Setup.{Setup}
 use Rattle.sm_reservation.specs.declared.stream_id.StreamId.{StreamId}
@@ -20,7 +21,8 @@ use Rattle.sm_executor.specs.Views.{HeldModel, state_in, EndedModel, CallerModel
 -- the first n streams of a plan that have not finished, each with how many instructions it has made
 abbrev pub unfinished_in : State → ℕ → ℕ → List (StreamId × ℕ)
 unfinished_in w k zero = []
-unfinished_in w k (suc i) = unfinished_in w k i ++ (if (w.progress k i).done then [] else (stream_id k i, (w.progress k i).at) ∷ [])
+unfinished_in w k (suc i) = unfinished_in w k i
+    ++ (if (w.progress k i).done then [] else (stream_id k i, (w.progress k i).at) ∷ [])
 
 -- those of the first k plans
 abbrev pub unfinished_to : State → ℕ → List (StreamId × ℕ)
@@ -39,21 +41,22 @@ pub data GoesOn (opened : State) : State → Type 0 where
   Plays : (w : State) (e : Happening) → FitsConfig opened.sizes e → GoesOn opened w → GoesOn opened (happens w e).1
   Flags : (w : State) (flag : Bool) → GoesOn opened w → GoesOn opened (record w { halted = flag })
 
--- A state of a board with this configuration: events have led to it from a placement of the configuration, and from the board's
--- opening.
+-- A state of a board with this configuration: events have led to it from a placement of the configuration, and from the
+-- board's opening.
 --
--- No contract has a name for the state that lay behind the lock at a moment, so a clause of the board tells what a call does at some such
--- state. It excludes what no list of events since the opening leads to: an answer by a server that did not get the request, a ticket or a
--- number of another pass, a count that does not rise with the answer, a link that is asked otherwise than the step asks. It does not
--- exclude what comes about at another of these states: a halted board, a full log, a ticket that is spent, a caller too many, or a stream
--- that has not finished if it had not at the opening. That these come only from the state behind the lock is told by the code and by
--- tests.
+-- No contract has a name for the state that lay behind the lock at a moment, so a clause of the board tells what a call
+-- does at some such state. It excludes what no list of events since the opening leads to: an answer by a server that
+-- did not get the request, a ticket or a number of another pass, a count that does not rise with the answer, a link
+-- that is asked otherwise than the step asks. It does not exclude what comes about at another of these states: a halted
+-- board, a full log, a ticket that is spent, a caller too many, or a stream that has not finished if it had not at the
+-- opening. That these come only from the state behind the lock is told by the code and by tests.
 pub record IsBoardState (setup : Setup) (opened now : State) : Type 0 where
   pub reached : IsReached setup now
   pub goes_on : GoesOn opened now
 
--- A state of the board at which every stream has finished: the log has each stream's instructions in their order, each once, and
--- then its end; and the placement is the end of the plans in the order of their starts, whatever the schedule was.
+-- A state of the board at which every stream has finished: the log has each stream's instructions in their order, each
+-- once, and then its end; and the placement is the end of the plans in the order of their starts, whatever the schedule
+-- was.
 pub record IsDoneState (setup : Setup) (opened now : State) : Type 0 where
   pub state : IsBoardState setup opened now
   pub done : AreDone now
@@ -75,18 +78,20 @@ pub record HasGiven (h : HeldModel) : Type 0 where
 abbrev pub AreAllBack : HeldModel → ℕ → ℕ → Type 0
 AreAllBack h ended callers = (ended ≡ h.runners) × (callers ≡ h.callers)
 
--- At this state of the board every stream has finished, as many ends and callers came back as runners and callers can have been given out,
--- and the log since the opening has as many steps, executed and refused requests as these have counted.
+-- At this state of the board every stream has finished, as many ends and callers came back as runners and callers can
+-- have been given out, and the log since the opening has as many steps, executed and refused requests as these have
+-- counted.
 pub record IsClosed (setup : Setup) (opened now : State) (ended : List EndedModel) (callers : List CallerModel) : Type 0 where
   pub state : IsDoneState setup opened now
   pub ends : length ended ≤ MOST_STREAMS * length now.plans
   pub most_callers : length callers ≤ MOST_CALLERS
   pub account : IsAccount opened now ended callers
 
--- Why a board is not closed with these numbers of ends and callers: streams have not finished, and all of these are named; or each has
--- finished, and not all runners and callers are back.
+-- Why a board is not closed with these numbers of ends and callers: streams have not finished, and all of these are
+-- named; or each has finished, and not all runners and callers are back.
 abbrev pub StaysOpenFor : HeldModel → ℕ → ℕ → CloseFault → Type 0
-StaysOpenFor h ended callers (NotDone positions) = (positions.items ≡ unfinished_streams (state_in h)) × ¬ AreDone (state_in h)
+StaysOpenFor h ended callers (NotDone positions) = (positions.items ≡ unfinished_streams (state_in h))
+    × ¬ AreDone (state_in h)
 StaysOpenFor h ended callers BookDiffers = AreDone (state_in h) × ¬ AreAllBack h ended callers
 
 -- the room for the streams that have not finished, which the fault has, or which is left over

@@ -39,8 +39,8 @@ executed_in log = count_by (λ x. is_executed x.answer) log
 abbrev pub refused_in : List Logged → ℕ
 refused_in log = count_by (λ x. is_refused x.answer) log
 
--- The books have what was recorded since the board was opened: steps, requests that were executed, and requests that were
--- refused.
+-- The books have what was recorded since the board was opened: steps, requests that were executed, and requests that
+-- were refused.
 pub record IsBooked (opened now : State) (steps executed refused : ℕ) : Type 0 where
   pub since : List Logged
   pub log : now.log ≡ opened.log ++ since

@@ -7,8 +7,8 @@ use Rattle.sm_machine.specs.Retired.{has_ended, made_in}
 use Rattle.sm_executor.specs.Closed.{IsBoardState}
 use Rattle.sm_executor.specs.Views.{EndedModel, RunnerModel, running, end_in}
 
--- At a state of the board the stream has finished, its steps, its tries and how many it was allowed are what that state has of it, and
--- its steps are its steps and lost tries in the log.
+-- At a state of the board the stream has finished, its steps, its tries and how many it was allowed are what that state
+-- has of it, and its steps are its steps and lost tries in the log.
 pub record HasEnded (setup : Setup) (opened : State) (finish : EndedModel) : Type 0 where
   pub now : State
   pub state : IsBoardState setup opened now

@@ -20,13 +20,14 @@ abbrev pub is_waiting : Step → Bool
 is_waiting (Blocked signal) = true
 is_waiting _ = false
 
--- a state of the board at which a runner's stream makes a step with this answer, and what that does to the runner's count
+-- a state of the board at which a runner's stream makes a step with this answer, and what that does to the runner's
+-- count
 pub record IsStepAt (setup : Setup) (opened now : State) (before after : RunnerModel) (answer : Played) : Type 0 where
   pub state : IsBoardState setup opened now
   pub counts : Counts (progress_of now before.stream).done answer before.steps after.steps
 
--- At such a state the stream has made its step over the link: the link was asked once if the step tries a call there, and otherwise not at
--- all, and Lost is answered exactly if it has lost the try.
+-- At such a state the stream has made its step over the link: the link was asked once if the step tries a call there,
+-- and otherwise not at all, and Lost is answered exactly if it has lost the try.
 pub record HasStepped {L : Type 0} (asked : L → StreamId → ℕ → Passage → L → Type 0) (old new : L) (setup : Setup) (opened : State) (before after : RunnerModel) (answer : Played) : Type 0 where
   pub now : State
   pub next : State

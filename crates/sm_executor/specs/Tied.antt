@@ -15,8 +15,8 @@ pub record IsMapOf (words : WordsModel) (opened : State) : Type 0 where
   pub shards : length words.opening ≡ opened.sizes.shards
   pub entries : (s : ℕ) → s < opened.sizes.shards → slice_get words.opening s ≡ Some (entry_at opened.place s)
 
--- The publisher has stored just the entries that the machine's publications added since the board was opened, and each shard's
--- newest entry is the machine's.
+-- The publisher has stored just the entries that the machine's publications added since the board was opened, and each
+-- shard's newest entry is the machine's.
 pub record IsPublished (words : WordsModel) (opened now : State) (publisher : PublisherModel) : Type 0 where
   pub words_are : publisher.words ≡ words
   pub shards : length words.opening ≡ now.sizes.shards
@@ -39,7 +39,8 @@ pub record Publishes (old new : State) (shard : ℕ) : Type 0 where
   pub listed : new.place.listed ≡ put old.place.listed shard (new.place.listed shard)
   pub version : new.place.version ≡ put old.place.version shard (suc (old.place.version shard))
 
--- The words were tied to the machine, which has made one event since: what that has published, if anything, isn't stored yet.
+-- The words were tied to the machine, which has made one event since: what that has published, if anything, isn't
+-- stored yet.
 pub record IsBehind (words : WordsModel) (opened now : State) (publisher : PublisherModel) : Type 0 where
   pub before : State
   pub tied : IsPublished words opened before publisher

@@ -36,8 +36,8 @@ pub record AreRunners (plan n : ℕ) (runners : List RunnerModel) : Type 0 where
   pub count : length runners ≡ n
   pub each : (i : ℕ) (d : RunnerModel) → i < n → slice_index_or runners i d ≡ running (stream_id plan i) 0
 
--- a stream that has finished: how many steps it made, how many of them were tries of calls, how many tries it was allowed, and
--- how many steps its runner has counted
+-- a stream that has finished: how many steps it made, how many of them were tries of calls, how many tries it was
+-- allowed, and how many steps its runner has counted
 pub record EndedModel : Type 0 where
   pub stream : StreamId
   pub steps : ℕ
@@ -65,8 +65,8 @@ end_in w runner = finished runner.stream (steps_at_end w runner.stream) (progres
 abbrev pub recorded_more : State → State → ℕ
 recorded_more old new = length new.log - length old.log
 
--- the entries that a caller knows to have been in the map, one for each shard, what it has seen of the map, the last first, and how many of its
--- requests were executed and refused
+-- the entries that a caller knows to have been in the map, one for each shard, what it has seen of the map, the last
+-- first, and how many of its requests were executed and refused
 pub record CallerModel : Type 0 where
   pub known : List Entry
   pub seen : List (ℕ × Entry)

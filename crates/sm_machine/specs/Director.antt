@@ -33,8 +33,8 @@ abbrev pub IsDirectedIf : MachineModel → Option Happening → Played → Machi
 IsDirectedIf m None answer n = (answer ≡ played.Unknown) × (n ≡ m)
 IsDirectedIf m (Some e) answer n = IsDirected m e answer n
 
--- The event names known shards and servers, and a refill is within its limit. The end of a restart may name any server: nothing has ended if
--- the server is unknown.
+-- The event names known shards and servers, and a refill is within its limit. The end of a restart may name any server:
+-- nothing has ended if the server is unknown.
 abbrev pub CanDirect : Sizes → Event → Type 0
 CanDirect c (event.Done v) = Unit {0}
 CanDirect c e = NamesKnown c e

@@ -1,7 +1,8 @@
 -- Hands of events: what of a hand is the protocol's, and the room that it has for what events add.
 -- Public functions' contracts come to `hand_plan`, `hand_of`, `game_of`, `AreFor`, `AreLeft` and `IsSameHand` alone.
 -- The others are internal: you need not read them for the public contracts.
-use Rattle.std.specs.Prelude.{◌≡◌, ◌≤◌, ◌<◌, ℕ, suc, ◌+◌, ◌++◌, Bool, true, false, Option, Some, None, List, [], ◌∷◌, length, map, slice_index_or, vec_capacity}
+use Rattle.std.specs.Prelude.{◌≡◌, ◌≤◌, ◌<◌, ℕ, suc, ◌+◌, ◌++◌, Bool, true, false, Option, Some, None, List, [], ◌∷◌}
+use Rattle.std.specs.Prelude.{length, map, slice_index_or, vec_capacity}
 use Rattle.std.specs.List.{sum_by}
 use Rattle.sm_placement.specs.Setup.{Setup}
 use Rattle.sm_plan_code.specs.Plan.{PlanModel}
@@ -44,7 +45,8 @@ AreFor setup plans = (place : ℕ) (p : CheckedModel) → slice_index_or plans p
 
 -- each plan that is left is the one that was there
 abbrev pub AreLeft : List (Option CheckedModel) → List (Option CheckedModel) → Type 0
-AreLeft old new = (place : ℕ) (p : CheckedModel) → slice_index_or new place None ≡ Some p → slice_index_or old place None ≡ Some p
+AreLeft old new = (place : ℕ) (p : CheckedModel) → slice_index_or new place None ≡ Some p
+    → slice_index_or old place None ≡ Some p
 
 -- the hands have the same tokens, permits, tickets and plans
 pub record IsSameHand (old new : declared.Hand) : Type 0 where
@@ -68,8 +70,8 @@ pub record HasHandRoom (h : declared.Hand) (n : ℕ) : Type 0 where
 
 -- ---- turns
 
--- The event was played, with this answer. The configuration is as it was, and so is each plan that is left; and no more room
--- was used than an event may use.
+-- The event was played, with this answer. The configuration is as it was, and so is each plan that is left; and no more
+-- room was used than an event may use.
 pub record IsTurn (m : MachineModel) (h : declared.Hand) (e : Event) (answer : Played) (n : MachineModel) (k : declared.Hand) : Type 0 where
   pub turn : turn (game_of m h) e ≡ (Answered answer, game_of n k)
   pub setup : n.placement.setup ≡ m.placement.setup
@@ -105,7 +107,8 @@ pub record IsHandAfter (h : declared.Hand) (e : Event) (answer : Played) (k : de
 -- the place of the first element that passes, None if none does
 abbrev pub IsFirstPlace : {T : Type 0} → (T → Bool) → List T → Option ℕ → Type 0
 IsFirstPlace {T} test xs None = (k : ℕ) (d : T) → k < length xs → test (slice_index_or xs k d) ≡ false
-IsFirstPlace {T} test xs (Some i) = (i < length xs) × ((d : T) → test (slice_index_or xs i d) ≡ true) × ((k : ℕ) (d : T) → k < i → test (slice_index_or xs k d) ≡ false)
+IsFirstPlace {T} test xs (Some i) = (i < length xs) × ((d : T) → test (slice_index_or xs i d) ≡ true)
+    × ((k : ℕ) (d : T) → k < i → test (slice_index_or xs k d) ≡ false)
 
 -- the list with this element behind the others, if there is one
 abbrev pub put_behind : {T : Type 0} → List T → Option T → List T

@@ -34,8 +34,8 @@ abbrev pub is_call_next : Option Instr → Bool
 is_call_next None = false
 is_call_next (Some i) = is_call i
 
--- the stream's next step tries a call: streams are not stopped, it is running, its next instruction is a call, and its tries
--- are not spent
+-- the stream's next step tries a call: streams are not stopped, it is running, its next instruction is a call, and its
+-- tries are not spent
 abbrev pub makes_try : State → StreamId → Bool
 makes_try w id = not w.halted && (is_running w id && (is_call_next (next_instruction w id) && not ((progress_of w id).tries == allowance w id)))
 

@@ -8,8 +8,8 @@ use Rattle.sm_placement.specs.Place.{Place}
 use Rattle.sm_placement.specs.Layout.{entries_of}
 use Rattle.sm_placement.specs.Opening.{NamedCell, put_all}
 
--- The cells that are not Absent, the servers that are down, what the published map says of each shard, and how many servers
--- may be down at once.
+-- The cells that are not Absent, the servers that are down, what the published map says of each shard, and how many
+-- servers may be down at once.
 pub record OpeningRows : Type 0 where
   pub cells : List NamedCell
   pub listed : List (Option ℕ)
@@ -44,4 +44,5 @@ is_before shard server s v = nat_lt s shard || ((s == shard) && nat_lt v server)
 
 -- the rows name the cells before this pair, and no others
 abbrev pub AreCellsBefore : List NamedCell → (ℕ → ℕ → Cell) → ℕ → ℕ → Type 0
-AreCellsBefore rows cells shard server = (s v : ℕ) → cells_of_rows rows s v ≡ (if is_before shard server s v then cells s v else Absent)
+AreCellsBefore rows cells shard server = (s v : ℕ)
+    → cells_of_rows rows s v ≡ (if is_before shard server s v then cells s v else Absent)

@@ -16,7 +16,8 @@ use Rattle.sm_reservation.specs.declared.stream_id.StreamId.{StreamId}
 use Rattle.sm_machine.specs.State.{Whole}
 use Rattle.sm_machine.specs.Working.{IsWorking}
 use Rattle.sm_machine.specs.declared.answer.Answer.{Answer}
-use Rattle.sm_machine.specs.declared.answer.Answer.TheVariants.{Executed, Passed, NotOwner, Unavailable, LogFull, Unknown}
+use Rattle.sm_machine.specs.declared.answer.Answer.TheVariants.{Executed, Passed, NotOwner, Unavailable, LogFull}
+use Rattle.sm_machine.specs.declared.answer.Answer.TheVariants.{Unknown}
 
 -- a request of a known shard comes to a known server, directly or with a ticket
 pub record IsRequest (w : State) (s v : ℕ) (sent : Option Ticket) (event : Event) : Type 0 where

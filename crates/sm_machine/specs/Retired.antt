@@ -11,8 +11,8 @@ use Rattle.sm_protocol.specs.State.{State, stream_parts, progress_of, is_begun, 
 abbrev pub has_ended : State → StreamId → Bool
 has_ended w id = is_begun w id && (progress_of w id).done
 
--- how many recorded steps a stream has made that has finished: the tries of its calls, each instruction of its code that is
--- no call, and its end
+-- how many recorded steps a stream has made that has finished: the tries of its calls, each instruction of its code
+-- that is no call, and its end
 abbrev pub steps_at_end : State → StreamId → ℕ
 steps_at_end w id = (progress_of w id).tries + count_by is_no_call (stream_parts w id).code + 1
 

@@ -26,8 +26,8 @@ held_in_plan r n =
 abbrev pub held_in_plans : List BegunModel → Right → ℕ
 held_in_plans plans r = sum_by (held_in_plan r) plans
 
--- A pool can take this much more of each right: it has then no more than some hold of known shards and servers, whose amounts are
--- u64s.
+-- A pool can take this much more of each right: it has then no more than some hold of known shards and servers, whose
+-- amounts are u64s.
 pub record CanTakeBack (k : PoolModel) (more : Right → ℕ) : Type 0 where
   pub all : Hold
   pub known : IsKnownHold k.shards k.servers all

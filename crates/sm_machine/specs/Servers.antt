@@ -19,7 +19,8 @@ AreMentioned code flags = (v : ℕ) → is_in flags v ≡ list_any (is_mentioned
 -- for each stream, in their order, there is the set of those that its code mentions
 pub record AreMentionedBy (streams : List StreamModel) (sets : List (List Bool)) : Type 0 where
   pub count : length sets ≡ length streams
-  pub each : (i : ℕ) → i < length streams → AreMentioned (slice_index_or streams i no_stream).code (slice_index_or sets i [])
+  pub each : (i : ℕ) → i < length streams
+      → AreMentioned (slice_index_or streams i no_stream).code (slice_index_or sets i [])
 
 -- the set has grown by a server, if one is given
 abbrev pub HasGrownBy : Option ℕ → List Bool → List Bool → Type 0

@@ -1,7 +1,8 @@
 -- Plans that are ready to start, and what a start gives.
 -- Public functions' contracts cite `AreTokens` alone. The others are internal, and what a `ReadyPlan` keeps: you need
 -- not read them for the public contracts.
-use Rattle.std.specs.Prelude.{◌≡◌, ◌<◌, ◌≤◌, nat_lt, nat_le, ◌||◌, if◌then◌else◌, false, Option, None, ◌++◌, ◌∷◌, [], ℕ, zero, suc, Some, List, length, map, slice_index, slice_index_or}
+use Rattle.std.specs.Prelude.{◌≡◌, ◌<◌, ◌≤◌, nat_lt, nat_le, ◌||◌, if◌then◌else◌, false, Option, None, ◌++◌, ◌∷◌, [], ℕ}
+use Rattle.std.specs.Prelude.{zero, suc, Some, List, length, map, slice_index, slice_index_or}
 use Rattle.sm_reservation.specs.Rights.{Rights, no_rights}
 use Rattle.sm_reservation.specs.Capacity.{HoldModel, most_keys}
 use Rattle.sm_reservation.specs.declared.stream_id.StreamId.{StreamId}
@@ -74,7 +75,8 @@ pub record CanFillAt (free : Hold) (x : CourseModel) (p : Rights) : Type 0 where
 
 -- each stream may in its turn
 abbrev pub CanFillAll : BegunModel → Hold → Type 0
-CanFillAll n h = (i : ℕ) → i < length n.plan.streams → CanFillAt (pool_left h n.plan.streams i) (course_at n i) (declared_rights n.plan.streams i)
+CanFillAll n h = (i : ℕ) → i < length n.plan.streams
+    → CanFillAt (pool_left h n.plan.streams i) (course_at n i) (declared_rights n.plan.streams i)
 
 -- the stream has taken them
 pub record IsFilledBy (p : Rights) (old new : CourseModel) : Type 0 where
@@ -102,9 +104,11 @@ pub record IsBegunIn (x : Whole) (p : CheckedModel) (y : Whole) : Type 0 where
   pub setup : y.setup ≡ x.setup
   pub pool : y.pool ≡ pool_left x.pool p.plan.streams (length p.plan.streams)
   pub grants : (k i : ℕ) → k < length x.state.plans → y.grants k i ≡ x.grants k i
-  pub granted : (i : ℕ) → i < length p.plan.streams → IsGranted (declared_rights p.plan.streams i) (slice_index p.peaks i) (y.grants (length x.state.plans) i)
+  pub granted : (i : ℕ) → i < length p.plan.streams
+      → IsGranted (declared_rights p.plan.streams i) (slice_index p.peaks i) (y.grants (length x.state.plans) i)
   pub parcels : (k q : ℕ) → k < length x.state.plans → y.parcels k q ≡ x.parcels k q
-  pub parceled : (q : ℕ) → q < length p.plan.signals → y.parcels (length x.state.plans) q ≡ Some (empty_kept (most_keys (parcels_of p.plan.signals q)))
+  pub parceled : (q : ℕ) → q < length p.plan.signals
+      → y.parcels (length x.state.plans) q ≡ Some (empty_kept (most_keys (parcels_of p.plan.signals q)))
   pub unfinished : (k : ℕ) → k < length x.state.plans → y.unfinished k ≡ x.unfinished k
   pub counted : y.unfinished (length x.state.plans) ≡ length p.plan.streams
   pub running : y.running ≡ x.running

@@ -7,7 +7,8 @@ use Rattle.sm_reservation.specs.Hold.{Hold, no_hold, minus, pay_spare, get_spare
 use Rattle.sm_reservation.specs.HoldOf.{hold_of}
 use Rattle.sm_plan_code.specs.Plan.{StreamModel}
 use Rattle.sm_verifier.specs.FirstHolding.{declared_rights}
-use Rattle.sm_protocol.specs.State.{State, stream_count, is_running, signal_count, hold_of_stream, parcel_at, is_under_way, free_places}
+use Rattle.sm_protocol.specs.State.{State, stream_count, is_running, signal_count, hold_of_stream, parcel_at}
+use Rattle.sm_protocol.specs.State.{is_under_way, free_places}
 use Rattle.sm_protocol.specs.Happens.{running_plans}
 use Rattle.sm_protocol.specs.State as state
 
@@ -16,7 +17,8 @@ abbrev pub carried : State → ℕ → ℕ → Hold
 carried w k q = if is_under_way (w.marks k q) then hold_of (parcel_at w k q) else no_hold
 
 -- The pool is the state's. The grant of each stream that was begun and has not finished is what the stream holds, by
--- the plan's number and by the stream's; and by the plan's number and by the signal's, each parcel is what is under way.
+-- the plan's number and by the stream's; and by the plan's number and by the signal's, each parcel is what is under
+-- way.
 pub record IsTied (w : State) (free : Hold) (granted : ℕ → ℕ → Hold) (sent : ℕ → ℕ → Hold) : Type 0 where
   pub pool : free ≡ state.pool w
   pub grants : (id : StreamId) → is_running w id ≡ true → granted id.plan id.stream ≡ hold_of_stream w id.plan id.stream

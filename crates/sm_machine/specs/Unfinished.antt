@@ -6,7 +6,8 @@ use Rattle.sm_machine.specs.Begun.{BegunModel, no_begun}
 -- those of the first n plans that have a stream that has not finished, by how many of each have not
 abbrev pub unfinished_below : (ℕ → ℕ) → ℕ → List ℕ
 unfinished_below counts zero = []
-unfinished_below counts (suc n) = if counts n == 0 then unfinished_below counts n else unfinished_below counts n ++ n ∷ []
+unfinished_below counts (suc n) = if counts n == 0 then unfinished_below counts n else unfinished_below counts n
+    ++ n ∷ []
 
 -- how many streams of a plan have not finished
 abbrev pub unfinished_of : List BegunModel → ℕ → ℕ

@@ -26,13 +26,15 @@ abbrev pub IsUnsent : Option HoldModel → Rights → Type 0
 IsUnsent None p = ⊥
 IsUnsent (Some kept) p = (kept.rights ≡ no_rights) × (most_keys p ≤ kept.capacity)
 
--- Events led to the state from an opening of the machine's own configuration, the rights are those of the state, there is
--- capacity for all that streams and signals will have, and what is counted is the state's.
+-- Events led to the state from an opening of the machine's own configuration, the rights are those of the state, there
+-- is capacity for all that streams and signals will have, and what is counted is the state's.
 pub record IsWorking (x : Whole) : Type 0 where
   pub reached : IsReached x.setup x.state
   pub tied : IsTied x.state x.pool (λ k i. hold_in (x.grants k i)) (λ k q. hold_in (x.parcels k q))
-  pub capacities : (id : StreamId) → is_begun x.state id ≡ true → HasCapacityOn (stream_at x.state.sizes (plan_at x.state id.plan) id.stream) (x.grants id.plan id.stream)
-  pub unsent : (k q : ℕ) → k < length x.state.plans → q < signal_count x.state k → (x.state.marks k q).posted ≡ false → IsUnsent (x.parcels k q) (parcel_at x.state k q)
+  pub capacities : (id : StreamId) → is_begun x.state id ≡ true
+      → HasCapacityOn (stream_at x.state.sizes (plan_at x.state id.plan) id.stream) (x.grants id.plan id.stream)
+  pub unsent : (k q : ℕ) → k < length x.state.plans → q < signal_count x.state k → (x.state.marks k q).posted ≡ false
+      → IsUnsent (x.parcels k q) (parcel_at x.state k q)
   pub counted : HasCounters x.state x.unfinished x.running x.free
 
 -- A machine whose stream makes this next, or its end: it was begun, and hasn't finished.

@@ -1,6 +1,7 @@
 -- The entries of each shard, the newest first, and what a pass has seen of them.
 -- `VersionsRise`, `word_at` and `words_for` are internal: you need not read them for the public contracts.
-use Rattle.std.specs.Prelude.{◌≡◌, ◌⊎◌, ℕ, zero, suc, ◌+◌, ◌<◌, ◌==◌, List, [], ◌∷◌, if◌then◌else◌, Option, Some, None, IsSomeAnd, All, Contains, map}
+use Rattle.std.specs.Prelude.{◌≡◌, ◌⊎◌, ℕ, zero, suc, ◌+◌, ◌<◌, ◌==◌, List, [], ◌∷◌, if◌then◌else◌, Option, Some, None}
+use Rattle.std.specs.Prelude.{IsSomeAnd, All, Contains, map}
 use Rattle.sm_placement.specs.declared.entry.Entry.{Entry}
 use Rattle.sm_map.specs.Entry.{word_for}
 

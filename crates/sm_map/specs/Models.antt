@@ -19,8 +19,8 @@ pub record PublisherModel : Type 0 where
   pub words : WordsModel
   pub stores : List (ℕ × Entry)
 
--- a pass: its words, what the publisher had stored since the opening when the pass was made or when the two last met, and what the pass has seen,
--- the last first
+-- a pass: its words, what the publisher had stored since the opening when the pass was made or when the two last met,
+-- and what the pass has seen, the last first
 pub record PassModel : Type 0 where
   pub words : WordsModel
   pub since : List (ℕ × Entry)
@@ -30,7 +30,8 @@ pub record PassModel : Type 0 where
 abbrev pub history : PublisherModel → ℕ → List Entry
 history publisher shard = entries_of_shard publisher.words.opening publisher.stores shard
 
--- what the publisher had stored when the pass was made, or when the two last met, is the earlier part of what it has stored
+-- what the publisher had stored when the pass was made, or when the two last met, is the earlier part of what it has
+-- stored
 abbrev pub IsSince : PublisherModel → PassModel → Type 0
 IsSince publisher pass = (later : List (ℕ × Entry)) × (publisher.stores ≡ later ++ pass.since)
 

@@ -70,17 +70,18 @@ with_seen view shard entry = record view { seen = (shard, entry) ∷ view.seen }
 abbrev pub with_store : View → ℕ → Entry → View
 with_store view shard entry = record view { stores = (shard, entry) ∷ view.stores }
 
--- The rule for the view of a seat: the publisher alone knows all that is stored, what was stored when the seat was parted from it
--- is the earlier part of that, and each entry that was seen is one of its shard's.
+-- The rule for the view of a seat: the publisher alone knows all that is stored, what was stored when the seat was
+-- parted from it is the earlier part of that, and each entry that was seen is one of its shard's.
 pub record Fits (servers : ℕ) (opening : List Entry) (publisher : ℕ) (stores : List (ℕ × Entry)) (seat : ℕ) (view : View) : Type 0 where
-  pub one : view.publishes ≡ true → (seat ≡ publisher) × (view.servers ≡ servers) × (view.opening ≡ opening) × (view.stores ≡ stores)
+  pub one : view.publishes ≡ true
+      → (seat ≡ publisher) × (view.servers ≡ servers) × (view.opening ≡ opening) × (view.stores ≡ stores)
   pub later : List (ℕ × Entry)
   pub earlier : stores ≡ later ++ view.since
   pub stand : AllStand opening stores view.seen
 
--- The rule, for words that were opened with these entries. One seat is the publisher's, and all that was stored is what it stored.
--- Each word is that of its shard's newest entry, and 0 if there is no shard. Along a shard's list the versions rise by one,
--- and each server is below the count and each version below 2^47.
+-- The rule, for words that were opened with these entries. One seat is the publisher's, and all that was stored is what
+-- it stored. Each word is that of its shard's newest entry, and 0 if there is no shard. Along a shard's list the
+-- versions rise by one, and each server is below the count and each version below 2^47.
 pub record Kept {S : Type 0} (servers : ℕ) (opening : List Entry) (state : State S View) : Type 0 where
   pub publisher : ℕ
   pub stores : List (ℕ × Entry)
@@ -88,10 +89,11 @@ pub record Kept {S : Type 0} (servers : ℕ) (opening : List Entry) (state : Sta
   pub words : (shard : ℕ) → slice_index state.words shard ≡ word_at (newest (entries_of_shard opening stores shard))
   pub rises : (shard : ℕ) → VersionsRise (entries_of_shard opening stores shard)
   pub in_range : (shard : ℕ) → All (IsInRange servers) (entries_of_shard opening stores shard)
-  pub each : (seat : ℕ) (view : View) → get_elem? state.views seat ≡ some view → Fits servers opening publisher stores seat view
+  pub each : (seat : ℕ) (view : View) → get_elem? state.views seat ≡ some view
+      → Fits servers opening publisher stores seat view
 
--- a load finds the word of this entry, which is no older than what was seen of the shard or was stored when the seat was parted from the
--- publisher, and which is then seen too
+-- a load finds the word of this entry, which is no older than what was seen of the shard or was stored when the seat
+-- was parted from the publisher, and which is then seen too
 pub record Finds {S : Type 0} (step : Step S) (before : Me S View) (found : ℕ) (after : Me S View) (entry : Entry) : Type 0 where
   pub word : found ≡ word_for entry
   pub in_range : IsInRange before.0.servers entry
@@ -104,8 +106,8 @@ pub record Finds {S : Type 0} (step : Step S) (before : Me S View) (found : ℕ)
 abbrev pub Looks : {S : Type 0} → Step S → Me S View → ℕ → Me S View → Type 0
 Looks step before found after = (entry : Entry) × Finds step before found after entry
 
--- what a load tells the publisher and a pass as one: the entry is the shard's newest, what was stored when they were parted is the earlier
--- part of what is stored, and each entry that was seen is one of its shard's
+-- what a load tells the publisher and a pass as one: the entry is the shard's newest, what was stored when they were
+-- parted is the earlier part of what is stored, and each entry that was seen is one of its shard's
 pub record Meets {S : Type 0} (step : Step S) (before : Me S View) (found : ℕ) (after : Me S View) : Type 0 where
   pub entry : Entry
   pub finds : Finds step before found after entry

@@ -5,7 +5,8 @@ use Rattle.sm_placement.specs.declared.config.Server.{Server}
 use Rattle.sm_placement.specs.declared.config.Shard.{Shard}
 use Rattle.sm_placement.specs.declared.config.ConfigFault.{ConfigFault}
 use Rattle.sm_placement.specs.declared.config.ConfigFault.TheVariants.{TooMany, BadName, DoubleName, BadNumber}
-use Rattle.sm_placement.specs.Setup.{ServerRow, ShardRow, Setup, is_too_large, has_good_names, has_doubled_name, has_good_numbers}
+use Rattle.sm_placement.specs.Setup.{ServerRow, ShardRow, Setup, is_too_large, has_good_names, has_doubled_name}
+use Rattle.sm_placement.specs.Setup.{has_good_numbers}
 
 -- a server as a configuration says it: its name and its region as bytes, and its room
 abbrev pub server_row : Server → ServerRow

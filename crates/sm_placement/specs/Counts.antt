@@ -1,6 +1,7 @@
 -- How many servers of a shard's row are live, and how many serve it.
 -- Internal definitions: you need not read them for the public contracts.
-use Rattle.std.specs.Prelude.{◌≡◌, ◌<◌, ◌≤◌, ℕ, ◌+◌, ◌-◌, ◌^◌, ◌==◌, ◌&&◌, ◌||◌, not, Bool, Option, Some, None, if◌then◌else◌, List, length}
+use Rattle.std.specs.Prelude.{◌≡◌, ◌<◌, ◌≤◌, ℕ, ◌+◌, ◌-◌, ◌^◌, ◌==◌, ◌&&◌, ◌||◌, not, Bool, Option, Some, None}
+use Rattle.std.specs.Prelude.{if◌then◌else◌, List, length}
 use Rattle.std.specs.Option.{option_or, unwrap_or}
 use Rattle.sm_server.specs.declared.call.Cell.{Cell}
 use Rattle.sm_server.specs.declared.call.Cell.TheVariants.{Forwarding}
@@ -24,8 +25,8 @@ abbrev pub target_of : Cell → Option ℕ
 target_of (Forwarding to number) = Some to
 target_of _ = None
 
--- the other server whose part in a row may change with the cell of v: the one to which the old or the new cell forwards,
--- or v itself if neither does
+-- the other server whose part in a row may change with the cell of v: the one to which the old or the new cell
+-- forwards, or v itself if neither does
 abbrev pub party_of : Cell → Cell → ℕ → ℕ
 party_of old next v = unwrap_or (option_or (target_of old) (target_of next)) v
 
@@ -60,8 +61,10 @@ part_of down has = bit (not down && has)
 
 -- each shard's count after a server goes down or comes up: the part that the server had is exchanged
 abbrev pub AreToggled : List ℕ → List ℕ → Bool → (ℕ → Bool) → Type 0
-AreToggled before after down has = (s : ℕ) → s < length before → entries_of 0 after s + part_of (not down) (has s) ≡ entries_of 0 before s + part_of down (has s)
+AreToggled before after down has = (s : ℕ) → s < length before
+    → entries_of 0 after s + part_of (not down) (has s) ≡ entries_of 0 before s + part_of down (has s)
 
 -- each shard's count has the part that the server has before it goes down or comes up, and is that of a row
 abbrev pub CanToggle : List ℕ → Bool → (ℕ → Bool) → Type 0
-CanToggle lives down has = (s : ℕ) → s < length lives → (part_of (not down) (has s) ≤ entries_of 0 lives s) × (entries_of 0 lives s ≤ MOST_SERVERS)
+CanToggle lives down has = (s : ℕ) → s < length lives
+    → (part_of (not down) (has s) ≤ entries_of 0 lives s) × (entries_of 0 lives s ≤ MOST_SERVERS)

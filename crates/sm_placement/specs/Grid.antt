@@ -11,8 +11,8 @@ use Rattle.sm_placement.specs.Counts.{has_replica}
 use Rattle.sm_placement.specs.Replicas.{ReplicasModel, replicas_by}
 use Rattle.sm_placement.specs.Layout.{grid_of, entries_of}
 
--- a table as contracts see it: a configuration, the cells and their last call numbers (shard after shard, with one entry for each
--- server), and for each server whether it is down
+-- a table as contracts see it: a configuration, the cells and their last call numbers (shard after shard, with one
+-- entry for each server), and for each server whether it is down
 pub record TableModel : Type 0 where
   pub setup : Setup
   pub cells : List Cell
@@ -39,8 +39,8 @@ pub record Totals : Type 0 where
   pub replicas : ReplicasModel
   pub down : ℕ
 
--- Each list has an entry for each shard, server or pair. Each total is the sum that it stands for, and who has a replica of what is
--- what the cells say.
+-- Each list has an entry for each shard, server or pair. Each total is the sum that it stands for, and who has a
+-- replica of what is what the cells say.
 pub record IsCounted (g : TableModel) (t : Totals) : Type 0 where
   pub setup : IsSetup g.setup
   pub cells_length : length g.cells ≡ length g.setup.shards * length g.setup.servers
@@ -53,8 +53,10 @@ pub record IsCounted (g : TableModel) (t : Totals) : Type 0 where
   pub replicas_shards : t.replicas.shards ≡ length g.setup.shards
   pub known : (s v : ℕ) → IsKnownCell (length g.setup.servers) (cells_of g s v)
   pub loads : (v : ℕ) → v < length g.setup.servers → entries_of 0 t.loads v ≡ load_of (sizes_of g.setup) (cells_of g) v
-  pub lives : (s : ℕ) → s < length g.setup.shards → entries_of 0 t.lives s ≡ live_in (length g.setup.servers) (cells_of g s) (down_of g)
-  pub servings : (s : ℕ) → s < length g.setup.shards → entries_of 0 t.servings s ≡ serving_in (length g.setup.servers) (cells_of g s)
+  pub lives : (s : ℕ) → s < length g.setup.shards
+      → entries_of 0 t.lives s ≡ live_in (length g.setup.servers) (cells_of g s) (down_of g)
+  pub servings : (s : ℕ) → s < length g.setup.shards
+      → entries_of 0 t.servings s ≡ serving_in (length g.setup.servers) (cells_of g s)
   pub replicas : replicas_by t.replicas ≡ (λ v s. has_replica (cells_of g s) v)
   pub down : t.down ≡ count_below (length g.setup.servers) (down_of g)
 

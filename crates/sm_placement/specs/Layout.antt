@@ -1,14 +1,15 @@
 -- A placement as lists: the cells shard after shard, with one cell for each server.
-use Rattle.std.specs.Prelude.{◌≡◌, ◌≤◌, ◌<◌, ℕ, ◌+◌, ◌*◌, Bool, false, List, length, Option, Some, None, nat_lt, if◌then◌else◌, slice_index_or}
+use Rattle.std.specs.Prelude.{◌≡◌, ◌≤◌, ◌<◌, ℕ, ◌+◌, ◌*◌, Bool, false, List, length, Option, Some, None, nat_lt}
+use Rattle.std.specs.Prelude.{if◌then◌else◌, slice_index_or}
 use Rattle.sm_server.specs.declared.call.Cell.{Cell}
 use Rattle.sm_server.specs.declared.call.Cell.TheVariants.{Absent}
 use Rattle.sm_placement.specs.Setup.{Setup, Sizes}
 use Rattle.sm_placement.specs.Rows.{IsKnownCell}
 use Rattle.sm_placement.specs.Place.{Place, load_at}
 
--- a placement as contracts see it: a configuration, the cells and their last call numbers (shard after shard, with one entry for
--- each server), for each server whether it is down, for each shard the listed server and the version of the map's entry, and how
--- many servers may be down at once (SM 2021)
+-- a placement as contracts see it: a configuration, the cells and their last call numbers (shard after shard, with one
+-- entry for each server), for each server whether it is down, for each shard the listed server and the version of the
+-- map's entry, and how many servers may be down at once (SM 2021)
 pub record PlacementModel : Type 0 where
   pub setup : Setup
   pub cells : List Cell
@@ -37,8 +38,8 @@ place_of l = record {
   limit = l.limit;
 }
 
--- The facts that every placement keeps: beyond its servers and shards there is nothing, nobody is down and nothing is listed,
--- each server that a cell or the map names is known, and no load is above its room.
+-- The facts that every placement keeps: beyond its servers and shards there is nothing, nobody is down and nothing is
+-- listed, each server that a cell or the map names is known, and no load is above its room.
 pub record IsPlacement (c : Sizes) (p : Place) : Type 0 where
   pub no_server : (s v : ℕ) → c.servers ≤ v → p.cells s v ≡ Absent
   pub no_shard : (s v : ℕ) → c.shards ≤ s → p.cells s v ≡ Absent

@@ -1,5 +1,6 @@
 -- The lead of a shard: where its primary stands, and which handover of it is under way.
-use Rattle.std.specs.Prelude.{◌≡◌, ◌≢◌, ◌↔◌, ℕ, ◌≤◌, ◌<◌, ◌==◌, ◌&&◌, Bool, true, false, Option, Some, None, if◌then◌else◌, List, [], ◌∷◌, filter}
+use Rattle.std.specs.Prelude.{◌≡◌, ◌≢◌, ◌↔◌, ℕ, ◌≤◌, ◌<◌, ◌==◌, ◌&&◌, Bool, true, false, Option, Some, None}
+use Rattle.std.specs.Prelude.{if◌then◌else◌, List, [], ◌∷◌, filter}
 use Rattle.std.specs.List.{range_with_len}
 use Rattle.std.specs.Option.{option_or, option_map_or}
 use Rattle.sm_server.specs.declared.call.Cell.{Cell}
@@ -23,9 +24,12 @@ IsPlain _ = ⊥
 abbrev pub Describes : Lead → ℕ → (ℕ → Cell) → Type 0
 Describes Gone n row = (x : ℕ) → IsPlain (row x)
 Describes (At u) n row = (row u ≡ Primary) × ((x : ℕ) → x ≢ u → IsPlain (row x))
-Describes (Ready u v) n row = (u ≢ v) × (row u ≡ Primary) × (row v ≡ Prepared u n) × ((x : ℕ) → x ≢ u → x ≢ v → IsPlain (row x))
-Describes (Handing u v) n row = (u ≢ v) × (row u ≡ Forwarding v n) × (row v ≡ Prepared u n) × ((x : ℕ) → x ≢ u → x ≢ v → IsPlain (row x))
-Describes (Handed u v) n row = (u ≢ v) × (row u ≡ Forwarding v n) × (row v ≡ Primary) × ((x : ℕ) → x ≢ u → x ≢ v → IsPlain (row x))
+Describes (Ready u v) n row = (u ≢ v) × (row u ≡ Primary) × (row v ≡ Prepared u n)
+    × ((x : ℕ) → x ≢ u → x ≢ v → IsPlain (row x))
+Describes (Handing u v) n row = (u ≢ v) × (row u ≡ Forwarding v n) × (row v ≡ Prepared u n)
+    × ((x : ℕ) → x ≢ u → x ≢ v → IsPlain (row x))
+Describes (Handed u v) n row = (u ≢ v) × (row u ≡ Forwarding v n) × (row v ≡ Primary)
+    × ((x : ℕ) → x ≢ u → x ≢ v → IsPlain (row x))
 
 -- no handover is under way
 abbrev pub is_at_rest : Lead → Bool
@@ -91,4 +95,5 @@ pub record LeadWhereDescribed (n : ℕ) (row : ℕ → Cell) : Type 0 where
 
 -- who serves a row of n servers is told by the lead that describes it
 abbrev pub ServingByLead : Type 0
-ServingByLead = (lead : Lead) (number n : ℕ) (row : ℕ → Cell) → Describes lead number row → ((v : ℕ) → n ≤ v → row v ≡ Absent) → serving_of n row ≡ serving_under lead
+ServingByLead = (lead : Lead) (number n : ℕ) (row : ℕ → Cell) → Describes lead number row
+    → ((v : ℕ) → n ≤ v → row v ≡ Absent) → serving_of n row ≡ serving_under lead

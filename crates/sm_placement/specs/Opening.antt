@@ -1,13 +1,15 @@
 -- Opening a placement: the placement that is named, and why one is refused.
 -- `AreKnown`, `IsNamedOnce`, `tally`, `lead_cells` and `unpublished` are internal: you need not read them for the
 -- public contracts.
-use Rattle.std.specs.Prelude.{◌≡◌, ◌≤◌, ℕ, ◌&&◌, ◌||◌, ◌==◌, Bool, true, false, not, List, [], ◌∷◌, ◌++◌, length, Option, Some, None, nat_lt, if◌then◌else◌, option_map, find, count_by}
+use Rattle.std.specs.Prelude.{◌≡◌, ◌≤◌, ℕ, ◌&&◌, ◌||◌, ◌==◌, Bool, true, false, not, List, [], ◌∷◌, ◌++◌, length}
+use Rattle.std.specs.Prelude.{Option, Some, None, nat_lt, if◌then◌else◌, option_map, find, count_by}
 use Rattle.std.specs.List.{list_any, range_with_len}
 use Rattle.sm_server.specs.declared.call.Cell.{Cell}
 use Rattle.sm_server.specs.declared.call.Cell.TheVariants.{Absent}
 use Rattle.sm_server.specs.Cell.{is_primary, is_prepared, is_forwarding}
 use Rattle.sm_placement.specs.declared.opening.OpenFault.{OpenFault}
-use Rattle.sm_placement.specs.declared.opening.OpenFault.TheVariants.{TooMany, UnknownName, DoubleCell, BadLead, BadListing, OverRoom, Short, TooManyDown}
+use Rattle.sm_placement.specs.declared.opening.OpenFault.TheVariants.{TooMany, UnknownName, DoubleCell, BadLead}
+use Rattle.sm_placement.specs.declared.opening.OpenFault.TheVariants.{BadListing, OverRoom, Short, TooManyDown}
 use Rattle.sm_placement.specs.declared.opening.LeadCells.{LeadCells}
 use Rattle.sm_placement.specs.Setup.{Sizes}
 use Rattle.sm_placement.specs.Sums.{put2, count_below, any_below, first_from}

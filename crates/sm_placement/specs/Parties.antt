@@ -6,7 +6,8 @@ use Rattle.sm_placement.specs.declared.parties.TheConstants.{BLOCK}
 use Rattle.sm_placement.specs.Sums.{count_below}
 use Rattle.sm_placement.specs.Layout.{entries_of}
 
--- the parties of places as contracts see them: where each block begins in the list, and the list of the blocks that were written
+-- the parties of places as contracts see them: where each block begins in the list, and the list of the blocks that
+-- were written
 pub record PartiesModel : Type 0 where
   -- where each block starts in the list of parties, if it was written
   pub starts : List (Option ℕ)
@@ -29,4 +30,5 @@ party_at starts parties k = party_in (entries_of None starts (k / BLOCK)) partie
 pub record IsBlocks (starts : List (Option ℕ)) (parties : List Party) : Type 0 where
   pub written : length parties ≡ count_below (length starts) (λ b. is_some (entries_of None starts b)) * BLOCK
   pub within : (b x : ℕ) → entries_of None starts b ≡ Some x → x + BLOCK ≤ length parties
-  pub apart : (b d x y i j : ℕ) → entries_of None starts b ≡ Some x → entries_of None starts d ≡ Some y → i < BLOCK → j < BLOCK → x + i ≡ y + j → b ≡ d
+  pub apart : (b d x y i j : ℕ) → entries_of None starts b ≡ Some x → entries_of None starts d ≡ Some y → i < BLOCK
+      → j < BLOCK → x + i ≡ y + j → b ≡ d

@@ -1,5 +1,6 @@
 -- A placement: what each server has of each shard, who is down, and what the published map says.
-use Rattle.std.specs.Prelude.{◌≡◌, ◌≢◌, ℕ, suc, ◌+◌, ◌-◌, ◌<◌, ◌≤◌, Bool, true, false, not, Option, Result, Ok, Err, if◌then◌else◌}
+use Rattle.std.specs.Prelude.{◌≡◌, ◌≢◌, ℕ, suc, ◌+◌, ◌-◌, ◌<◌, ◌≤◌, Bool, true, false, not, Option, Result, Ok, Err}
+use Rattle.std.specs.Prelude.{if◌then◌else◌}
 use Rattle.sm_server.specs.declared.call.Cell.{Cell}
 use Rattle.sm_server.specs.declared.call.Cell.TheVariants.{Absent}
 use Rattle.sm_server.specs.declared.call.Call.{Call}
@@ -12,8 +13,8 @@ use Rattle.sm_placement.specs.Sums.{put, put2, bit, sum_below, count_below}
 use Rattle.sm_placement.specs.Setup.{Sizes}
 use Rattle.sm_placement.specs.Rows.{is_live, live_in}
 
--- A placement, read by the numbers of shards and servers: the cells with their last call numbers, which servers are down, the
--- entries of the published map, and how many servers may be down at once (SM 2021).
+-- A placement, read by the numbers of shards and servers: the cells with their last call numbers, which servers are
+-- down, the entries of the published map, and how many servers may be down at once (SM 2021).
 pub record Place : Type 0 where
   -- by shard, then by server
   pub cells : ℕ → ℕ → Cell
@@ -114,7 +115,8 @@ with_number s v number (Err why) = Err why
 -- its effect is now. Under the last number, at a server that is up, it changes nothing, and its effect was before.
 pub record NumberedAsCalled (c : Sizes) (p : Place) (s v : ℕ) (call : Call) (number : ℕ) : Type 0 where
   pub first : number ≢ p.last s v → called_numbered c p s v call number ≡ with_number s v number (called c p s v call)
-  pub again : p.down v ≡ false → number ≡ p.last s v → called_numbered c p s v call number ≡ Ok (record { place = p; fresh = false })
+  pub again : p.down v ≡ false → number ≡ p.last s v
+      → called_numbered c p s v call number ≡ Ok (record { place = p; fresh = false })
 
 -- the placement with other last numbers
 abbrev pub with_lasts : (ℕ → ℕ → ℕ) → Place → Place
@@ -127,7 +129,8 @@ outcome_with last (Err why) = Err why
 
 -- a call has the same outcome under any last numbers, and leaves them as they are
 abbrev pub LooksAtNoLasts : Sizes → Place → Type 0
-LooksAtNoLasts c p = (last : ℕ → ℕ → ℕ) (s v : ℕ) (call : Call) → called c (with_lasts last p) s v call ≡ outcome_with last (called c p s v call)
+LooksAtNoLasts c p = (last : ℕ → ℕ → ℕ) (s v : ℕ) (call : Call)
+    → called c (with_lasts last p) s v call ≡ outcome_with last (called c p s v call)
 
 -- A call is allowed: it leads to a next cell, the server is up, and has room if it had nothing of the shard.
 pub record IsAllowed (c : Sizes) (p : Place) (s v : ℕ) (call : Call) (to : Cell) : Type 0 where

@@ -28,7 +28,8 @@ abbrev pub forwards : Cell → ℕ → ℕ → Bool
 forwards (Forwarding to number) v n = (to == v) && (number == n)
 forwards _ v n = false
 
--- a cell of v serves the shard of the row: a primary does, and a prepared server to which the owner forwards under its number
+-- a cell of v serves the shard of the row: a primary does, and a prepared server to which the owner forwards under its
+-- number
 abbrev pub serves_as : (ℕ → Cell) → ℕ → Cell → Bool
 serves_as row v Primary = true
 serves_as row v (Prepared from number) = forwards (row from) v number

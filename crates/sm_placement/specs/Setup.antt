@@ -1,5 +1,6 @@
 -- A configuration: its servers and its shards, each at its number.
-use Rattle.std.specs.Prelude.{◌≡◌, ◌≤◌, ◌-◌, ◌&&◌, ◌||◌, ◌==◌, ℕ, Bool, true, false, List, [], length, Option, nat_lt, nat_le, map, position, slice_index_or, All}
+use Rattle.std.specs.Prelude.{◌≡◌, ◌≤◌, ◌-◌, ◌&&◌, ◌||◌, ◌==◌, ℕ, Bool, true, false, List, [], length, Option, nat_lt}
+use Rattle.std.specs.Prelude.{nat_le, map, position, slice_index_or, All}
 use Rattle.std.specs.Cmp.{IsEquivalence}
 use Rattle.std.specs.Cmp.Lexicographic.{pointwise}
 use Rattle.std.specs.List.{list_all}
@@ -14,8 +15,8 @@ pub record ServerRow : Type 0 where
   pub region : List ℕ
   pub room : ℕ
 
--- a shard: its name, the load of each replica, how many replicas it wants, how many of them may be away at once (SM 2021),
--- and in how many regions its replicas are to stand
+-- a shard: its name, the load of each replica, how many replicas it wants, how many of them may be away at once (SM
+-- 2021), and in how many regions its replicas are to stand
 pub record ShardRow : Type 0 where
   pub name : List ℕ
   pub load : ℕ
@@ -133,7 +134,8 @@ pub record Sizes : Type 0 where
   pub load : ℕ → ℕ
   pub floor : ℕ → ℕ
 
--- the numbers of this configuration; a shard's floor is its want less its cap: the live replicas below which it never falls
+-- the numbers of this configuration; a shard's floor is its want less its cap: the live replicas below which it never
+-- falls
 abbrev pub sizes_of : Setup → Sizes
 sizes_of setup = record {
   servers = length setup.servers;

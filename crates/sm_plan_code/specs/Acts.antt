@@ -11,7 +11,8 @@ use Rattle.sm_placement.specs.Place.{Place, called, publish}
 use Rattle.sm_placement.specs.Lead.{lead_of}
 use Rattle.sm_plan_code.specs.declared.call.ServerCall.{ServerCall}
 use Rattle.sm_plan_code.specs.declared.instruction.Instr.{Instr}
-use Rattle.sm_plan_code.specs.declared.instruction.Instr.TheVariants.{PrepareAdd, PrepareDrop, Add, Drop, Change, Publish, Unlist, Signal, Wait}
+use Rattle.sm_plan_code.specs.declared.instruction.Instr.TheVariants.{PrepareAdd, PrepareDrop, Add, Drop, Change}
+use Rattle.sm_plan_code.specs.declared.instruction.Instr.TheVariants.{Publish, Unlist, Signal, Wait}
 use Rattle.sm_plan_code.specs.Instr.{shard_of}
 use Rattle.sm_plan_code.specs.After.{to_list}
 
@@ -51,8 +52,8 @@ next_call numbers i = numbered_call i (shard_of i)
     numbered_call i None = None
     numbered_call i (Some s) = call_of i (number_after i (numbers s))
 
--- the call of an instruction for this shard, if it has had its effect: the handover that it began or went on with has the
--- shard's highest number by now
+-- the call of an instruction for this shard, if it has had its effect: the handover that it began or went on with has
+-- the shard's highest number by now
 abbrev pub call_again : (ℕ → ℕ) → Instr → Option ℕ → Option ServerCall
 call_again numbers i None = None
 call_again numbers i (Some s) = call_of i (numbers s)

@@ -1,5 +1,6 @@
 -- The table of rights: what each instruction tests of a hold, and the hold that it leaves.
-use Rattle.std.specs.Prelude.{ℕ, zero, suc, Bool, false, not, ◌&&◌, ◌==◌, nat_le, is_some, is_none, Option, Some, None, Result, Ok, Err, List, [], ◌∷◌, slice_get, if◌then◌else◌}
+use Rattle.std.specs.Prelude.{ℕ, zero, suc, Bool, false, not, ◌&&◌, ◌==◌, nat_le, is_some, is_none, Option, Some, None}
+use Rattle.std.specs.Prelude.{Result, Ok, Err, List, [], ◌∷◌, slice_get, if◌then◌else◌}
 use Rattle.std.specs.List.{list_all}
 use Rattle.sm_server.specs.declared.call.Role.TheVariants as role
 use Rattle.sm_placement.specs.declared.lead.Lead.{Lead}
@@ -8,13 +9,16 @@ use Rattle.sm_placement.specs.Setup.{Sizes}
 use Rattle.sm_reservation.specs.declared.right.PlainCell.{PlainCell}
 use Rattle.sm_reservation.specs.declared.right.PlainCell.TheVariants.{Absent, Secondary}
 use Rattle.sm_reservation.specs.Rights.{Rights}
-use Rattle.sm_reservation.specs.Hold.{Hold, with_cell, with_crown, pay_room, get_room, pay_spare, get_spare, minus, plus}
+use Rattle.sm_reservation.specs.Hold.{Hold, with_cell, with_crown, pay_room, get_room, pay_spare, get_spare, minus}
+use Rattle.sm_reservation.specs.Hold.{plus}
 use Rattle.sm_reservation.specs.Amounts.{is_cell, same_lead, same_listed}
 use Rattle.sm_reservation.specs.Short.{first_short}
 use Rattle.sm_plan_code.specs.declared.instruction.Instr.{Instr}
-use Rattle.sm_plan_code.specs.declared.instruction.Instr.TheVariants.{PrepareAdd, PrepareDrop, Add, Drop, Change, Publish, Unlist, Signal, Wait}
+use Rattle.sm_plan_code.specs.declared.instruction.Instr.TheVariants.{PrepareAdd, PrepareDrop, Add, Drop, Change}
+use Rattle.sm_plan_code.specs.declared.instruction.Instr.TheVariants.{Publish, Unlist, Signal, Wait}
 use Rattle.sm_plan_code.specs.declared.instruction.Why.{Why}
-use Rattle.sm_plan_code.specs.declared.instruction.Why.TheVariants.{NoRight, WrongState, NoCrown, WrongLead, StillListed, NoRoom, NoSpare, NotCarried, Twice}
+use Rattle.sm_plan_code.specs.declared.instruction.Why.TheVariants.{NoRight, WrongState, NoCrown, WrongLead}
+use Rattle.sm_plan_code.specs.declared.instruction.Why.TheVariants.{StillListed, NoRoom, NoSpare, NotCarried, Twice}
 
 -- One line of the table: the tests in their order, each with the answer if it fails, and the hold if all pass.
 pub record Line : Type 0 where
@@ -105,8 +109,8 @@ to_list (Handed u v) = Some v
 abbrev pub refused_line : Why → Hold → Line
 refused_line why h = record { tests = (false, why) ∷ []; change = h }
 
--- The line of prepare_add of s at v, where u is the owner: the lead At(u) becomes Ready(u, v), and the right to the absent cell
--- and room for the load leave the hold.
+-- The line of prepare_add of s at v, where u is the owner: the lead At(u) becomes Ready(u, v), and the right to the
+-- absent cell and room for the load leave the hold.
 abbrev pub prepare_add_line : Sizes → ℕ → ℕ → ℕ → Hold → Line
 prepare_add_line c s v u h = record {
   tests = (has_crown h s, NoCrown) ∷ (has_lead h s (At u), WrongLead) ∷ comes_to c s v h;
@@ -120,16 +124,16 @@ prepare_drop_line s u v h = record {
   change = with_lead h s (Handing u v);
 }
 
--- The line of add of s at v as secondary: the right to the absent cell becomes one to a secondary, room for the load leaves the
--- hold, and one spare replica comes in.
+-- The line of add of s at v as secondary: the right to the absent cell becomes one to a secondary, room for the load
+-- leaves the hold, and one spare replica comes in.
 abbrev pub add_secondary_line : Sizes → ℕ → ℕ → Hold → Line
 add_secondary_line c s v h = record {
   tests = comes_to c s v h;
   change = get_spare (pay_room (with_cell h s v (Some Secondary)) v (c.load s)) s 1;
 }
 
--- The line of add of s at v as primary, by the lead of the crown. Handing(u, v) becomes Handed(u, v). Gone becomes At(v): then the
--- right to the absent cell and room for the load leave the hold, and one spare replica comes in.
+-- The line of add of s at v as primary, by the lead of the crown. Handing(u, v) becomes Handed(u, v). Gone becomes
+-- At(v): then the right to the absent cell and room for the load leave the hold, and one spare replica comes in.
 abbrev pub add_primary_line : Sizes → ℕ → ℕ → Hold → Option Lead → Line
 add_primary_line c s v h None = refused_line NoCrown h
 add_primary_line c s v h (Some (Handing u w)) = record {
@@ -142,17 +146,17 @@ add_primary_line c s v h (Some Gone) = record {
 }
 add_primary_line c s v h (Some lead) = refused_line WrongLead h
 
--- The line of drop of s at v, if the right to the cell is held: the right to a secondary becomes one to an absent cell, one spare
--- replica leaves the hold, and room for the load comes in.
+-- The line of drop of s at v, if the right to the cell is held: the right to a secondary becomes one to an absent cell,
+-- one spare replica leaves the hold, and room for the load comes in.
 abbrev pub drop_held_line : Sizes → ℕ → ℕ → Hold → Line
 drop_held_line c s v h = record {
   tests = (has_cell h s v Secondary, WrongState) ∷ (has_spare h s, NoSpare) ∷ [];
   change = get_room (pay_spare (with_cell h s v (Some Absent)) s 1) v (c.load s);
 }
 
--- The line of drop of s at v, if that right isn't held, by the lead of the crown. Handed(v, w) becomes At(w), once v isn't listed;
--- Ready(u, v) becomes At(u); At(v) becomes Gone, once no server is listed, and one spare replica leaves the hold. Each time the
--- right to the absent cell and room for the load come in.
+-- The line of drop of s at v, if that right isn't held, by the lead of the crown. Handed(v, w) becomes At(w), once v
+-- isn't listed; Ready(u, v) becomes At(u); At(v) becomes Gone, once no server is listed, and one spare replica leaves
+-- the hold. Each time the right to the absent cell and room for the load come in.
 abbrev pub drop_led_line : Sizes → ℕ → ℕ → Hold → Option Lead → Line
 drop_led_line c s v h None = refused_line NoRight h
 drop_led_line c s v h (Some (Handed u w)) = record {
@@ -169,15 +173,16 @@ drop_led_line c s v h (Some (At u)) = record {
 }
 drop_led_line c s v h (Some lead) = refused_line WrongLead h
 
--- the line of change of s at v to primary: the lead Gone becomes At(v), and the right to the secondary cell leaves the hold
+-- the line of change of s at v to primary: the lead Gone becomes At(v), and the right to the secondary cell leaves the
+-- hold
 abbrev pub to_primary_line : ℕ → ℕ → Hold → Line
 to_primary_line s v h = record {
   tests = (has_crown h s, NoCrown) ∷ (has_lead h s Gone, WrongLead) ∷ (has_right h s v, NoRight) ∷ (has_cell h s v Secondary, WrongState) ∷ [];
   change = with_cell (with_lead h s (At v)) s v None;
 }
 
--- The line of change of s at u to secondary: the lead At(u) becomes Gone, once no server is listed, and the right to a secondary
--- cell comes in.
+-- The line of change of s at u to secondary: the lead At(u) becomes Gone, once no server is listed, and the right to a
+-- secondary cell comes in.
 abbrev pub to_secondary_line : ℕ → ℕ → Hold → Line
 to_secondary_line s u h = record {
   tests = (has_crown h s, NoCrown) ∷ (has_lead h s (At u), WrongLead) ∷ (is_unlisted h s, StillListed) ∷ (not (has_right h s u), Twice) ∷ [];

@@ -14,7 +14,8 @@ use Rattle.sm_reservation.specs.HoldOf.{hold_of}
 use Rattle.sm_reservation.specs.Truth.{IsTrueOf}
 use Rattle.sm_plan_code.specs.declared.call.ServerCall.{ServerCall}
 use Rattle.sm_plan_code.specs.declared.instruction.Instr.{Instr}
-use Rattle.sm_plan_code.specs.declared.instruction.Instr.TheVariants.{PrepareAdd, PrepareDrop, Add, Drop, Change, Publish, Unlist, Signal, Wait}
+use Rattle.sm_plan_code.specs.declared.instruction.Instr.TheVariants.{PrepareAdd, PrepareDrop, Add, Drop, Change}
+use Rattle.sm_plan_code.specs.declared.instruction.Instr.TheVariants.{Publish, Unlist, Signal, Wait}
 use Rattle.sm_plan_code.specs.Instr.{names_of, shard_of, Mentions, IsOwn}
 use Rattle.sm_plan_code.specs.After.{after}
 use Rattle.sm_plan_code.specs.Acts.{acts, numbers_after, next_call}
@@ -87,15 +88,18 @@ pub record Effect (c : Sizes) (p : Place) (leads : ℕ → Lead) (numbers : ℕ 
   pub numbered : next_numbers ≡ numbers_after numbers i
   -- the cell of its call is within reach of the hold before it and of the hold after it
   pub reached : (s v : ℕ) → touched i ≡ Some (s, v) → IsWithinReach h s v × IsWithinReach h' s v
-  pub exchanged : (r : Right) → stock c next_place next_leads r + bound c p r + count h r ≡ stock c p leads r + bound c next_place r + count h' r
+  pub exchanged : (r : Right) → stock c next_place next_leads r + bound c p r + count h r
+      ≡ stock c p leads r + bound c next_place r + count h' r
   -- who is listed may still be, and a number under which a request may have been passed on stays one
   pub listed : (s : ℕ) → IsListable (leads s) (p.listed s) → IsListable (next_leads s) (next_place.listed s)
   pub passed : (s m : ℕ) → MayHavePassed (leads s) (numbers s) m → MayHavePassed (next_leads s) (next_numbers s) m
 
 -- Each instruction but signal and wait has its effect if the table of rights gives a hold after it.
 abbrev pub HasEffects : Type 0
-HasEffects = (c : Sizes) (p : Place) (leads : ℕ → Lead) (numbers : ℕ → ℕ) (signals : ℕ → Rights) (h h' : Hold) (i : Instr) →
-    IsScene c p leads numbers h → IsReachable c p i → IsOwn i → after c signals i h ≡ Ok h' → Effect c p leads numbers h h' i
+HasEffects = (c : Sizes) (p : Place) (leads : ℕ → Lead) (numbers : ℕ → ℕ) (signals : ℕ
+    → Rights) (h h' : Hold) (i : Instr) →
+    IsScene c p leads numbers h → IsReachable c p i → IsOwn i → after c signals i h ≡ Ok h'
+    → Effect c p leads numbers h h' i
 
 -- ---- numbered calls
 
@@ -104,7 +108,8 @@ pub record SameRights (c : Sizes) (p q : Place) : Type 0 where
   pub placement : IsPlacement c p → IsPlacement c q
   pub stock : (leads : ℕ → Lead) (r : Right) → stock c q leads r ≡ stock c p leads r
   pub bound : (r : Right) → bound c q r ≡ bound c p r
-  pub scene : (leads : ℕ → Lead) (numbers : ℕ → ℕ) (h : Hold) → IsScene c p leads numbers h → IsScene c q leads numbers h
+  pub scene : (leads : ℕ → Lead) (numbers : ℕ → ℕ) (h : Hold) → IsScene c p leads numbers h
+      → IsScene c q leads numbers h
 
 -- Nothing of that looks at last numbers.
 abbrev pub LastsAreUnseen : Type 0
@@ -115,13 +120,16 @@ LastsAreUnseen = (c : Sizes) (p : Place) (last : ℕ → ℕ → ℕ) → SameRi
 pub record NumberedEffect (c : Sizes) (p : Place) (leads : ℕ → Lead) (numbers : ℕ → ℕ) (h h' : Hold) (i : Instr) (x : ServerCall) (number : ℕ) : Type 0 where
   pub effect : Effect c p leads numbers h h' i
   pub called : called c p x.shard x.server x.call ≡ Ok effect.next_place
-  pub answered : called_numbered c p x.shard x.server x.call number ≡ Ok (record { place = set_last effect.next_place x.shard x.server number; fresh = true })
+  pub answered : called_numbered c p x.shard x.server x.call number
+      ≡ Ok (record { place = set_last effect.next_place x.shard x.server number; fresh = true })
   pub scene : IsScene c (set_last effect.next_place x.shard x.server number) effect.next_leads effect.next_numbers h'
 
 -- A call under a number that isn't the last one of its cell has the effect of its instruction.
 abbrev pub HasNumberedEffects : Type 0
-HasNumberedEffects = (c : Sizes) (p : Place) (leads : ℕ → Lead) (numbers : ℕ → ℕ) (signals : ℕ → Rights) (h h' : Hold) (i : Instr) (x : ServerCall) (number : ℕ) →
-    IsScene c p leads numbers h → IsReachable c p i → after c signals i h ≡ Ok h' → next_call numbers i ≡ Some x → number ≢ p.last x.shard x.server →
+HasNumberedEffects = (c : Sizes) (p : Place) (leads : ℕ → Lead) (numbers : ℕ → ℕ) (signals : ℕ
+    → Rights) (h h' : Hold) (i : Instr) (x : ServerCall) (number : ℕ) →
+    IsScene c p leads numbers h → IsReachable c p i → after c signals i h ≡ Ok h' → next_call numbers i ≡ Some x
+    → number ≢ p.last x.shard x.server →
     NumberedEffect c p leads numbers h h' i x number
 
 -- ---- signals
@@ -130,10 +138,12 @@ HasNumberedEffects = (c : Sizes) (p : Place) (leads : ℕ → Lead) (numbers : �
 abbrev pub SignalGives : Type 0
 SignalGives = (c : Sizes) (p : Place) (numbers : ℕ → ℕ) (signals : ℕ → Rights) (h h' : Hold) (k : ℕ) →
     IsOrdered (signals k) → after c signals (Signal k) h ≡ Ok h' →
-    (acts c p numbers (Signal k) ≡ Some (p, numbers)) × ((r : Right) → count h' r + count (hold_of (signals k)) r ≡ count h r)
+    (acts c p numbers (Signal k) ≡ Some (p, numbers))
+    × ((r : Right) → count h' r + count (hold_of (signals k)) r ≡ count h r)
 
 -- A wait changes no placement, and the parcel of its signal, whose lists are in order, comes into the hold.
 abbrev pub WaitTakes : Type 0
 WaitTakes = (c : Sizes) (p : Place) (numbers : ℕ → ℕ) (signals : ℕ → Rights) (h h' : Hold) (k : ℕ) →
     IsOrdered (signals k) → after c signals (Wait k) h ≡ Ok h' →
-    (acts c p numbers (Wait k) ≡ Some (p, numbers)) × ((r : Right) → count h' r ≡ count h r + count (hold_of (signals k)) r)
+    (acts c p numbers (Wait k) ≡ Some (p, numbers))
+    × ((r : Right) → count h' r ≡ count h r + count (hold_of (signals k)) r)

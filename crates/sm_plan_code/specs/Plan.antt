@@ -7,13 +7,16 @@ use Rattle.sm_reservation.specs.declared.right.Crown.{Crown}
 use Rattle.sm_reservation.specs.Rights.{Rights}
 use Rattle.sm_reservation.specs.Key.{IsOrdered, IsPositive}
 use Rattle.sm_plan_code.specs.declared.instruction.Instr.{Instr}
-use Rattle.sm_plan_code.specs.declared.instruction.Instr.TheVariants.{PrepareAdd, PrepareDrop, Add, Drop, Change, Publish, Unlist, Signal, Wait}
+use Rattle.sm_plan_code.specs.declared.instruction.Instr.TheVariants.{PrepareAdd, PrepareDrop, Add, Drop, Change}
+use Rattle.sm_plan_code.specs.declared.instruction.Instr.TheVariants.{Publish, Unlist, Signal, Wait}
 use Rattle.sm_plan_code.specs.declared.plan.PlanFault.{PlanFault}
 use Rattle.sm_plan_code.specs.declared.plan.PlanFault.TheVariants.{TooMany, UnknownSignal}
 use Rattle.sm_plan_code.specs.Instr.{is_no_call, names_of, shard_of}
-use Rattle.sm_plan_code.specs.declared.limits.TheConstants.{MOST_STREAMS, MOST_SIGNALS, MOST_INSTRUCTIONS, MOST_CALLS, MOST_RIGHTS, MOST_AMOUNT}
+use Rattle.sm_plan_code.specs.declared.limits.TheConstants.{MOST_STREAMS, MOST_SIGNALS, MOST_INSTRUCTIONS, MOST_CALLS}
+use Rattle.sm_plan_code.specs.declared.limits.TheConstants.{MOST_RIGHTS, MOST_AMOUNT}
 
--- a stream: how many calls it makes at most, how many tries beside them, what it holds at its start, and its instructions
+-- a stream: how many calls it makes at most, how many tries beside them, what it holds at its start, and its
+-- instructions
 pub record StreamModel : Type 0 where
   pub budget : ℕ
   pub retries : ℕ
@@ -26,7 +29,8 @@ pub record PlanModel : Type 0 where
   pub streams : List StreamModel
   pub signals : List Rights
 
--- the places of a log that a plan takes: for each stream its budget, its retries, each instruction that is no call, and its end
+-- the places of a log that a plan takes: for each stream its budget, its retries, each instruction that is no call, and
+-- its end
 abbrev pub places_of : PlanModel → ℕ
 places_of plan = sum_by (λ stream. stream.budget + stream.retries + count_by is_no_call stream.code + 1) plan.streams
 

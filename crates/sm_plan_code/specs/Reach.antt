@@ -31,5 +31,7 @@ IsWithinReach h s v = HoldsCell h s v ⊎ HoldsLead h s v
 
 -- Two holds that can both be true of a placement, each beside the other, reach no cell together.
 abbrev pub ReachIsExclusive : Type 0
-ReachIsExclusive = (c : Sizes) (p : Place) (leads : ℕ → Lead) (numbers : ℕ → ℕ) (h k : Hold) → ((s : ℕ) → Describes (leads s) (numbers s) (p.cells s)) →
-    ((r : Right) → count h r + count k r + bound c p r ≤ stock c p leads r) → (s v : ℕ) → IsWithinReach h s v → IsWithinReach k s v → ⊥
+ReachIsExclusive = (c : Sizes) (p : Place) (leads : ℕ → Lead) (numbers : ℕ → ℕ) (h k : Hold)
+    → ((s : ℕ) → Describes (leads s) (numbers s) (p.cells s)) →
+    ((r : Right) → count h r + count k r + bound c p r ≤ stock c p leads r) → (s v : ℕ) → IsWithinReach h s v
+    → IsWithinReach k s v → ⊥

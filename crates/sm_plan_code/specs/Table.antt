@@ -21,7 +21,8 @@ use Rattle.sm_reservation.specs.CanJoin.{AreApart}
 use Rattle.sm_reservation.specs.Change.{portion_rights}
 use Rattle.sm_reservation.specs.Short.{first_short}
 use Rattle.sm_plan_code.specs.declared.instruction.Instr.{Instr}
-use Rattle.sm_plan_code.specs.declared.instruction.Instr.TheVariants.{PrepareAdd, PrepareDrop, Add, Drop, Change, Publish, Unlist, Signal, Wait}
+use Rattle.sm_plan_code.specs.declared.instruction.Instr.TheVariants.{PrepareAdd, PrepareDrop, Add, Drop, Change}
+use Rattle.sm_plan_code.specs.declared.instruction.Instr.TheVariants.{Publish, Unlist, Signal, Wait}
 use Rattle.sm_plan_code.specs.Instr.{IsOwn}
 use Rattle.sm_plan_code.specs.declared.instruction.Why.{Why}
 use Rattle.sm_plan_code.specs.declared.limits.TheConstants.{MOST_AMOUNT}
@@ -64,8 +65,8 @@ spare s amount = Some (record { shard = s; amount = amount })
 abbrev pub no_exchange : Exchange
 no_exchange = record { out = nothing; got = nothing }
 
--- prepare_add of s at v, where u is the owner: the crown at At(u), the right to the absent cell and room for the load are given up
--- for the crown at Ready(u, v)
+-- prepare_add of s at v, where u is the owner: the crown at At(u), the right to the absent cell and room for the load
+-- are given up for the crown at Ready(u, v)
 abbrev pub prepare_add_exchange : Sizes → ℕ → ℕ → ℕ → Option ℕ → Exchange
 prepare_add_exchange c s v u listed = record {
   out = portion (cell s v Absent) (crown s (At u) listed) (room v (c.load s)) None;
@@ -79,16 +80,16 @@ prepare_drop_exchange s u v listed = record {
   got = portion None (crown s (Handing u v) listed) None None;
 }
 
--- add of s at v as secondary: the right to the absent cell and room for the load are given up for the right to a secondary and one
--- spare replica
+-- add of s at v as secondary: the right to the absent cell and room for the load are given up for the right to a
+-- secondary and one spare replica
 abbrev pub add_secondary_exchange : Sizes → ℕ → ℕ → Exchange
 add_secondary_exchange c s v = record {
   out = portion (cell s v Absent) None (room v (c.load s)) None;
   got = portion (cell s v Secondary) None None (spare s 1);
 }
 
--- add of s at v as primary, by the lead of the crown: at Handing(u, v) that crown is given up for the one at Handed(u, v), and at
--- Gone with the right to the absent cell and room for the load, for the one at At(v) and one spare replica
+-- add of s at v as primary, by the lead of the crown: at Handing(u, v) that crown is given up for the one at Handed(u,
+-- v), and at Gone with the right to the absent cell and room for the load, for the one at At(v) and one spare replica
 abbrev pub add_primary_exchange : Sizes → ℕ → ℕ → Option ℕ → Option Lead → Exchange
 add_primary_exchange c s v listed (Some (Handing u w)) = record {
   out = portion None (crown s (Handing u v) listed) None None;
@@ -100,17 +101,17 @@ add_primary_exchange c s v listed (Some Gone) = record {
 }
 add_primary_exchange c s v listed _ = no_exchange
 
--- drop of s at v, if the right to the cell is held: the right to a secondary and one spare replica are given up for the right to
--- an absent cell and room for the load
+-- drop of s at v, if the right to the cell is held: the right to a secondary and one spare replica are given up for the
+-- right to an absent cell and room for the load
 abbrev pub drop_held_exchange : Sizes → ℕ → ℕ → Exchange
 drop_held_exchange c s v = record {
   out = portion (cell s v Secondary) None None (spare s 1);
   got = portion (cell s v Absent) None (room v (c.load s)) None;
 }
 
--- drop of s at v, if that right isn't held, by the lead of the crown: at Handed(v, w) that crown is given up for the one at At(w),
--- at Ready(u, v) for the one at At(u), and at At(v) with one spare replica for the one at Gone, if neither lists a server; each
--- time the right to the absent cell and room for the load are got too
+-- drop of s at v, if that right isn't held, by the lead of the crown: at Handed(v, w) that crown is given up for the
+-- one at At(w), at Ready(u, v) for the one at At(u), and at At(v) with one spare replica for the one at Gone, if
+-- neither lists a server; each time the right to the absent cell and room for the load are got too
 abbrev pub drop_led_exchange : Sizes → ℕ → ℕ → Option ℕ → Option Lead → Exchange
 drop_led_exchange c s v listed (Some (Handed u w)) = record {
   out = portion None (crown s (Handed v w) listed) None None;
@@ -126,15 +127,16 @@ drop_led_exchange c s v listed (Some (At u)) = record {
 }
 drop_led_exchange c s v listed _ = no_exchange
 
--- change of s at v to primary: the crown at Gone and the right to the secondary cell are given up for the crown at At(v)
+-- change of s at v to primary: the crown at Gone and the right to the secondary cell are given up for the crown at
+-- At(v)
 abbrev pub to_primary_exchange : ℕ → ℕ → Option ℕ → Exchange
 to_primary_exchange s v listed = record {
   out = portion (cell s v Secondary) (crown s Gone listed) None None;
   got = portion None (crown s (At v) listed) None None;
 }
 
--- change of s at u to secondary: the crown at At(u) is given up for the crown at Gone and the right to a secondary cell; neither
--- crown lists a server
+-- change of s at u to secondary: the crown at At(u) is given up for the crown at Gone and the right to a secondary
+-- cell; neither crown lists a server
 abbrev pub to_secondary_exchange : ℕ → ℕ → Exchange
 to_secondary_exchange s u = record {
   out = portion None (crown s (At u) None) None None;
@@ -188,9 +190,11 @@ pub record IsExchanged (h h' : Hold) (out got : Portion) : Type 0 where
   pub apart : AreApart (minus h (portion_rights out)) (hold_of (portion_rights got))
   pub left : h' ≡ plus (minus h (portion_rights out)) (portion_rights got)
 
--- The hold after an instruction but a signal or a wait is the hold before it, without what it needs, with what it gives.
+-- The hold after an instruction but a signal or a wait is the hold before it, without what it needs, with what it
+-- gives.
 abbrev pub LinesExchange : Type 0
-LinesExchange = (c : Sizes) (signals : ℕ → Rights) (h h' : Hold) (i : Instr) → IsOwn i → after c signals i h ≡ Ok h' → IsExchanged h h' (needs_of c i h) (gives_of c i h)
+LinesExchange = (c : Sizes) (signals : ℕ → Rights) (h h' : Hold) (i : Instr) → IsOwn i → after c signals i h ≡ Ok h'
+    → IsExchanged h h' (needs_of c i h) (gives_of c i h)
 
 -- ---- what is made of a line
 

@@ -5,7 +5,8 @@ use Rattle.serde_json.specs.Data.{Data}
 use Rattle.sm_server.specs.declared.call.Call.{Call}
 use Rattle.sm_server.specs.declared.call.Call.TheVariants as call
 use Rattle.sm_plan_text.specs.declared.fault.TextFault.{TextFault}
-use Rattle.sm_plan_text.specs.declared.member.Member.TheVariants.{Calls, Call as CallMember, Shard, Server, Role, From, To, Other, Number}
+use Rattle.sm_plan_text.specs.declared.member.Member.TheVariants.{Calls, Call as CallMember, Shard, Server, Role, From}
+use Rattle.sm_plan_text.specs.declared.member.Member.TheVariants.{To, Other, Number}
 use Rattle.sm_plan_text.specs.Values.{text_found, number_in, id_in, role_in}
 use Rattle.sm_plan_text.specs.Tables.{Row, one, whole, known, role, worded_faults}
 use Rattle.sm_plan_code.specs.declared.limits.TheConstants.{MOST_NUMBER}

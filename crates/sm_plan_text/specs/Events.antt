@@ -1,9 +1,11 @@
--- The events of a document, which are played one after the other: those of the protocol, which name a plan by its place among the plans of the document.
+-- The events of a document, which are played one after the other: those of the protocol, which name a plan by its place
+-- among the plans of the document.
 use Rattle.std.specs.Prelude.{ℕ, List, [], ◌∷◌, codes, Option, Some, None, option_and_then, if◌then◌else◌}
 use Rattle.std.specs.Str.{bytes_eq}
 use Rattle.serde_json.specs.Data.{Data}
 use Rattle.sm_plan_text.specs.declared.fault.TextFault.{TextFault}
-use Rattle.sm_plan_text.specs.declared.member.Member.TheVariants.{Events, Event as EventMember, Plan, Stream, Shard, Server, Ticket, When, More}
+use Rattle.sm_plan_text.specs.declared.member.Member.TheVariants.{Events, Event as EventMember, Plan, Stream, Shard}
+use Rattle.sm_plan_text.specs.declared.member.Member.TheVariants.{Server, Ticket, When, More}
 use Rattle.sm_protocol.specs.declared.event.Event.{Event}
 use Rattle.sm_protocol.specs.declared.event.Event.TheVariants as event
 use Rattle.sm_plan_text.specs.Values.{text_found, number_in, number_or, id_in, after_in}
@@ -50,7 +52,8 @@ event_table shards servers Begin = one Plan (whole MOST_NUMBER) ∷ []
 abbrev pub event_faults : List (List ℕ) → List (List ℕ) → List Data → Data → List TextFault
 event_faults shards servers before d = worded_faults Events EventMember event_word (event_table shards servers) d
 
--- the stream that is meant: by its plan's place in the document, the first one if none is named, and by its number in the plan
+-- the stream that is meant: by its plan's place in the document, the first one if none is named, and by its number in
+-- the plan
 abbrev pub stream_id_in : Data → StreamId
 stream_id_in d = record { plan = number_or 0 Plan MOST_NUMBER d; stream = number_in Stream MOST_NUMBER d }
 

@@ -1,7 +1,8 @@
 -- The faults of a text, and the one that is answered.
 use Rattle.std.specs.Prelude.{◌≡◌, ◌<◌, ◌≤◌, ℕ, List, [], ◌∷◌, ◌++◌, Option, Some, None, nat_lt, if◌then◌else◌, All}
 use Rattle.sm_plan_text.specs.declared.fault.TextFault.{TextFault}
-use Rattle.sm_plan_text.specs.declared.fault.TextFault.TheVariants.{NoMemory, NotJson, Shape, UnknownName, TooMany, Number}
+use Rattle.sm_plan_text.specs.declared.fault.TextFault.TheVariants.{NoMemory, NotJson, Shape, UnknownName, TooMany}
+use Rattle.sm_plan_text.specs.declared.fault.TextFault.TheVariants.{Number}
 
 -- the number of a fault, as its line says it: of several faults one of the lowest number is answered
 abbrev pub number_of : TextFault → ℕ

@@ -5,7 +5,8 @@ use Rattle.serde_json.specs.Data.{Data}
 use Rattle.sm_plan_code.specs.declared.instruction.Instr.{Instr}
 use Rattle.sm_plan_code.specs.declared.instruction.Instr.TheVariants as instr
 use Rattle.sm_plan_text.specs.declared.fault.TextFault.{TextFault}
-use Rattle.sm_plan_text.specs.declared.member.Member.TheVariants.{Code, Do, Shard, Server, Other, Role, To, Signal as SignalMember}
+use Rattle.sm_plan_text.specs.declared.member.Member.TheVariants.{Code, Do, Shard, Server, Other, Role, To}
+use Rattle.sm_plan_text.specs.declared.member.Member.TheVariants.{Signal as SignalMember}
 use Rattle.sm_plan_text.specs.Values.{text_found, id_in, role_in, number_below}
 use Rattle.sm_plan_text.specs.Tables.{Row, one, known, role, below, worded_faults}
 

@@ -27,16 +27,19 @@ pub record IsEarlyList {V : Type 0} (faults_of : List Data → Data → List Tex
   pub values : ids → list.faults.lowest ≡ None → list.values.items ≡ map value_of ds
 
 -- what is kept of a member and what stands there: the same, or for a list that was read early an empty one
-abbrev pub IsKept : {V : Type 0} → (List Data → Data → List TextFault) → (Data → V) → Type 0 → Option (EarlyList V) → Option Data → Option Data → Type 0
+abbrev pub IsKept : {V : Type 0} → (List Data → Data → List TextFault) → (Data → V) → Type 0 → Option (EarlyList V)
+    → Option Data → Option Data → Type 0
 IsKept faults_of value_of ids None kept whole = whole ≡ kept
-IsKept faults_of value_of ids (Some list) kept whole = (ds : Items) × (kept ≡ Some (array no_items)) × (whole ≡ Some (array ds)) × IsEarlyList faults_of value_of ids list (entries ds)
+IsKept faults_of value_of ids (Some list) kept whole = (ds : Items) × (kept ≡ Some (array no_items))
+    × (whole ≡ Some (array ds)) × IsEarlyList faults_of value_of ids list (entries ds)
 
 -- what is kept of an object's members, and the members of which some lists were read early
 pub record IsEarly (early : Early) (kept whole : Members) : Type 0 where
   pub shards : early.shards ≡ names_in (entries_in members.Shards (object kept))
   pub servers : early.servers ≡ names_in (entries_in members.Servers (object kept))
   pub keys : keys_of whole ≡ keys_of kept
-  pub others : (name : List ℕ) → (name ≡ text_of members.Calls → ⊥) → (name ≡ text_of members.Events → ⊥) → get_member name whole ≡ get_member name kept
+  pub others : (name : List ℕ) → (name ≡ text_of members.Calls → ⊥) → (name ≡ text_of members.Events → ⊥)
+      → get_member name whole ≡ get_member name kept
   pub calls : IsKept (call_faults early.shards early.servers) (call_in early.shards early.servers) (HaveIds early.shards early.servers)
       early.calls (get_member (text_of members.Calls) kept) (get_member (text_of members.Calls) whole)
   pub events : IsKept (event_faults early.shards early.servers) (event_in early.shards early.servers) (HaveIds early.shards early.servers)
@@ -49,7 +52,8 @@ IsPartialOutline partial whole = MatchOption partial.early (whole ≡ members_vi
 -- what is kept of a value, and the value of which some lists were read early
 abbrev pub IsOutlined : Option Early → Data → Data → Type 0
 IsOutlined None kept d = d ≡ kept
-IsOutlined (Some early) kept d = (some : Members) × (whole : Members) × (kept ≡ object some) × (d ≡ object whole) × IsEarly early some whole
+IsOutlined (Some early) kept d = (some : Members) × (whole : Members) × (kept ≡ object some) × (d ≡ object whole)
+    × IsEarly early some whole
 
 -- the value of which an outline has what was kept and what was read early
 abbrev pub IsOutline : Outline → Data → Type 0

@@ -1,6 +1,7 @@
 -- The parcels of a plan: what a signal carries, and what a stream holds at its start.
 -- `HaveIds` is internal: you need not read it for the public contracts.
-use Rattle.std.specs.Prelude.{ℕ, ◌+◌, ◌≤◌, List, [], ◌∷◌, ◌++◌, length, codes, map, Option, Some, None, option_and_then, unwrap_or, is_some, if◌then◌else◌}
+use Rattle.std.specs.Prelude.{ℕ, ◌+◌, ◌≤◌, List, [], ◌∷◌, ◌++◌, length, codes, map, Option, Some, None, option_and_then}
+use Rattle.std.specs.Prelude.{unwrap_or, is_some, if◌then◌else◌}
 use Rattle.std.specs.Str.{bytes_eq}
 use Rattle.serde_json.specs.Data.{Data}
 use Rattle.sm_placement.specs.declared.lead.Lead.{Lead}
@@ -17,7 +18,8 @@ use Rattle.sm_plan_text.specs.declared.fault.TextFault.{TextFault}
 use Rattle.sm_plan_text.specs.declared.member.Member.{Member}
 use Rattle.sm_plan_text.specs.declared.member.Member.TheVariants as members
 use Rattle.sm_plan_text.specs.Values.{text_found, number_in, id_in, entries_in}
-use Rattle.sm_plan_text.specs.Tables.{Row, one, maybe, whole, text, known, known_or_null, keyed, own_faults, worded_faults, walked}
+use Rattle.sm_plan_text.specs.Tables.{Row, one, maybe, whole, text, known, known_or_null, keyed, own_faults}
+use Rattle.sm_plan_text.specs.Tables.{worded_faults, walked}
 use Rattle.sm_plan_text.specs.Shards.{listed_in}
 use Rattle.sm_plan_code.specs.declared.limits.TheConstants.{MOST_AMOUNT, MOST_NUMBER, MOST_RIGHTS}
 
@@ -130,7 +132,8 @@ spare_in shards d = record { shard = id_in shards members.Shard d; amount = numb
 
 -- ---- parcels
 
--- the members of a parcel. Each key stands once in its list: a cell's shard and server, a crown's shard, a room's server, a spare's shard
+-- the members of a parcel. Each key stands once in its list: a cell's shard and server, a crown's shard, a room's
+-- server, a spare's shard
 abbrev pub parcel_table : List Row
 parcel_table =
     maybe members.Cells (keyed MOST_RIGHTS (members.Shard ∷ members.Server ∷ [])) ∷

@@ -1,7 +1,8 @@
 -- The text of a plan, over the names of the shards and servers: what is written for it.
 -- `scalar_data`, `scalars_said`, `tokens_of` and `lead_text` are internal: you need not read them for the public
 -- contracts.
-use Rattle.std.specs.Prelude.{◌≡◌, ℕ, Bool, List, [], ◌∷◌, codes, map, slice_index_or, Option, Some, None, nat_lt, if◌then◌else◌}
+use Rattle.std.specs.Prelude.{◌≡◌, ℕ, Bool, List, [], ◌∷◌, codes, map, slice_index_or, Option, Some, None, nat_lt}
+use Rattle.std.specs.Prelude.{if◌then◌else◌}
 use Rattle.std.specs.List.{list_any}
 use Rattle.std.specs.Borrow.{Bor}
 use Rattle.serde_json.specs.Data.{Data, Members, null, number, unsigned, string, array, object, no_members, member}
@@ -24,7 +25,11 @@ use Rattle.sm_plan_code.specs.declared.instruction.Instr.{Instr}
 use Rattle.sm_plan_code.specs.declared.instruction.Instr.TheVariants as instr
 use Rattle.sm_plan_code.specs.Plan.{StreamModel, PlanModel}
 use Rattle.sm_plan_text.specs.declared.member.Member.{Member}
-use Rattle.sm_plan_text.specs.declared.member.Member.TheVariants.{Server, Shard, State, Lead as LeadMember, Listed, From, To, Amount, Cells, Crowns, Room as RoomMember, Spare as SpareMember, Do, Other, Role as RoleMember, Signal, Budget, Code, Holds, Retries, Format, Signals, Streams}
+use Rattle.sm_plan_text.specs.declared.member.Member.TheVariants.{Server, Shard, State, Lead as LeadMember, Listed}
+use Rattle.sm_plan_text.specs.declared.member.Member.TheVariants.{From, To, Amount, Cells, Crowns, Room as RoomMember}
+use Rattle.sm_plan_text.specs.declared.member.Member.TheVariants.{Spare as SpareMember, Do, Other, Role as RoleMember}
+use Rattle.sm_plan_text.specs.declared.member.Member.TheVariants.{Signal, Budget, Code, Holds, Retries, Format, Signals}
+use Rattle.sm_plan_text.specs.declared.member.Member.TheVariants.{Streams}
 use Rattle.sm_plan_text.specs.declared.writing.Scalar.{Scalar}
 use Rattle.sm_plan_text.specs.declared.writing.Scalar.TheVariants as scalars
 use Rattle.sm_plan_text.specs.Members.{text_of}

@@ -13,7 +13,9 @@ use Rattle.sm_plan_text.specs.declared.rule.Form.TheVariants as form
 use Rattle.sm_plan_text.specs.declared.rule.Rule.{Rule}
 use Rattle.sm_plan_text.specs.declared.rule.Rule.TheVariants as rule
 use Rattle.sm_plan_text.specs.Values.{role_named, after_named}
-use Rattle.sm_plan_text.specs.Tables.{Want, whole, flag, text, known, known_or_null, list, known_list, keyed, below, format, object, number_fault, index_fault, format_fault, is_among, Row, one, maybe}
+use Rattle.sm_plan_text.specs.Tables.{Want, whole, flag, text, known, known_or_null, list, known_list, keyed, below}
+use Rattle.sm_plan_text.specs.Tables.{format, object, number_fault, index_fault, format_fault, is_among, Row, one}
+use Rattle.sm_plan_text.specs.Tables.{maybe}
 use Rattle.sm_plan_text.specs.Parcels.{HaveIds, plain_named}
 use Rattle.sm_plan_text.specs.declared.limits.TheConstants.{MOST_ASKS}
 use Rattle.sm_plan_code.specs.declared.limits.TheConstants.{MOST_RIGHTS}

@@ -6,9 +6,12 @@ use Rattle.sm_server.specs.Cell.{cell_in}
 use Rattle.sm_placement.specs.Setup.{ShardRow}
 use Rattle.sm_placement.specs.Opening.{NamedCell}
 use Rattle.sm_plan_text.specs.declared.fault.TextFault.{TextFault}
-use Rattle.sm_plan_text.specs.declared.member.Member.TheVariants.{Shards, Name, Load, Want, Cap, Spread, Listed, Cells, Server, State}
-use Rattle.sm_plan_text.specs.Values.{found, text_in, whole_number_of, number_in, entries_in, names_in, id_named, id_in, id_of, role_in}
-use Rattle.sm_plan_text.specs.Tables.{Row, one, maybe, new_name, whole, known, known_or_null, role, list, own_faults, walked}
+use Rattle.sm_plan_text.specs.declared.member.Member.TheVariants.{Shards, Name, Load, Want, Cap, Spread, Listed, Cells}
+use Rattle.sm_plan_text.specs.declared.member.Member.TheVariants.{Server, State}
+use Rattle.sm_plan_text.specs.Values.{found, text_in, whole_number_of, number_in, entries_in, names_in, id_named, id_in}
+use Rattle.sm_plan_text.specs.Values.{id_of, role_in}
+use Rattle.sm_plan_text.specs.Tables.{Row, one, maybe, new_name, whole, known, known_or_null, role, list, own_faults}
+use Rattle.sm_plan_text.specs.Tables.{walked}
 use Rattle.sm_placement.specs.declared.limits.TheConstants.{MOST_LOAD, MOST_REPLICAS, MOST_CELLS}
 
 -- no more replicas of a shard may be away at once than it wants, if it says how many it wants
@@ -40,7 +43,8 @@ cell_table servers =
 abbrev pub cell_faults : List (List ℕ) → List Data → Data → List TextFault
 cell_faults servers before d = own_faults Cells (cell_table servers) d
 
--- the faults of a shard before which the shards have this many cells, and then of its cells. All shards together have `MOST_CELLS` at most
+-- the faults of a shard before which the shards have this many cells, and then of its cells. All shards together have
+-- `MOST_CELLS` at most
 abbrev pub faults_of_shard : List (List ℕ) → List (List ℕ) → ℕ → Data → List TextFault
 faults_of_shard servers taken cells d =
     own_faults Shards (shard_table servers taken (MOST_CELLS - cells) d) d

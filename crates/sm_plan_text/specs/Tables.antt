@@ -1,6 +1,7 @@
 -- Tables of members: what each member of an object is to be. The faults of an object against its table are found in the
 -- order of the table.
-use Rattle.std.specs.Prelude.{ℕ, Bool, true, false, ◌&&◌, ◌||◌, ◌==◌, not, List, [], ◌∷◌, ◌++◌, length, map, Option, Some, None, is_some, nat_le, nat_lt, option_and_then, option_map, if◌then◌else◌}
+use Rattle.std.specs.Prelude.{ℕ, Bool, true, false, ◌&&◌, ◌||◌, ◌==◌, not, List, [], ◌∷◌, ◌++◌, length, map, Option}
+use Rattle.std.specs.Prelude.{Some, None, is_some, nat_le, nat_lt, option_and_then, option_map, if◌then◌else◌}
 use Rattle.std.specs.List.{list_any, flat_map}
 use Rattle.std.specs.Str.{bytes_eq}
 use Rattle.serde_json.specs.Data.{Data, Num, Items, Members, no_members, member}
@@ -162,7 +163,8 @@ value_faults m (text passes) d = text_fault m passes (as_str d)
 value_faults m (known names) d = name_fault m names (as_str d)
 value_faults m (known_or_null names) d = if is_some (as_null d) then [] else name_fault m names (as_str d)
 value_faults m (list limit) d = list_fault m limit (as_array d)
-value_faults m (known_list limit names) d = list_fault m limit (as_array d) ++ flat_map (entry_faults m names) (items_of d)
+value_faults m (known_list limit names) d = list_fault m limit (as_array d)
+    ++ flat_map (entry_faults m names) (items_of d)
 value_faults m (keyed limit key) d = list_fault m limit (as_array d) ++ double_faults m key (items_of d)
 value_faults m (below count) d = index_fault m count (as_number d)
 value_faults m format d = format_fault m (as_number d)
@@ -197,9 +199,11 @@ object_faults parent names d = unknown_fault parent names (as_object d)
 
 -- the faults of the object itself that stands in this member, where this is its table
 abbrev pub own_faults : Member → List Row → Data → List TextFault
-own_faults parent table d = object_faults parent (map (λ row. text_of row.member) table) d ++ flat_map (row_faults d) table
+own_faults parent table d = object_faults parent (map (λ row. text_of row.member) table) d
+    ++ flat_map (row_faults d) table
 
--- the faults of what stands in this member if its word says none of the tables: it may be no object, and the word has a fault
+-- the faults of what stands in this member if its word says none of the tables: it may be no object, and the word has a
+-- fault
 abbrev pub wordless_faults : Member → Member → Data → List TextFault
 wordless_faults parent word d = (if is_some (as_object d) then [] else Shape parent ∷ []) ++ Shape word ∷ []
 

@@ -1,6 +1,8 @@
--- The values of a JSON object's members. A member that is missing or not in its form says nothing, and stands for 0, false, or what is empty, or
--- if it is missing for a default. A document is refused in which one is not in its form, or one is missing that may not be.
-use Rattle.std.specs.Prelude.{ℕ, Bool, true, false, List, [], ◌∷◌, codes, fold, map, Option, Some, None, nat_le, nat_lt, option_and_then, option_map, unwrap_or, position, if◌then◌else◌}
+-- The values of a JSON object's members. A member that is missing or not in its form says nothing, and stands for 0,
+-- false, or what is empty, or if it is missing for a default. A document is refused in which one is not in its form, or
+-- one is missing that may not be.
+use Rattle.std.specs.Prelude.{ℕ, Bool, true, false, List, [], ◌∷◌, codes, fold, map, Option, Some, None, nat_le, nat_lt}
+use Rattle.std.specs.Prelude.{option_and_then, option_map, unwrap_or, position, if◌then◌else◌}
 use Rattle.std.specs.Str.{bytes_eq}
 use Rattle.indexmap.specs.IndexSet.{insert_key}
 use Rattle.serde_json.specs.Data.{Data, Items, no_items, item}

@@ -15,21 +15,27 @@ pub use Rattle.sm_reservation.specs.Rights.{no_rights}
 pub use Rattle.sm_reservation.specs.Key.{IsOnce}
 pub use Rattle.sm_reservation.specs.InOrder.{in_order}
 pub use Rattle.sm_reservation.specs.Lists.{rights_of}
-pub use Rattle.sm_plan_code.specs.Plan.{PlanModel, IsPlan, IsKnownPlan, IsKnownStream, IsKnownInstr, IsKnownParcel, IsKnownCrown, IsKnownCellRight}
+pub use Rattle.sm_plan_code.specs.Plan.{PlanModel, IsPlan, IsKnownPlan, IsKnownStream, IsKnownInstr, IsKnownParcel}
+pub use Rattle.sm_plan_code.specs.Plan.{IsKnownCrown, IsKnownCellRight}
 pub use Rattle.sm_plan_code.specs.Parts.{parts_of}
 pub use Rattle.sm_plan_text.specs.declared.cursor.Scope.{Scope}
 pub use Rattle.sm_plan_text.specs.declared.fault.TextFault.{TextFault}
 pub use Rattle.sm_plan_text.specs.declared.member.Member.{Member}
 pub use Rattle.sm_plan_text.specs.Members.{text_of}
 pub use Rattle.sm_plan_text.specs.Faults.{number_of, noted, answered, IsFirstOfLowest}
-pub use Rattle.sm_plan_text.specs.Values.{found, list_in, items_of, entries_in, entries_found, entries, names_in, number_named, text_in, whole_number_of, number_in, number_or, number_below, flag_in, role_named, role_in, after_named, id_of, id_named, id_in}
+pub use Rattle.sm_plan_text.specs.Values.{found, list_in, items_of, entries_in, entries_found, entries, names_in}
+pub use Rattle.sm_plan_text.specs.Values.{number_named, text_in, whole_number_of, number_in, number_or, number_below}
+pub use Rattle.sm_plan_text.specs.Values.{flag_in, role_named, role_in, after_named, id_of, id_named, id_in}
 pub use Rattle.sm_plan_text.specs.Tables.{walked, own_faults, worded_faults}
 pub use Rattle.sm_plan_text.specs.Servers.{server_table, server_faults, server_in, down_in}
-pub use Rattle.sm_plan_text.specs.Shards.{cap_limit, shard_table, faults_of_shard, shard_faults, shard_in, listed_in, cell_faults, named_cell, cells_of_shard, cells_in}
+pub use Rattle.sm_plan_text.specs.Shards.{cap_limit, shard_table, faults_of_shard, shard_faults, shard_in, listed_in}
+pub use Rattle.sm_plan_text.specs.Shards.{cell_faults, named_cell, cells_of_shard, cells_in}
 pub use Rattle.sm_plan_text.specs.Calls.{call_word, call_table, call_worded, call_in}
 pub use Rattle.sm_plan_text.specs.Events.{event_word, event_table, event_by, event_in}
 pub use Rattle.sm_plan_text.specs.Moves.{move_table, move_in}
-pub use Rattle.sm_plan_text.specs.Parcels.{plain_named, right_table, right_in, lead_word, crown_table, lead_worded, crown_in, room_table, room_in, spare_table, spare_in, parcel_faults, parcel_in}
+pub use Rattle.sm_plan_text.specs.Parcels.{plain_named, right_table, right_in, lead_word, crown_table, lead_worded}
+pub use Rattle.sm_plan_text.specs.Parcels.{crown_in, room_table, room_in, spare_table, spare_in, parcel_faults}
+pub use Rattle.sm_plan_text.specs.Parcels.{parcel_in}
 pub use Rattle.sm_plan_text.specs.Instructions.{instr_word, instr_table, instr_faults, instr_of, instr_in}
 pub use Rattle.sm_plan_text.specs.Plans.{faults_within, knows_retries, stream_table, stream_in, plan_faults, plan_in}
 pub use Rattle.sm_plan_text.specs.Rules.{row_of, HasIds}

@@ -10,7 +10,8 @@ use Rattle.sm_plan_text.specs.declared.outline.Early.{Early}
 use Rattle.sm_plan_text.specs.Faults.{noted}
 use Rattle.sm_plan_text.specs.Rules.{HasIds}
 use Rattle.sm_plan_text.specs.Outlines.{IsKept, calls_of, events_of}
-use Rattle.sm_plan_text.specs.Values.{found, number_in, number_or, list_in, items_of, entries_in, entries_found, id_named, ids_in}
+use Rattle.sm_plan_text.specs.Values.{found, number_in, number_or, list_in, items_of, entries_in, entries_found}
+use Rattle.sm_plan_text.specs.Values.{id_named, ids_in}
 use Rattle.sm_plan_text.specs.Tables.{walked}
 use Rattle.sm_plan_text.specs.Calls.{call_faults, call_in}
 use Rattle.sm_plan_text.specs.Plans.{faults_within, plan_faults, plan_in}
@@ -30,11 +31,15 @@ AreKept scope early d calls events =
 pub record IsWork (scope : Scope) (d : Data) (found_calls found_events : Option Data) (work : Work) : Type 0 where
   pub limit : work.limit ≡ number_in members.Limit MOST_SERVERS d
   pub log : work.log ≡ number_or LOG_PLACES members.Log MOST_PLACES d
-  pub calls : option_map (λ list. list.items) work.calls ≡ option_map (map (call_in scope.shards.now scope.servers.now)) (option_map items_of found_calls)
+  pub calls : option_map (λ list. list.items) work.calls
+      ≡ option_map (map (call_in scope.shards.now scope.servers.now)) (option_map items_of found_calls)
   pub plan : work.plan ≡ option_map (plan_in scope.shards.now scope.servers.now) (found members.Plan d)
-  pub plans : option_map (λ list. list.items) work.plans ≡ option_map (map (plan_in scope.shards.now scope.servers.now)) (list_in members.Plans d)
-  pub events : option_map (λ list. list.items) work.events ≡ option_map (map (event_in scope.shards.now scope.servers.now)) (option_map items_of found_events)
-  pub moves : option_map (λ list. list.items) work.moves ≡ option_map (map (move_in scope.shards.now scope.servers.now)) (list_in members.Moves d)
+  pub plans : option_map (λ list. list.items) work.plans
+      ≡ option_map (map (plan_in scope.shards.now scope.servers.now)) (list_in members.Plans d)
+  pub events : option_map (λ list. list.items) work.events
+      ≡ option_map (map (event_in scope.shards.now scope.servers.now)) (option_map items_of found_events)
+  pub moves : option_map (λ list. list.items) work.moves
+      ≡ option_map (map (move_in scope.shards.now scope.servers.now)) (list_in members.Moves d)
   pub drain : work.drain ≡ option_and_then (id_named scope.servers.now) (found members.Drain d)
   pub asks : work.asks.items ≡ ids_in scope.shards.now members.Asks d
 

@@ -1,6 +1,7 @@
 -- How placed moves are kept account of: by marks, and by the amounts of room that are left.
 -- Internal definitions: you need not read them for the public contracts.
-use Rattle.std.specs.Prelude.{◌≡◌, ◌<◌, ◌⊎◌, ℕ, ◌+◌, ◌-◌, ◌&&◌, not, nat_le, Bool, true, false, List, map, slice_index, slice_index_or, slice_set, if◌then◌else◌}
+use Rattle.std.specs.Prelude.{◌≡◌, ◌<◌, ◌⊎◌, ℕ, ◌+◌, ◌-◌, ◌&&◌, not, nat_le, Bool, true, false, List, map, slice_index}
+use Rattle.std.specs.Prelude.{slice_index_or, slice_set, if◌then◌else◌}
 use Rattle.std.specs.List.{range_with_len}
 use Rattle.sm_placement.specs.Setup.{Setup}
 use Rattle.sm_plan_code.specs.declared.moves.Move.{Move}
@@ -36,7 +37,8 @@ awaited_with marks i to awaited = if is_left marks i then slice_set awaited to t
 abbrev pub ArePassedOver : Setup → List Move → List Bool → List ℕ → List Bool → ℕ → Type 0
 ArePassedOver setup moves marks room awaited n =
     (j : ℕ) → j < n
-    → (is_next setup moves marks room j ≡ false) × (is_left marks j ≡ true → slice_index_or awaited (move_at moves j).to false ≡ true)
+    → (is_next setup moves marks room j ≡ false)
+    × (is_left marks j ≡ true → slice_index_or awaited (move_at moves j).to false ≡ true)
 
 -- the search goes on behind the i-th move, if none waits for room at this server, and otherwise begins anew
 abbrev pub IsStart : ℕ → ℕ → List Bool → List Bool → ℕ → Type 0

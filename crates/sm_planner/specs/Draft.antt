@@ -35,4 +35,5 @@ pub record IsDraft (b : Basis) (draft : Draft) : Type 0 where
 -- the draft is of the moves in the order in which they are placed, and the rule doesn't refuse them
 abbrev pub IsDraftOf : Basis → List Move → Draft → Type 0
 IsDraftOf b moves draft =
-    (placed : List ℕ) × IsPlacing b moves placed × (refusal b moves placed ≡ None) × (draft.moves.items ≡ in_placed_order moves placed) × IsDraft b draft
+    (placed : List ℕ) × IsPlacing b moves placed × (refusal b moves placed ≡ None)
+    × (draft.moves.items ≡ in_placed_order moves placed) × IsDraft b draft

@@ -1,6 +1,8 @@
 -- To which servers the replicas of a server go that is to be emptied.
 -- `AreStaying`, `IsMost`, `IsBestOf` and `IsRoomBeside` are internal: you need not read them for the public contracts.
-use Rattle.std.specs.Prelude.{◌≡◌, ◌<◌, ◌≤◌, ◌⊎◌, ℕ, zero, suc, ◌-◌, ◌&&◌, ◌||◌, ◌==◌, not, nat_le, Bool, true, false, Option, Some, None, option_map, MatchOption, length, slice_index, slice_index_or, List, [], ◌∷◌, ◌++◌, sum_by, if◌then◌else◌}
+use Rattle.std.specs.Prelude.{◌≡◌, ◌<◌, ◌≤◌, ◌⊎◌, ℕ, zero, suc, ◌-◌, ◌&&◌, ◌||◌, ◌==◌, not, nat_le, Bool, true, false}
+use Rattle.std.specs.Prelude.{Option, Some, None, option_map, MatchOption, length, slice_index, slice_index_or, List}
+use Rattle.std.specs.Prelude.{[], ◌∷◌, ◌++◌, sum_by, if◌then◌else◌}
 use Rattle.std.specs.Option.{option_or}
 use Rattle.sm_server.specs.Cell.{is_absent, is_primary, is_secondary}
 use Rattle.sm_placement.specs.Opening.{first_below}
@@ -18,8 +20,8 @@ use Rattle.sm_planner.specs.Refusal.{IsPlanOf}
 use Rattle.sm_plan_code.specs.Plan.{PlanModel}
 use Rattle.sm_plan_code.specs.declared.moves.Move.{Move}
 
--- the server has nothing of the shard, or a replica that may leave it: a primary with its crown in the pool, or a secondary
--- with the right to its cell there
+-- the server has nothing of the shard, or a replica that may leave it: a primary with its crown in the pool, or a
+-- secondary with the right to its cell there
 abbrev pub may_leave : Basis → ℕ → ℕ → Bool
 may_leave b v s =
     is_absent (b.place.cells s v)
@@ -42,10 +44,12 @@ room_beside b moves u = b.pool.room u - sum_by (taken_by b.setup u) moves
 -- the servers that are marked are those whose replica of the shard stays when v is left
 pub record AreStaying (setup : Setup) (p : Place) (s v : ℕ) (marks : List Bool) : Type 0 where
   pub wide : length marks ≡ length setup.servers
-  pub marked : (w : ℕ) → w < length setup.servers → slice_index_or marks w false ≡ (is_replica (p.cells s w) && not (w == v))
+  pub marked : (w : ℕ) → w < length setup.servers
+      → slice_index_or marks w false ≡ (is_replica (p.cells s w) && not (w == v))
 
--- A server that a shard may go to from v, with the room that is left of each: another one, up, with nothing of the shard
--- and the right to its cell in the pool, with room for the load, and in whose place the replicas lie in enough regions.
+-- A server that a shard may go to from v, with the room that is left of each: another one, up, with nothing of the
+-- shard and the right to its cell in the pool, with room for the load, and in whose place the replicas lie in enough
+-- regions.
 abbrev pub has_place : Basis → ℕ → (ℕ → ℕ) → ℕ → ℕ → Bool
 has_place b v room s u =
     not (u == v)
@@ -91,7 +95,8 @@ AreLeaving b v zero moves = moves ≡ []
 AreLeaving b v (suc s) moves =
     (is_absent (b.place.cells s v) ≡ true → AreLeaving b v s moves)
     × (is_absent (b.place.cells s v) ≡ false →
-    (earlier : List Move) × (u : ℕ) × AreLeaving b v s earlier × IsTarget b v earlier s u × (moves ≡ earlier ++ leaving v s u ∷ []))
+    (earlier : List Move) × (u : ℕ) × AreLeaving b v s earlier × IsTarget b v earlier s u
+    × (moves ≡ earlier ++ leaving v s u ∷ []))
 
 -- no server may take the shard
 abbrev pub HasNoPlace : Basis → ℕ → List Move → ℕ → Type 0
@@ -112,8 +117,9 @@ AreDepartures b v moves = (drain_refusal b v ≡ None) × AreLeaving b v (sizes_
 abbrev pub IsDrainPlan : Basis → ℕ → PlanModel → Type 0
 IsDrainPlan b v plan = (moves : List Move) × AreDepartures b v moves × IsPlanOf b moves plan
 
--- Why the rule doesn't empty a server: for the server's own reason, or if it has none, for the first shard that has no target. If the setup
--- is a configuration there is no other reason, since of the moves to the targets the rule then refuses none (`DrainsHavePlans`).
+-- Why the rule doesn't empty a server: for the server's own reason, or if it has none, for the first shard that has no
+-- target. If the setup is a configuration there is no other reason, since of the moves to the targets the rule then
+-- refuses none (`DrainsHavePlans`).
 abbrev pub IsDrainRefused : Basis → ℕ → NoPlan → Type 0
 IsDrainRefused b v why =
     (drain_refusal b v ≡ Some why)

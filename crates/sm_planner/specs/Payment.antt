@@ -1,7 +1,8 @@
--- The payment for the room that a move takes. The room of a server is used up from its front: first what the pool has, then
--- what placed moves free there, in their order. Each move that goes there takes a stretch of it, and begins where the
--- moves placed before it ended.
-use Rattle.std.specs.Prelude.{ℕ, ◌+◌, ◌-◌, ◌%◌, ◌&&◌, ◌==◌, not, nat_lt, min, max, Bool, List, length, take, sum_by, filter, map, if◌then◌else◌}
+-- The payment for the room that a move takes. The room of a server is used up from its front: first what the pool has,
+-- then what placed moves free there, in their order. Each move that goes there takes a stretch of it, and begins where
+-- the moves placed before it ended.
+use Rattle.std.specs.Prelude.{ℕ, ◌+◌, ◌-◌, ◌%◌, ◌&&◌, ◌==◌, not, nat_lt, min, max, Bool, List, length, take, sum_by}
+use Rattle.std.specs.Prelude.{filter, map, if◌then◌else◌}
 use Rattle.std.specs.List.{flat_map}
 use Rattle.std.specs.List.{range_with_len}
 use Rattle.sm_planner.specs.declared.payment.HandedRoom as code

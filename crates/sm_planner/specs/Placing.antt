@@ -1,6 +1,7 @@
--- The order in which moves are placed: always the first of the list that is not placed yet and whose load fits. A placed
--- move takes room where it goes, and frees room where it comes from.
-use Rattle.std.specs.Prelude.{◌≡◌, ◌<◌, ℕ, ◌+◌, ◌-◌, ◌&&◌, ◌==◌, not, nat_le, Bool, Option, Some, None, List, length, take, sum_by, slice_index, if◌then◌else◌}
+-- The order in which moves are placed: always the first of the list that is not placed yet and whose load fits. A
+-- placed move takes room where it goes, and frees room where it comes from.
+use Rattle.std.specs.Prelude.{◌≡◌, ◌<◌, ℕ, ◌+◌, ◌-◌, ◌&&◌, ◌==◌, not, nat_le, Bool, Option, Some, None, List, length}
+use Rattle.std.specs.Prelude.{take, sum_by, slice_index, if◌then◌else◌}
 use Rattle.std.specs.List.{list_any}
 use Rattle.sm_placement.specs.Opening.{first_below}
 use Rattle.sm_placement.specs.Setup.{Setup}

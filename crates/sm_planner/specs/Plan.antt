@@ -1,5 +1,6 @@
 -- The plan of moves that are placed in an order.
-use Rattle.std.specs.Prelude.{ℕ, ◌==◌, min, Option, Some, None, List, [], ◌∷◌, ◌++◌, length, count_by, sum_by, filter, map, slice_index_or, if◌then◌else◌}
+use Rattle.std.specs.Prelude.{ℕ, ◌==◌, min, Option, Some, None, List, [], ◌∷◌, ◌++◌, length, count_by, sum_by, filter}
+use Rattle.std.specs.Prelude.{map, slice_index_or, if◌then◌else◌}
 use Rattle.std.specs.List.{flat_map}
 use Rattle.std.specs.List.{range_with_len}
 use Rattle.sm_server.specs.declared.call.Role.TheVariants as role
@@ -14,7 +15,8 @@ use Rattle.sm_reservation.specs.declared.right.Room.{Room}
 use Rattle.sm_reservation.specs.Rights.{Rights}
 use Rattle.sm_reservation.specs.InOrder.{in_order}
 use Rattle.sm_plan_code.specs.declared.instruction.Instr.{Instr}
-use Rattle.sm_plan_code.specs.declared.instruction.Instr.TheVariants.{PrepareAdd, PrepareDrop, Add, Drop, Publish, Signal, Wait}
+use Rattle.sm_plan_code.specs.declared.instruction.Instr.TheVariants.{PrepareAdd, PrepareDrop, Add, Drop, Publish}
+use Rattle.sm_plan_code.specs.declared.instruction.Instr.TheVariants.{Signal, Wait}
 use Rattle.sm_plan_code.specs.declared.limits.TheConstants.{MOST_STREAMS}
 use Rattle.sm_plan_code.specs.Instr.{is_call}
 use Rattle.sm_plan_code.specs.Plan.{StreamModel, PlanModel}

@@ -1,5 +1,7 @@
--- Which moves are refused, and why: the refusals go by their numbers, and of one number by the move's place in the list.
-use Rattle.std.specs.Prelude.{◌≡◌, ◌⊎◌, ℕ, ◌&&◌, ◌||◌, not, nat_lt, Bool, Option, Some, None, option_map, find, List, length, take, map, if◌then◌else◌}
+-- Which moves are refused, and why: the refusals go by their numbers, and of one number by the move's place in the
+-- list.
+use Rattle.std.specs.Prelude.{◌≡◌, ◌⊎◌, ℕ, ◌&&◌, ◌||◌, not, nat_lt, Bool, Option, Some, None, option_map, find, List}
+use Rattle.std.specs.Prelude.{length, take, map, if◌then◌else◌}
 use Rattle.std.specs.Option.{option_or}
 use Rattle.sm_server.specs.Cell.{is_absent}
 use Rattle.sm_placement.specs.Opening.{first_below}
@@ -8,7 +10,8 @@ use Rattle.sm_plan_code.specs.Plan.{PlanModel}
 use Rattle.sm_plan_code.specs.declared.limits.TheConstants.{MOST_MOVES, MOST_SIGNALS}
 use Rattle.sm_plan_code.specs.declared.moves.Move.{Move}
 use Rattle.sm_planner.specs.declared.refusal.NoPlan.{NoPlan}
-use Rattle.sm_planner.specs.declared.refusal.NoPlan.TheVariants.{NoMemory, NotThere, Held, ServerDown, NoRoom, Spread, TooMany}
+use Rattle.sm_planner.specs.declared.refusal.NoPlan.TheVariants.{NoMemory, NotThere, Held, ServerDown, NoRoom, Spread}
+use Rattle.sm_planner.specs.declared.refusal.NoPlan.TheVariants.{TooMany}
 use Rattle.sm_planner.specs.Basis.{Basis, move_at, left_cell, is_replica}
 use Rattle.sm_planner.specs.Rights.{has_rights, is_forestalled}
 use Rattle.sm_planner.specs.Placing.{IsPlacing, first_left}
@@ -37,7 +40,8 @@ abbrev pub first_held : Basis → List Move → Option NoPlan
 first_held b moves =
     option_map (λ i. Held (move_at moves i).shard (move_at moves i).to) (first_below (length moves) (is_closed b moves))
 
--- of a move with a server that is down: the server that it leaves, if that is down, or otherwise the one to which it goes
+-- of a move with a server that is down: the server that it leaves, if that is down, or otherwise the one to which it
+-- goes
 abbrev pub end_down : Place → Move → ℕ
 end_down p m = if p.down m.from then m.from else m.to
 
@@ -87,4 +91,5 @@ IsNoPlanFor b moves why = (why ≡ NoMemory) ⊎ IsRefused b moves why
 -- the plan is the rule's
 abbrev pub IsPlanOf : Basis → List Move → PlanModel → Type 0
 IsPlanOf b moves plan =
-    (placed : List ℕ) × IsPlacing b moves placed × (refusal b moves placed ≡ None) × (plan ≡ planned b (in_placed_order moves placed))
+    (placed : List ℕ) × IsPlacing b moves placed × (refusal b moves placed ≡ None)
+    × (plan ≡ planned b (in_placed_order moves placed))

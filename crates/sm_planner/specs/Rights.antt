@@ -1,4 +1,5 @@
--- The rights that a move needs: to the new cell, and the crown of a primary's shard or the right to a secondary's old cell.
+-- The rights that a move needs: to the new cell, and the crown of a primary's shard or the right to a secondary's old
+-- cell.
 use Rattle.std.specs.Prelude.{ℕ, ◌&&◌, ◌||◌, ◌==◌, not, Bool, List}
 use Rattle.std.specs.List.{list_any}
 use Rattle.sm_server.specs.Cell.{is_primary, is_secondary}

@@ -1,6 +1,7 @@
 -- A placed move, with the stretches of room that it takes and frees.
 -- Internal definitions: you need not read them for the public contracts.
-use Rattle.std.specs.Prelude.{◌≡◌, ◌<◌, ◌≤◌, ℕ, ◌&&◌, ◌==◌, not, nat_lt, Bool, List, length, map, filter, slice_index_or, if◌then◌else◌}
+use Rattle.std.specs.Prelude.{◌≡◌, ◌<◌, ◌≤◌, ℕ, ◌&&◌, ◌==◌, not, nat_lt, Bool, List, length, map, filter}
+use Rattle.std.specs.Prelude.{slice_index_or, if◌then◌else◌}
 use Rattle.std.specs.List.{range_with_len}
 use Rattle.sm_plan_code.specs.declared.moves.Move.{Move}
 use Rattle.sm_planner.specs.declared.payment.Placed.{Placed}
@@ -47,5 +48,6 @@ handed_to placed k = map (handed k) (filter (is_paid_by placed k) (range_with_le
 -- the stretches that placed moves free at a server lie behind the room that the pool has there
 abbrev pub IsFreedBehindPool : List Placed → Type 0
 IsFreedBehindPool placed =
-    (k j : ℕ) → k < length placed → j < length placed → (placed_at placed j).wanted.from ≡ (placed_at placed k).wanted.to
+    (k j : ℕ) → k < length placed → j < length placed
+    → (placed_at placed j).wanted.from ≡ (placed_at placed k).wanted.to
     → (placed_at placed k).pool ≤ (placed_at placed j).frees_from

@@ -1,13 +1,14 @@
 -- The hand: the tokens, permits, tickets and plans that events are made with.
-use Rattle.std.specs.Prelude.{ℕ, ◌==◌, ◌&&◌, ◌++◌, Bool, true, false, Option, Some, None, List, [], ◌∷◌, length, map, find, option_map, slice_index_or, slice_set, if◌then◌else◌}
+use Rattle.std.specs.Prelude.{ℕ, ◌==◌, ◌&&◌, ◌++◌, Bool, true, false, Option, Some, None, List, [], ◌∷◌, length, map}
+use Rattle.std.specs.Prelude.{find, option_map, slice_index_or, slice_set, if◌then◌else◌}
 use Rattle.sm_protocol.specs.Words.{Event, PlanModel, Played, StreamId, filter_map, list_any, range_with_len}
 use Rattle.sm_protocol.specs.Ticket.{Ticket}
 use Rattle.sm_protocol.specs.State.{State, stream_id}
 use Rattle.sm_protocol.specs.Steps.{Outcome, Refused, Answered}
 use Rattle.sm_protocol.specs.Happens.{Happening, Step, Lose, Refill, Arrive, PassOn, Approve, Done, Begin, happens}
 
--- A hand, with which events are made: tokens of streams, permits to end restarts of servers, tickets of requests that were passed on,
--- and plans to start.
+-- A hand, with which events are made: tokens of streams, permits to end restarts of servers, tickets of requests that
+-- were passed on, and plans to start.
 pub record Hand : Type 0 where
   pub tokens : List StreamId
   -- the servers whose restarts may be ended
@@ -50,9 +51,9 @@ spends Played.NotOwner = true
 spends Played.Unavailable = true
 spends _ = false
 
--- The hand after an event that it gave this for, by its answer. A pass gives a ticket, and a ticket that met its answer is
--- spent; an approval gives a permit, and the end of the restart spends it; a start takes the plan out of its place, and gives
--- the tokens of its streams.
+-- The hand after an event that it gave this for, by its answer. A pass gives a ticket, and a ticket that met its answer
+-- is spent; an approval gives a permit, and the end of the restart spends it; a start takes the plan out of its place,
+-- and gives the tokens of its streams.
 abbrev pub hand_after : Hand → Event → Happening → Played → Hand
 hand_after h e (Arrive s v) answer = record h { tickets = h.tickets ++ tickets_of s v answer }
 hand_after h e (PassOn t) answer =

@@ -1,8 +1,13 @@
 -- Happenings: each event with its answer, and lists of events.
-use Rattle.std.specs.Prelude.{ℕ, ◌+◌, ◌==◌, ◌&&◌, ◌||◌, ◌++◌, nat_lt, nat_le, not, Bool, true, false, Option, Some, None, List, [], ◌∷◌, length, if◌then◌else◌}
-pub use Rattle.sm_protocol.specs.Words.{BeginFault, Cell, Denied, Event, Holding, MOST_ALLOWANCE, MOST_NUMBER, MOST_PLANS, Passage, PlanModel, Played, RefillFault, StreamId, bit, denial, first_from, first_holding, is_mentioned, list_any, places_of, set_down, sum_below}
+use Rattle.std.specs.Prelude.{ℕ, ◌+◌, ◌==◌, ◌&&◌, ◌||◌, ◌++◌, nat_lt, nat_le, not, Bool, true, false, Option, Some}
+use Rattle.std.specs.Prelude.{None, List, [], ◌∷◌, length, if◌then◌else◌}
+pub use Rattle.sm_protocol.specs.Words.{BeginFault, Cell, Denied, Event, Holding, MOST_ALLOWANCE, MOST_NUMBER}
+pub use Rattle.sm_protocol.specs.Words.{MOST_PLANS, Passage, PlanModel, Played, RefillFault, StreamId, bit, denial}
+pub use Rattle.sm_protocol.specs.Words.{first_from, first_holding, is_mentioned, list_any, places_of, set_down}
+pub use Rattle.sm_protocol.specs.Words.{sum_below}
 use Rattle.sm_protocol.specs.Ticket.{Ticket, is_open_ticket}
-use Rattle.sm_protocol.specs.State.{State, allowance, stream_id, stream_count, stream_parts, progress_of, is_running, is_unfinished, set_progress, logged, recorded, pool, free_places}
+use Rattle.sm_protocol.specs.State.{State, allowance, stream_id, stream_count, stream_parts, progress_of, is_running}
+use Rattle.sm_protocol.specs.State.{is_unfinished, set_progress, logged, recorded, pool, free_places}
 use Rattle.sm_protocol.specs.Steps.{Outcome, Answered, unchanged, step}
 
 -- A happening: an event, with what was handed in for it.
@@ -31,7 +36,8 @@ refilled w id more None =
     let progress = set_progress w id (record (progress_of w id) { refills = (progress_of w id).refills + more }) in
     (Answered Played.Refilled, record w { progress = progress; log = logged w (Event.Refill id more) Played.Refilled })
 
--- what a server answers to a request by its cell (SM 2021); one that was passed on comes with its ticket, and a pass is recorded here
+-- what a server answers to a request by its cell (SM 2021); one that was passed on comes with its ticket, and a pass is
+-- recorded here
 abbrev pub answer_by : Cell → ℕ → Option Ticket → ℕ → Played
 answer_by Cell.Primary v sent place = Played.Executed v
 answer_by (Cell.Forwarding to number) v sent place = Played.Passed to number place

@@ -1,15 +1,23 @@
 -- The laws of the protocol, behind their premises: what holds of every state that events lead to.
-use Rattle.std.specs.Prelude.{◌≡◌, ◌≢◌, ◌≤◌, ◌<◌, ◌↔◌, ◌⊎◌, ℕ, suc, ◌+◌, ◌==◌, ◌&&◌, ◌++◌, Bool, true, false, Option, Some, None, List, [], ◌∷◌, length, count_by, Contains, nat_lt, slice_index_or, take, if◌then◌else◌}
-pub use Rattle.sm_protocol.specs.Words.{AllByRecursion, Cell, Entry, Event, Instr, IsAllowed, IsCheckedPlan, IsPlacement, IsServing, IsSettled, IsSetup, MOST_CALLS, MOST_PLACES, OfRoom, OfSpare, Passage, Place, PlanModel, Played, ServerCall, Setup, Sizes, StreamId, VERSIONS_END, bit, down_count, entry_at, is_call, live_at, load_at, places_of, sizes_of}
-use Rattle.sm_protocol.specs.State.{State, opened, stream_parts, progress_of, is_begun, is_running, is_unfinished, next_instruction, reach, held, pool, free_places, numbers_end}
+use Rattle.std.specs.Prelude.{◌≡◌, ◌≢◌, ◌≤◌, ◌<◌, ◌↔◌, ◌⊎◌, ℕ, suc, ◌+◌, ◌==◌, ◌&&◌, ◌++◌, Bool, true, false, Option}
+use Rattle.std.specs.Prelude.{Some, None, List, [], ◌∷◌, length, count_by, Contains, nat_lt, slice_index_or, take}
+use Rattle.std.specs.Prelude.{if◌then◌else◌}
+pub use Rattle.sm_protocol.specs.Words.{AllByRecursion, Cell, Entry, Event, Instr, IsAllowed, IsCheckedPlan}
+pub use Rattle.sm_protocol.specs.Words.{IsPlacement, IsServing, IsSettled, IsSetup, MOST_CALLS, MOST_PLACES, OfRoom}
+pub use Rattle.sm_protocol.specs.Words.{OfSpare, Passage, Place, PlanModel, Played, ServerCall, Setup, Sizes, StreamId}
+pub use Rattle.sm_protocol.specs.Words.{VERSIONS_END, bit, down_count, entry_at, is_call, live_at, load_at, places_of}
+pub use Rattle.sm_protocol.specs.Words.{sizes_of}
+use Rattle.sm_protocol.specs.State.{State, opened, stream_parts, progress_of, is_begun, is_running, is_unfinished}
+use Rattle.sm_protocol.specs.State.{next_instruction, reach, held, pool, free_places, numbers_end}
 use Rattle.sm_protocol.specs.Steps.{Outcome, Refused, Answered, call_number, call_to_make, step}
-use Rattle.sm_protocol.specs.Happens.{Happening, Step, Lose, Refill, Arrive, PassOn, Approve, Done, Begin, has_all_plans, happens, run, outcomes}
+use Rattle.sm_protocol.specs.Happens.{Happening, Step, Lose, Refill, Arrive, PassOn, Approve, Done, Begin}
+use Rattle.sm_protocol.specs.Happens.{has_all_plans, happens, run, outcomes}
 use Rattle.sm_protocol.specs.Hand.{Hand, Game, spends, play, plays, all_given, played_events, or_unknown}
 use Rattle.sm_protocol.specs.Safe.{HasSpent, IsAccepted, IsApproved, IsSafe, SomeCanStep, SomeCanStepOrSpent, unhalted}
 use Rattle.sm_protocol.specs.Log.{IsAtEnds, IsInLog}
 
--- A machine opens on a settled placement of a configuration, with a log of at most 1,048,576 places, one at least for each
--- server that is down.
+-- A machine opens on a settled placement of a configuration, with a log of at most 1,048,576 places, one at least for
+-- each server that is down.
 pub record IsOpening (setup : Setup) (p : Place) (room : ℕ) : Type 0 where
   pub rows : IsSetup setup
   pub placement : IsPlacement (sizes_of setup) p
@@ -34,13 +42,14 @@ AllFit c es = AllByRecursion (FitsConfig c) es
 abbrev pub AreServed : List Outcome → Type 0
 AreServed os = AllByRecursion (λ o. o ≢ Refused) os
 
--- No event that comes next has its call refused, the halt flag aside: so none of a halted machine has it either, once it is resumed. A call
--- that is lost before it comes to its server is one that this would have served: as a step, the same try goes through.
+-- No event that comes next has its call refused, the halt flag aside: so none of a halted machine has it either, once
+-- it is resumed. A call that is lost before it comes to its server is one that this would have served: as a step, the
+-- same try goes through.
 abbrev pub NextIsServed : State → Type 0
 NextIsServed w = (e : Happening) → FitsConfig w.sizes e → (happens (unhalted w) e).0 ≢ Refused
 
--- A state that events have led to from an opening, the halt flag aside: it may have been set and cleared among them, since a
--- step under it changes nothing.
+-- A state that events have led to from an opening, the halt flag aside: it may have been set and cleared among them,
+-- since a step under it changes nothing.
 pub record IsReached (setup : Setup) (w : State) : Type 0 where
   pub place : Place
   pub room : ℕ
@@ -69,51 +78,59 @@ HasNoLost w = (id : StreamId) → is_begun w id ≡ true → (progress_of w id).
 -- a checked plan is begun exactly if it is accepted, the log has its places and another plan may run
 abbrev pub BegunWhereAccepted : Type 0
 BegunWhereAccepted = (setup : Setup) (w : State) (plan : PlanModel) → IsReached setup w → IsCheckedPlan w.sizes plan →
-    ((happens w (Begin plan)).0 ≡ Answered (Played.Begun (length w.plans))) ↔ (IsAccepted w plan × (places_of plan ≤ free_places w) × (has_all_plans w ≡ false))
+    ((happens w (Begin plan)).0 ≡ Answered (Played.Begun (length w.plans))) ↔ (IsAccepted w plan
+    × (places_of plan ≤ free_places w) × (has_all_plans w ≡ false))
 
--- a restart is approved exactly if the server is up, no unfinished stream's code mentions it, the caps allow it and the log has
--- its places
+-- a restart is approved exactly if the server is up, no unfinished stream's code mentions it, the caps allow it and the
+-- log has its places
 abbrev pub ApprovedWhereReserved : Type 0
 ApprovedWhereReserved = (setup : Setup) (w : State) (v : ℕ) → IsReached setup w → v < w.sizes.servers →
     ((happens w (Approve v)).0 ≡ Answered Played.Approved) ↔ IsApproved w v
 
--- From a state in whose log no unfinished stream has a lost call, whatever list of starts of checked plans, stream steps,
--- refills, requests and restart events follows: no call of it was refused, no event that comes next has its call refused, the
--- state is safe, and of each plan that isn't done some stream can step. Each front of the list is such a list too: so this holds
--- after each of its events.
+-- From a state in whose log no unfinished stream has a lost call, whatever list of starts of checked plans, stream
+-- steps, refills, requests and restart events follows: no call of it was refused, no event that comes next has its call
+-- refused, the state is safe, and of each plan that isn't done some stream can step. Each front of the list is such a
+-- list too: so this holds after each of its events.
 abbrev pub Headline : Type 0
-Headline = (setup : Setup) (w : State) (es : List Happening) → IsReached setup w → HasNoLost w → AllFit (sizes_of setup) es → AllByRecursion LosesNothing es →
+Headline = (setup : Setup) (w : State) (es : List Happening) → IsReached setup w → HasNoLost w
+    → AllFit (sizes_of setup) es → AllByRecursion LosesNothing es →
     AreServed (outcomes es w) × NextIsServed (run es w) × IsSafe (run es w) × SomeCanStep (run es w)
 
--- In every state that events lead to, lost calls among them: no event that comes next has its call refused, the state is
--- safe, and of each plan that isn't done some stream can step, or one that hasn't finished has spent its allowance.
+-- In every state that events lead to, lost calls among them: no event that comes next has its call refused, the state
+-- is safe, and of each plan that isn't done some stream can step, or one that hasn't finished has spent its allowance.
 abbrev pub WithLosses : Type 0
 WithLosses = (setup : Setup) (w : State) → IsReached setup w → NextIsServed w × IsSafe w × SomeCanStepOrSpent w
 
--- A server's cell of a call's shard and its number let it serve the call: it is up, and the call repeats the one that had its
--- effect on the cell last, or it is allowed.
+-- A server's cell of a call's shard and its number let it serve the call: it is up, and the call repeats the one that
+-- had its effect on the cell last, or it is allowed.
 pub record IsServable (w : State) (x : ServerCall) (number : ℕ) : Type 0 where
   pub up : w.place.down x.server ≡ false
-  pub serves : (number ≡ w.place.last x.shard x.server) ⊎ ((to : Cell) × IsAllowed w.sizes w.place x.shard x.server x.call to)
+  pub serves : (number ≡ w.place.last x.shard x.server)
+      ⊎ ((to : Cell) × IsAllowed w.sizes w.place x.shard x.server x.call to)
 
--- The call of each try that a running stream may make next, be it lost or not, is one that its server has to serve. This is told by what the
--- server has, and not by what it answers.
+-- The call of each try that a running stream may make next, be it lost or not, is one that its server has to serve.
+-- This is told by what the server has, and not by what it answers.
 abbrev pub TriesAreAllowed : State → Type 0
-TriesAreAllowed w = (id : StreamId) (i : Instr) (x : ServerCall) → is_running w id ≡ true → next_instruction w id ≡ Some i →
+TriesAreAllowed w = (id : StreamId) (i : Instr) (x : ServerCall) → is_running w id ≡ true
+    → next_instruction w id ≡ Some i →
     call_to_make w (progress_of w id) i ≡ Some x → IsServable w x (call_number w (progress_of w id))
 
--- From a state in whose log no unfinished stream has a lost call, along whatever events that lose none: no stream has spent its allowance,
--- and each that has not finished has made no more tries than its budget.
+-- From a state in whose log no unfinished stream has a lost call, along whatever events that lose none: no stream has
+-- spent its allowance, and each that has not finished has made no more tries than its budget.
 abbrev pub UnlostIsUnspent : Type 0
-UnlostIsUnspent = (setup : Setup) (w : State) (es : List Happening) → IsReached setup w → HasNoLost w → AllFit (sizes_of setup) es → AllByRecursion LosesNothing es →
+UnlostIsUnspent = (setup : Setup) (w : State) (es : List Happening) → IsReached setup w → HasNoLost w
+    → AllFit (sizes_of setup) es → AllByRecursion LosesNothing es →
     ((id : StreamId) → ¬ HasSpent (run es w) id)
-    × ((id : StreamId) → is_running (run es w) id ≡ true → (progress_of (run es w) id).tries ≤ (stream_parts (run es w) id).budget)
+    × ((id : StreamId) → is_running (run es w) id ≡ true
+    → (progress_of (run es w) id).tries ≤ (stream_parts (run es w) id).budget)
 
 -- no step of a stream that was begun is Unknown
 abbrev pub BegunIsKnown : Type 0
-BegunIsKnown = (w : State) (id : StreamId) (passage : Passage) → is_begun w id ≡ true → (step w id passage).0 ≢ Answered Played.Unknown
+BegunIsKnown = (w : State) (id : StreamId) (passage : Passage) → is_begun w id ≡ true
+    → (step w id passage).0 ≢ Answered Played.Unknown
 
--- if an event of the stream leads from one state to the other: the number of its try, if the call had its effect just then
+-- if an event of the stream leads from one state to the other: the number of its try, if the call had its effect just
+-- then
 abbrev pub effect_of_stream : State → StreamId → State → List ℕ
 effect_of_stream w id new = if nat_lt (progress_of w id).effects (progress_of new id).effects then call_number w (progress_of w id) ∷ [] else []
 
@@ -128,14 +145,15 @@ abbrev pub effect_numbers : List Happening → State → List ℕ
 effect_numbers [] w = []
 effect_numbers (e ∷ es) w = effect_numbers_at w e ++ effect_numbers es (happens w e).1
 
--- no call can have its first effect under the number any more: it was given, and a call under way under it has had its effect
+-- no call can have its first effect under the number any more: it was given, and a call under way under it has had its
+-- effect
 pub record IsSpent (w : State) (n : ℕ) : Type 0 where
   pub used : n < w.next_number
   pub had : (id : StreamId) → (progress_of w id).pending ≡ n → n ≢ 0 → (progress_of w id).ahead ≡ true
 
--- Along a list of events that leads from one state to the other the number has its effect once at most, and never if it is
--- spent before. It is spent afterwards if it was before, or if it has its effect along the list: so along no later list it
--- has its effect again.
+-- Along a list of events that leads from one state to the other the number has its effect once at most, and never if it
+-- is spent before. It is spent afterwards if it was before, or if it has its effect along the list: so along no later
+-- list it has its effect again.
 pub record HasEffectOnce (w : State) (es : List Happening) (new : State) (n : ℕ) : Type 0 where
   pub once : count_by (λ m. m == n) (effect_numbers es w) ≤ 1
   pub unspent : IsSpent w n → count_by (λ m. m == n) (effect_numbers es w) ≡ 0
@@ -144,10 +162,11 @@ pub record HasEffectOnce (w : State) (es : List Happening) (new : State) (n : �
 
 -- no number of a call has its effect twice, neither along one list of events nor along lists one after the other
 abbrev pub EffectsOnce : Type 0
-EffectsOnce = (setup : Setup) (w : State) (es : List Happening) (n : ℕ) → IsReached setup w → AllFit (sizes_of setup) es → HasEffectOnce w es (run es w) n
+EffectsOnce = (setup : Setup) (w : State) (es : List Happening) (n : ℕ) → IsReached setup w
+    → AllFit (sizes_of setup) es → HasEffectOnce w es (run es w) n
 
--- A stream has had as many effects as there are calls among the instructions that it has made, with the one that has had its
--- effect and was not answered.
+-- A stream has had as many effects as there are calls among the instructions that it has made, with the one that has
+-- had its effect and was not answered.
 abbrev pub CountsEffects : State → Type 0
 CountsEffects w = (id : StreamId) → is_begun w id ≡ true →
     (progress_of w id).effects ≡ count_by is_call (take (reach (progress_of w id).at (progress_of w id).ahead) (stream_parts w id).code)
@@ -194,7 +213,8 @@ pub record FollowsEntries (w : State) : Type 0 where
 
 -- an event that is not recorded and starts no plan changes nothing
 abbrev pub UnrecordedChangesNothing : Type 0
-UnrecordedChangesNothing = (w : State) (e : Happening) → (happens w e).1.log ≡ w.log → (happens w e).1.plans ≡ w.plans → (happens w e).1 ≡ w
+UnrecordedChangesNothing = (w : State) (e : Happening) → (happens w e).1.log ≡ w.log → (happens w e).1.plans ≡ w.plans
+    → (happens w e).1 ≡ w
 
 -- every plan is done
 abbrev pub AreDone : State → Type 0
@@ -206,11 +226,12 @@ abbrev pub EndsAreReached : Type 0
 EndsAreReached = (setup : Setup) (w : State) → IsReached setup w → AreDone w →
     ((id : StreamId) → is_begun w id ≡ true → IsInLog w id) × IsAtEnds w
 
--- A list of events that is played with a hand makes the run of those for which the hand has something, with what it gives:
--- they lead to the same state and have the same outcomes, and all others are Unknown.
+-- A list of events that is played with a hand makes the run of those for which the hand has something, with what it
+-- gives: they lead to the same state and have the same outcomes, and all others are Unknown.
 abbrev pub PlaysAreRuns : Type 0
 PlaysAreRuns = (es : List Event) (g : Game) →
-    ((play es g).state ≡ run (played_events es g) g.state) × (plays es g ≡ or_unknown (all_given es g) (outcomes (played_events es g) g.state))
+    ((play es g).state ≡ run (played_events es g) g.state)
+    × (plays es g ≡ or_unknown (all_given es g) (outcomes (played_events es g) g.state))
 
 -- The facts that hold of a list of events that happen from a state.
 pub record IsSafeRun (setup : Setup) (es : List Happening) (w : State) : Type 0 where
@@ -232,10 +253,11 @@ pub record IsSafeRun (setup : Setup) (es : List Happening) (w : State) : Type 0 
   -- and some stream can step if no unfinished stream had a lost call in the log, and the list loses none
   pub unlost : HasNoLost w → AllByRecursion LosesNothing es → SomeCanStep (run es w)
 
--- The headline, and the laws on lost calls, on the effects of calls, on requests and on tickets, of every list of events that fit, from a
--- state that events have led to. Each front of the list is such a list too.
+-- The headline, and the laws on lost calls, on the effects of calls, on requests and on tickets, of every list of
+-- events that fit, from a state that events have led to. Each front of the list is such a list too.
 abbrev pub RunsAreSafe : Type 0
-RunsAreSafe = (setup : Setup) (w : State) (es : List Happening) → IsReached setup w → AllFit (sizes_of setup) es → IsSafeRun setup es w
+RunsAreSafe = (setup : Setup) (w : State) (es : List Happening) → IsReached setup w → AllFit (sizes_of setup) es
+    → IsSafeRun setup es w
 
 -- the event names known shards and servers, and a refill is within its limit
 abbrev pub NamesKnown : Sizes → Event → Type 0
@@ -278,20 +300,24 @@ pub record IsPlayed (setup : Setup) (es : List Event) (g : Game) : Type 0 where
   -- and some stream can step if no unfinished stream had a lost call in the log, and the list asks for none
   pub unlost : HasNoLost g.state → AllByRecursion AsksNoLoss es → SomeCanStep (play es g).state
 
--- The headline, and the laws on lost calls, on the effects of calls and on tickets, of every list of events that is played with a
--- hand of checked plans: the events name known shards and servers, and the game begins at a state that events have led to.
+-- The headline, and the laws on lost calls, on the effects of calls and on tickets, of every list of events that is
+-- played with a hand of checked plans: the events name known shards and servers, and the game begins at a state that
+-- events have led to.
 abbrev pub PlaysAreSafe : Type 0
-PlaysAreSafe = (setup : Setup) (es : List Event) (g : Game) → IsReached setup g.state → AreChecked (sizes_of setup) g.hand → AllByRecursion (NamesKnown (sizes_of setup)) es →
+PlaysAreSafe = (setup : Setup) (es : List Event) (g : Game) → IsReached setup g.state
+    → AreChecked (sizes_of setup) g.hand → AllByRecursion (NamesKnown (sizes_of setup)) es →
     IsPlayed setup es g
 
--- each server's room is what is free of it in the pool, what is held or under way, and its load; each shard's live replicas are
--- those that are free in the pool, those that are held or under way, and its floor
+-- each server's room is what is free of it in the pool, what is held or under way, and its load; each shard's live
+-- replicas are those that are free in the pool, those that are held or under way, and its floor
 pub record IsConserved (w : State) : Type 0 where
-  pub room : (v : ℕ) → v < w.sizes.servers → (pool w).room v + held w (OfRoom v) + load_at w.sizes w.place v ≡ w.sizes.room v
-  pub spare : (s : ℕ) → s < w.sizes.shards → (pool w).spare s + held w (OfSpare s) + w.sizes.floor s ≡ live_at w.sizes w.place s
+  pub room : (v : ℕ) → v < w.sizes.servers
+      → (pool w).room v + held w (OfRoom v) + load_at w.sizes w.place v ≡ w.sizes.room v
+  pub spare : (s : ℕ) → s < w.sizes.shards
+      → (pool w).spare s + held w (OfSpare s) + w.sizes.floor s ≡ live_at w.sizes w.place s
 
--- Versions and numbers stay far below what a word has room for, and the log within its room: each shard's version and highest
--- handover number, the number of the next call, those of calls under way, and the last one of each cell.
+-- Versions and numbers stay far below what a word has room for, and the log within its room: each shard's version and
+-- highest handover number, the number of the next call, those of calls under way, and the last one of each cell.
 pub record IsSmall (w : State) : Type 0 where
   pub versions : (s : ℕ) → s < w.sizes.shards → w.place.version s < VERSIONS_END
   pub numbers : (s : ℕ) → w.numbers s < numbers_end

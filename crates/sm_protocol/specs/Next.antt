@@ -1,8 +1,10 @@
 -- The next act of a stream, by what is recorded: its call with the handover number, its entry of the published map, or
 -- the signal that it waits for; and when it came there.
-use Rattle.std.specs.Prelude.{ℕ, suc, ◌+◌, Option, Some, None, List, [], ◌∷◌, filter, length, slice_index_or, if◌then◌else◌}
+use Rattle.std.specs.Prelude.{ℕ, suc, ◌+◌, Option, Some, None, List, [], ◌∷◌, filter, length, slice_index_or}
+use Rattle.std.specs.Prelude.{if◌then◌else◌}
 use Rattle.sm_plan_code.specs.declared.instruction.Instr.TheVariants as instr
-use Rattle.sm_protocol.specs.Words.{Entry, Instr, Logged, ServerCall, StreamId, leads_of, next_call, range_with_len, to_list}
+use Rattle.sm_protocol.specs.Words.{Entry, Instr, Logged, ServerCall, StreamId, leads_of, next_call, range_with_len}
+use Rattle.sm_protocol.specs.Words.{to_list}
 use Rattle.sm_protocol.specs.State.{State, is_running, is_unfinished, next_instruction, no_start}
 use Rattle.sm_protocol.specs.Log.{is_step_of}
 
@@ -15,8 +17,8 @@ abbrev pub call_under : (ℕ → ℕ) → Option Instr → Option ServerCall
 call_under numbers None = None
 call_under numbers (Some i) = next_call numbers i
 
--- The call that a running stream stands before: a handover that it begins has a new number of its shard, and one that goes on the
--- highest.
+-- The call that a running stream stands before: a handover that it begins has a new number of its shard, and one that
+-- goes on the highest.
 abbrev pub next_call_of : State → StreamId → Option ServerCall
 next_call_of w id = call_under w.numbers (instruction_before w id)
 
@@ -48,7 +50,8 @@ abbrev pub since_in : StreamId → ℕ → ℕ → List Logged → ℕ
 since_in id start n [] = start
 since_in id start n (x ∷ xs) = since_in id (if is_step_of id x.event then n + 1 else start) (n + 1) xs
 
--- the log's length when the stream came to its position: behind its last step, or at its plan's start if it has made none
+-- the log's length when the stream came to its position: behind its last step, or at its plan's start if it has made
+-- none
 abbrev pub since_of : State → StreamId → ℕ
 since_of w id = since_in id (slice_index_or w.plans id.plan no_start).since 0 w.log
 

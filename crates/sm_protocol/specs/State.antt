@@ -1,7 +1,11 @@
 -- The state of the protocol: all that calls, starts of plans, requests and restarts have made so far. A part that
 -- changes with plans, streams and signals is a function of their numbers, with one value for all that are not begun.
-use Rattle.std.specs.Prelude.{ℕ, ◌+◌, Bool, false, not, ◌&&◌, nat_lt, Option, List, [], ◌∷◌, ◌++◌, length, slice_get, slice_index_or, ◌-◌, ◌^◌, true, if◌then◌else◌, count_by, drop}
-pub use Rattle.sm_protocol.specs.Words.{Entry, Event, Hold, Instr, Logged, OfRoom, OfSpare, Place, PlanModel, Played, Right, Rights, Sizes, StreamId, StreamModel, any_below, count, down_count, forget_numbers, free_cell, free_crown, hold_before, hold_of, is_no_call, no_stream, parcels_of, places_of, put2, stream_at, sum_below, true_rights}
+use Rattle.std.specs.Prelude.{ℕ, ◌+◌, Bool, false, not, ◌&&◌, nat_lt, Option, List, [], ◌∷◌, ◌++◌, length, slice_get}
+use Rattle.std.specs.Prelude.{slice_index_or, ◌-◌, ◌^◌, true, if◌then◌else◌, count_by, drop}
+pub use Rattle.sm_protocol.specs.Words.{Entry, Event, Hold, Instr, Logged, OfRoom, OfSpare, Place, PlanModel, Played}
+pub use Rattle.sm_protocol.specs.Words.{Right, Rights, Sizes, StreamId, StreamModel, any_below, count, down_count}
+pub use Rattle.sm_protocol.specs.Words.{forget_numbers, free_cell, free_crown, hold_before, hold_of, is_no_call}
+pub use Rattle.sm_protocol.specs.Words.{no_stream, parcels_of, places_of, put2, stream_at, sum_below, true_rights}
 
 -- A plan that was begun, and the log's length at its start.
 pub record Start : Type 0 where
@@ -37,15 +41,15 @@ pub record Mark : Type 0 where
 abbrev pub no_mark : Mark
 no_mark = record { posted = false; awaited = false }
 
--- A state of the protocol: the placement as it stands, the plans that were begun with how far their streams and signals have come,
--- the numbers that calls are made under, the log, and the halt flag.
+-- A state of the protocol: the placement as it stands, the plans that were begun with how far their streams and signals
+-- have come, the numbers that calls are made under, the log, and the halt flag.
 pub record State : Type 0 where
   -- the numbers of the configuration, and the placement at the opening: neither changes
   pub sizes : Sizes
   pub opening : Place
   pub place : Place
-  -- the entries that publications have added to the published map, with their shards: the newest first, as the map's publisher has
-  -- what it has stored. Plans and the log, below, have the oldest first.
+  -- the entries that publications have added to the published map, with their shards: the newest first, as the map's
+  -- publisher has what it has stored. Plans and the log, below, have the oldest first.
   pub entries : List (ℕ × Entry)
   -- each shard's highest handover number, and the number of the next call
   pub numbers : ℕ → ℕ
@@ -60,7 +64,8 @@ pub record State : Type 0 where
   pub room : ℕ
   pub halted : Bool
 
--- above handover numbers, numbers of calls and counts of instructions and effects: nothing comes near it, so that no sum wraps
+-- above handover numbers, numbers of calls and counts of instructions and effects: nothing comes near it, so that no
+-- sum wraps
 abbrev pub numbers_end : ℕ
 numbers_end = 2 ^ 47
 
@@ -172,7 +177,8 @@ held_by w r k =
 abbrev pub held : State → Right → ℕ
 held w r = sum_below (length w.plans) (held_by w r)
 
--- The pool: what is true of the placement and neither held nor under way, and the room and spare replicas that are left.
+-- The pool: what is true of the placement and neither held nor under way, and the room and spare replicas that are
+-- left.
 abbrev pub pool : State → Hold
 pool w = record {
   cells = λ s v. free_cell (held w) s v ((true_rights w.sizes w.place).cells s v);
@@ -181,7 +187,8 @@ pool w = record {
   spare = λ s. (true_rights w.sizes w.place).spare s - held w (OfSpare s);
 }
 
--- what a stream that stands so may take yet: a place for each try left, for each instruction left that is no call, and for its end
+-- what a stream that stands so may take yet: a place for each try left, for each instruction left that is no call, and
+-- for its end
 abbrev pub places_left : StreamModel → Progress → ℕ
 places_left stream progress =
     if progress.done then 0

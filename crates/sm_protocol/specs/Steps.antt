@@ -1,7 +1,11 @@
 -- Steps of streams: what the next instruction of a stream does to a state, and what is answered.
-use Rattle.std.specs.Prelude.{ℕ, suc, ◌+◌, ◌==◌, Bool, true, false, Option, Some, None, Result, Ok, Err, ◌∷◌, if◌then◌else◌}
-pub use Rattle.sm_protocol.specs.Words.{CallEffect, Event, Instr, Passage, Played, Refusal, ServerCall, StreamId, bit, call_again, called_numbered, leads_of, next_call, numbers_after, publish, put2, shard_of, to_list}
-use Rattle.sm_protocol.specs.State.{State, Progress, allowance, is_begun, progress_of, next_instruction, set_progress, logged}
+use Rattle.std.specs.Prelude.{ℕ, suc, ◌+◌, ◌==◌, Bool, true, false, Option, Some, None, Result, Ok, Err, ◌∷◌}
+use Rattle.std.specs.Prelude.{if◌then◌else◌}
+pub use Rattle.sm_protocol.specs.Words.{CallEffect, Event, Instr, Passage, Played, Refusal, ServerCall, StreamId, bit}
+pub use Rattle.sm_protocol.specs.Words.{call_again, called_numbered, leads_of, next_call, numbers_after, publish, put2}
+pub use Rattle.sm_protocol.specs.Words.{shard_of, to_list}
+use Rattle.sm_protocol.specs.State.{State, Progress, allowance, is_begun, progress_of, next_instruction, set_progress}
+use Rattle.sm_protocol.specs.State.{logged}
 
 -- An event is answered, or a call of it is refused by its server. That a call is refused is in this model alone.
 pub data Outcome : Type 0 where
@@ -20,8 +24,8 @@ call_number w progress = if progress.pending == 0 then w.next_number else progre
 abbrev pub number_after_try : State → Progress → ℕ
 number_after_try w progress = if progress.pending == 0 then w.next_number + 1 else w.next_number
 
--- The call of a stream's next try. One that has had its effect is made again as it was. One that has not, new or tried before,
--- is that of its instruction at the highest handover numbers.
+-- The call of a stream's next try. One that has had its effect is made again as it was. One that has not, new or tried
+-- before, is that of its instruction at the highest handover numbers.
 abbrev pub call_to_make : State → Progress → Instr → Option ServerCall
 call_to_make w progress i = if progress.ahead then call_again w.numbers i (shard_of i) else next_call w.numbers i
 
@@ -55,7 +59,8 @@ call_lost w id = record w {
   log = logged w (Event.Lose id false) Played.Lost;
 }
 
--- a try, by what becomes of it on its way, and by what its server answers: one that is lost before it comes there is answered by none
+-- a try, by what becomes of it on its way, and by what its server answers: one that is lost before it comes there is
+-- answered by none
 abbrev pub tried : State → StreamId → Instr → Passage → Result CallEffect Refusal → Outcome × State
 tried w id i Passage.LostBefore answer = (Answered Played.Lost, call_lost w id)
 tried w id i Passage.Through (Ok effect) =

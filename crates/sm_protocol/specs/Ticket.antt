@@ -1,8 +1,10 @@
 -- Passes of requests, as the log records them.
-use Rattle.std.specs.Prelude.{ℕ, Bool, false, not, ◌&&◌, ◌==◌, ◌++◌, Option, Some, None, List, [], ◌∷◌, option_map, slice_index_or}
+use Rattle.std.specs.Prelude.{ℕ, Bool, false, not, ◌&&◌, ◌==◌, ◌++◌, Option, Some, None, List, [], ◌∷◌, option_map}
+use Rattle.std.specs.Prelude.{slice_index_or}
 use Rattle.sm_protocol.specs.Words.{Event, Logged, Played, list_any, option_map_or}
 
--- A pass of a request: its place in the log, the shard, who passed the request on, to whom, and the number of their handover.
+-- A pass of a request: its place in the log, the shard, who passed the request on, to whom, and the number of their
+-- handover.
 pub record Ticket : Type 0 where
   pub place : ℕ
   pub shard : ℕ
@@ -15,7 +17,8 @@ abbrev pub same_ticket : Ticket → Ticket → Bool
 same_ticket a b =
     (a.place == b.place) && ((a.shard == b.shard) && ((a.sender == b.sender) && ((a.target == b.target) && (a.number == b.number))))
 
--- the pass that an event made: its shard and its sender are those of the request, which came directly or by an earlier pass
+-- the pass that an event made: its shard and its sender are those of the request, which came directly or by an earlier
+-- pass
 abbrev pub pass_of_event : List (Option Ticket) → ℕ → ℕ → ℕ → Event → Option Ticket
 pass_of_event earlier to number place (Event.Arrive s v) = Some (record { place = place; shard = s; sender = v; target = to; number = number })
 pass_of_event earlier to number place (Event.PassOn q) =

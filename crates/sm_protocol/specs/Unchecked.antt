@@ -1,4 +1,5 @@
--- A worked play of a plan that was not checked: its only call is refused. So the outcome that no checked plan has does come.
+-- A worked play of a plan that was not checked: its only call is refused. So the outcome that no checked plan has does
+-- come.
 use Rattle.std.specs.Prelude.{◌≡◌, false, None, [], ◌∷◌}
 use Rattle.sm_server.specs.declared.call.Cell.TheVariants as cell
 use Rattle.sm_plan_code.specs.declared.instruction.Instr.TheVariants as instr
@@ -27,4 +28,5 @@ drops_nothing = record {
 
 -- its start is answered, and its step is refused by the server
 abbrev pub RefusalsCome : Type 0
-RefusalsCome = outcomes (Begin drops_nothing ∷ Step (stream_id 0 0) ∷ []) (opened one_server empty_place 8) ≡ Answered (played.Begun 0) ∷ Refused ∷ []
+RefusalsCome = outcomes (Begin drops_nothing ∷ Step (stream_id 0 0) ∷ []) (opened one_server empty_place 8)
+    ≡ Answered (played.Begun 0) ∷ Refused ∷ []

@@ -10,14 +10,16 @@ pub use Rattle.sm_placement.specs.Setup.{IsSetup, Setup, Sizes, sizes_of}
 pub use Rattle.sm_placement.specs.Layout.{IsPlacement}
 pub use Rattle.sm_placement.specs.Lead.{IsSettled}
 pub use Rattle.sm_placement.specs.SafePlace.{IsSafePlace, IsServing}
-pub use Rattle.sm_placement.specs.Place.{CallEffect, IsAllowed, Place, called_numbered, down_count, entry_at, forget_numbers, is_live_at, live_at, load_at, publish, set_down}
+pub use Rattle.sm_placement.specs.Place.{CallEffect, IsAllowed, Place, called_numbered, down_count, entry_at}
+pub use Rattle.sm_placement.specs.Place.{forget_numbers, is_live_at, live_at, load_at, publish, set_down}
 pub use Rattle.sm_reservation.specs.declared.stream_id.StreamId.{StreamId}
 pub use Rattle.sm_reservation.specs.Rights.{Rights}
 pub use Rattle.sm_reservation.specs.Hold.{Hold}
 pub use Rattle.sm_reservation.specs.HoldOf.{hold_of}
 pub use Rattle.sm_reservation.specs.Amounts.{OfRoom, OfSpare, Right, bound, count, stock}
 pub use Rattle.sm_reservation.specs.Pool.{free_cell, free_crown, leads_of, true_rights}
-pub use Rattle.sm_plan_code.specs.declared.limits.TheConstants.{MOST_ALLOWANCE, MOST_CALLS, MOST_NUMBER, MOST_PLACES, MOST_PLANS}
+pub use Rattle.sm_plan_code.specs.declared.limits.TheConstants.{MOST_ALLOWANCE, MOST_CALLS, MOST_NUMBER, MOST_PLACES}
+pub use Rattle.sm_plan_code.specs.declared.limits.TheConstants.{MOST_PLANS}
 pub use Rattle.sm_plan_code.specs.declared.instruction.Instr.{Instr}
 pub use Rattle.sm_plan_code.specs.declared.call.ServerCall.{ServerCall}
 pub use Rattle.sm_plan_code.specs.Instr.{is_call, is_mentioned, is_no_call, shard_of}

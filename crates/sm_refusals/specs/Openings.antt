@@ -2,7 +2,8 @@
 use Rattle.std.specs.Prelude.{ℕ, List, [], ◌∷◌, codes}
 use Rattle.sm_placement.specs.Setup.{Setup}
 use Rattle.sm_placement.specs.declared.opening.OpenFault.{OpenFault}
-use Rattle.sm_placement.specs.declared.opening.OpenFault.TheVariants.{NoMemory, TooMany, UnknownName, DoubleCell, BadLead, BadListing, OverRoom, Short, TooManyDown}
+use Rattle.sm_placement.specs.declared.opening.OpenFault.TheVariants.{NoMemory, TooMany, UnknownName, DoubleCell}
+use Rattle.sm_placement.specs.declared.opening.OpenFault.TheVariants.{BadLead, BadListing, OverRoom, Short, TooManyDown}
 use Rattle.sm_refusals.specs.Refusals.{FieldModel, RefusalModel, server_field, shard_field}
 
 -- a placement is refused, under this number and kind

@@ -19,8 +19,8 @@ has_lost_settled x v = (net_reopening x).promised v && has_no_slots x v
 abbrev pub is_settled_lost : OngoingReopening → Bool
 is_settled_lost x = is_some (first_below (net_reopening x).servers (has_lost_settled x))
 
--- The server is the shard's primary still: it has told so, or is carried over as it is recorded. If a settle's taker has lost its slots, so
--- that it may have been primary since, only another one counts to which a settle was sent.
+-- The server is the shard's primary still: it has told so, or is carried over as it is recorded. If a settle's taker
+-- has lost its slots, so that it may have been primary since, only another one counts to which a settle was sent.
 abbrev pub is_primary_still : OngoingReopening → ℕ → ℕ → Bool
 is_primary_still x s v = nat_lt 3 (standing_of x s v).claim && ((net_reopening x).promised v || not (is_settled_lost x))
 
@@ -59,7 +59,8 @@ has_gone x s v =
 
 -- ---- counting
 
--- the server has answered that it has a whole copy of the shard: of one that is not whole neither view nor position is told
+-- the server has answered that it has a whole copy of the shard: of one that is not whole neither view nor position is
+-- told
 abbrev pub tells_whole : OngoingReopening → ℕ → ℕ → Bool
 tells_whole x s v =
     (is_some ((net_reopening x).told (Server v)) && not ((net_reopening x).lost v))
@@ -88,8 +89,8 @@ may_lack_copies x copies s =
 
 -- ---- names
 
--- Acknowledged writes of the shard may be lost: no primary is left, a server that may have served it is gone, and as many copies as each
--- write surely had may be.
+-- Acknowledged writes of the shard may be lost: no primary is left, a server that may have served it is gone, and as
+-- many copies as each write surely had may be.
 abbrev pub may_lack_writes : OngoingReopening → ℕ → ℕ → Bool
 may_lack_writes x copies s =
     (is_none (first_below (net_reopening x).servers (is_primary_still x s)) && is_some (first_below (net_reopening x).servers (has_gone x s)))

@@ -1,5 +1,6 @@
 -- The settlement that a reopening proposes.
-use Rattle.std.specs.Prelude.{◌≡◌, ℕ, ◌&&◌, ◌||◌, ◌==◌, Bool, true, false, not, Option, Some, None, is_some, nat_lt, if◌then◌else◌}
+use Rattle.std.specs.Prelude.{◌≡◌, ℕ, ◌&&◌, ◌||◌, ◌==◌, Bool, true, false, not, Option, Some, None, is_some, nat_lt}
+use Rattle.std.specs.Prelude.{if◌then◌else◌}
 use Rattle.sm_server.specs.declared.call.Cell.{Cell}
 use Rattle.sm_server.specs.declared.call.Cell.TheVariants.{Absent, Secondary, Primary}
 use Rattle.sm_server.specs.declared.call.Role.{Role}
@@ -63,16 +64,17 @@ is_held x s = is_some (first_below (net_reopening x).servers (holds_replica x s)
 abbrev pub is_documented : OngoingReopening → Documented → ℕ → Bool
 is_documented x d s = is_some (first_below (net_reopening x).servers (λ v. is_primary_role (d s v)))
 
--- The shard gets a primary: it has a lead; or nobody holds a replica, and the document has a primary for it. Between secondaries without a lead no
--- reopening chooses, since they may tell no views: a plan's change asks each.
+-- The shard gets a primary: it has a lead; or nobody holds a replica, and the document has a primary for it. Between
+-- secondaries without a lead no reopening chooses, since they may tell no views: a plan's change asks each.
 abbrev pub is_led : OngoingReopening → Documented → ℕ → Bool
 is_led x d s = has_known_lead x s || (not (is_held x s) && is_documented x d s)
 
--- The primary that is proposed for a shard: who inherits it; without a survivor the lowest Unknown server that the document has as the primary;
--- and none for a shard that has none.
+-- The primary that is proposed for a shard: who inherits it; without a survivor the lowest Unknown server that the
+-- document has as the primary; and none for a shard that has none.
 pub record IsProposedPrimary (x : OngoingReopening) (d : Documented) (s : ℕ) (primary : Option ℕ) : Type 0 where
   pub successor : (u : ℕ) → is_led x d s ≡ true → IsSuccessorOf x s u → primary ≡ Some u
-  pub documented : is_led x d s ≡ true → HasNoSurvivor x s → primary ≡ first_below (net_reopening x).servers (λ v. is_primary_role (role_counted x d s v))
+  pub documented : is_led x d s ≡ true → HasNoSurvivor x s
+      → primary ≡ first_below (net_reopening x).servers (λ v. is_primary_role (role_counted x d s v))
   pub none : is_led x d s ≡ false → primary ≡ None
 
 -- the lowest Unknown server that the document has as the shard's primary
@@ -97,7 +99,8 @@ abbrev pub is_the : Option ℕ → ℕ → Bool
 is_the None v = false
 is_the (Some u) v = u == v
 
--- the cell that is proposed for a server, if the shard goes to this primary: replicas stay, and who had a part in a handover loses it
+-- the cell that is proposed for a server, if the shard goes to this primary: replicas stay, and who had a part in a
+-- handover loses it
 abbrev pub proposed_cell : OngoingReopening → Documented → ℕ → Option ℕ → ℕ → Cell
 proposed_cell x d s primary v =
     if left_out_of x v || (net_reopening x).lost v then Absent

@@ -4,7 +4,8 @@ use Rattle.sm_placement.specs.Layout.{PlacementModel, place_of}
 use Rattle.sm_placement.specs.Opening.{first_below}
 use Rattle.sm_placement.specs.Place.{Place}
 use Rattle.sm_placement.specs.Setup.{Setup}
-use Rattle.laws_network.specs.Reopening.{Inventory, MapOwner, Message, Party, Reopening, Server, Settle, Settlement, Unknown, settle_by}
+use Rattle.laws_network.specs.Reopening.{Inventory, MapOwner, Message, Party, Reopening, Server, Settle, Settlement}
+use Rattle.laws_network.specs.Reopening.{Unknown, settle_by}
 use Rattle.sm_reopening.specs.declared.party.Party.{Party as ToldParty}
 use Rattle.sm_reopening.specs.declared.party.Party.TheVariants as party
 use Rattle.sm_reopening.specs.declared.settling.Settle.{Settle as SentSettle}

@@ -1,10 +1,12 @@
 -- The parties of a reopening: what they told, who is lost or left out, and the code's own lists of them.
 -- `next_state` and `AreNextStates` are internal: you need not read them for the public contracts.
-use Rattle.std.specs.Prelude.{◌≡◌, ℕ, ◌&&◌, ◌||◌, Bool, true, false, Option, Some, None, List, length, is_some, nat_le, option_map, slice_index_or, if◌then◌else◌}
+use Rattle.std.specs.Prelude.{◌≡◌, ℕ, ◌&&◌, ◌||◌, Bool, true, false, Option, Some, None, List, length, is_some, nat_le}
+use Rattle.std.specs.Prelude.{option_map, slice_index_or, if◌then◌else◌}
 use Rattle.sm_server.specs.declared.call.Cell.TheVariants.{Absent}
 use Rattle.sm_copies.specs.declared.order.ToldCopy.{ToldCopy}
 use Rattle.sm_placement.specs.Layout.{place_of}
-use Rattle.laws_network.specs.Reopening.{Inventory, MapOwner, Party, Reopening, Server, Settlement, Slots, Unknown, Entries}
+use Rattle.laws_network.specs.Reopening.{Inventory, MapOwner, Party, Reopening, Server, Settlement, Slots, Unknown}
+use Rattle.laws_network.specs.Reopening.{Entries}
 use Rattle.sm_reopening.specs.declared.party.FoundSlot.{FoundSlot}
 use Rattle.sm_reopening.specs.declared.party.Inventory.{Inventory as Told}
 use Rattle.sm_reopening.specs.declared.party.Inventory.TheVariants as told
@@ -77,7 +79,8 @@ state_by xs v = slice_index_or xs v (fresh_state Member)
 
 -- the servers of a reopening that replaces another one, which has sent settles to these
 abbrev pub AreNextStates : List Membership → (ℕ → Bool) → List ServerState → Type 0
-AreNextStates members promised xs = (length xs ≡ length members) × ((v : ℕ) → state_by xs v ≡ next_state (slice_index_or members v Member) (promised v))
+AreNextStates members promised xs = (length xs ≡ length members)
+    × ((v : ℕ) → state_by xs v ≡ next_state (slice_index_or members v Member) (promised v))
 
 -- what the parties have told
 abbrev pub told_by : List ServerState → Bool → Party → Option Inventory

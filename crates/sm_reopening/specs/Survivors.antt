@@ -1,6 +1,7 @@
 -- The successors of a shard: the survivors, by what they told or are recorded to have.
 -- `slot_claim` is internal: you need not read it for the public contracts.
-use Rattle.std.specs.Prelude.{◌≡◌, ◌<◌, ℕ, ◌&&◌, ◌||◌, ◌==◌, Bool, true, false, Option, Some, None, if◌then◌else◌, is_none, nat_lt}
+use Rattle.std.specs.Prelude.{◌≡◌, ◌<◌, ℕ, ◌&&◌, ◌||◌, ◌==◌, Bool, true, false, Option, Some, None, if◌then◌else◌}
+use Rattle.std.specs.Prelude.{is_none, nat_lt}
 use Rattle.sm_placement.specs.Opening.{first_below}
 use Rattle.laws_network.specs.ReopeningLaws.{claim, claim_of}
 use Rattle.sm_reopening.specs.declared.ongoing.OngoingReopening.{OngoingReopening}
@@ -38,7 +39,8 @@ slot_claim None = 0
 abbrev pub standing_of : OngoingReopening → ℕ → ℕ → Standing
 standing_of x s v = record { claim = claim_of (net_reopening x) (past_state x) s v; copy = told_copies x s v }
 
--- The server inherits the shard: it has a claim, nobody stands above it, and it is the lowest of those that stand as high.
+-- The server inherits the shard: it has a claim, nobody stands above it, and it is the lowest of those that stand as
+-- high.
 pub record IsSuccessorOf (x : OngoingReopening) (s u : ℕ) : Type 0 where
   pub known : u < (net_reopening x).servers
   pub claims : 0 < (standing_of x s u).claim

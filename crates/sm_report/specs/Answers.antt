@@ -12,7 +12,8 @@ use Rattle.sm_report_text.specs.AnswerLines.{answer_line}
 
 -- the call's shard and servers are known
 abbrev pub IsKnownNamed : Setup → NamedCall → Type 0
-IsKnownNamed setup named = (named.0 < length setup.shards) × (named.1 < length setup.servers) × IsKnownCall (length setup.servers) named.2
+IsKnownNamed setup named = (named.0 < length setup.shards) × (named.1 < length setup.servers)
+    × IsKnownCall (length setup.servers) named.2
 
 -- what a call makes of a placement, or why it is refused there
 abbrev pub result_of : Sizes → Place → NamedCall → Result Place Refusal
@@ -44,4 +45,5 @@ place_after_all c p (named ∷ rest) = place_after_all c (place_after c p named)
 -- the lines of the answers to calls made one after the other, numbered from i
 abbrev pub answer_lines : Sizes → Place → ℕ → List NamedCall → List ℕ
 answer_lines c p i [] = []
-answer_lines c p i (named ∷ rest) = answer_line i (refusal_at c p named) ++ answer_lines c (place_after c p named) (i + 1) rest
+answer_lines c p i (named ∷ rest) = answer_line i (refusal_at c p named)
+    ++ answer_lines c (place_after c p named) (i + 1) rest

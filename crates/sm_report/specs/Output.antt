@@ -13,7 +13,8 @@ use Rattle.sm_report.specs.Answers.{answer_lines, place_after_all}
 use Rattle.sm_report_text.specs.Checking.{accepted_line}
 use Rattle.sm_report_text.specs.Ending.{ending}
 use Rattle.sm_report.specs.Report.{Output, done}
-use Rattle.sm_report.specs.Stages.{Then, read_stage, member_stage, alone_stage, placement_stage, log_stage, begin_stage, AtCheck, AtChecks, AtStart}
+use Rattle.sm_report.specs.Stages.{Then, read_stage, member_stage, alone_stage, placement_stage, log_stage, begin_stage}
+use Rattle.sm_report.specs.Stages.{AtCheck, AtChecks, AtStart}
 use Rattle.sm_report.specs.Playing.{Scene, opened_scene, scene_after}
 use Rattle.sm_report.specs.PlayLines.{event_lines, all_plan_lines}
 use Rattle.sm_report.specs.Planning.{Aim, aim_stage, opened_basis, IsAnswered}
@@ -68,8 +69,8 @@ abbrev pub has_list : Option (List PlanModel) → Bool
 has_list (Some plans) = true
 has_list None = false
 
--- the answers to events that are played one after the other behind this front, how far the streams have come, and the placement
--- after them
+-- the answers to events that are played one after the other behind this front, how far the streams have come, and the
+-- placement after them
 abbrev pub played_output : Setup → Bool → List ℕ → List Event → Scene → Output
 played_output setup many front events x =
     done (front ++ event_lines setup many x 0 events ++ all_plan_lines many (scene_after events x) ++ ending setup (scene_after events x).state.place)

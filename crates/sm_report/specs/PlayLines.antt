@@ -1,5 +1,6 @@
 -- The lines of events that are played, and of the streams after them.
-use Rattle.std.specs.Prelude.{ℕ, ◌+◌, Bool, true, false, Option, Some, None, List, [], ◌∷◌, ◌++◌, codes, length, slice_index_or, if◌then◌else◌}
+use Rattle.std.specs.Prelude.{ℕ, ◌+◌, Bool, true, false, Option, Some, None, List, [], ◌∷◌, ◌++◌, codes, length}
+use Rattle.std.specs.Prelude.{slice_index_or, if◌then◌else◌}
 use Rattle.std.specs.List.{flat_map, range_with_len}
 use Rattle.std.specs.Fmt.{decimal}
 use Rattle.sm_placement.specs.Setup.{Setup}
@@ -18,7 +19,9 @@ use Rattle.sm_protocol.specs.State.{State, Progress, stream_id, stream_count, st
 use Rattle.sm_protocol.specs.Steps.{Outcome, Refused, Answered}
 use Rattle.sm_report_text.specs.Ending.{server_name}
 use Rattle.sm_report_text.specs.Checking.{call_count}
-use Rattle.sm_report_text.specs.EventLines.{begun_counts_line, blocked_line, denied_line, event_front, executed_line, not_begun_line, passed_line, refill_line, stream_at_line, stream_done_line, stream_text, waiting_line, word_line}
+use Rattle.sm_report_text.specs.EventLines.{begun_counts_line, blocked_line, denied_line, event_front, executed_line}
+use Rattle.sm_report_text.specs.EventLines.{not_begun_line, passed_line, refill_line, stream_at_line, stream_done_line}
+use Rattle.sm_report_text.specs.EventLines.{stream_text, waiting_line, word_line}
 use Rattle.sm_report.specs.Playing.{Scene, start_number, event_turn}
 
 -- the plan has begun
@@ -55,7 +58,8 @@ outcome_line setup many i x (Answered answer) = event_front i ++ played_line set
 -- the lines of events that are played one after the other, numbered from i
 abbrev pub event_lines : Setup → Bool → Scene → ℕ → List Event → List ℕ
 event_lines setup many x i [] = []
-event_lines setup many x i (e ∷ es) = outcome_line setup many i (event_turn x e).1 (event_turn x e).0 ++ event_lines setup many (event_turn x e).1 (i + 1) es
+event_lines setup many x i (e ∷ es) = outcome_line setup many i (event_turn x e).1 (event_turn x e).0
+    ++ event_lines setup many (event_turn x e).1 (i + 1) es
 
 -- ---- the streams after the events
 

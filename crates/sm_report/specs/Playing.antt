@@ -1,8 +1,9 @@
--- Events of a document, which are played one after the other. The player has every right that a machine gives away: the token
--- of each stream that was begun, a permit for each server that is down, and the ticket of each pass that was recorded. So what
--- an event asks for hangs on the state alone, and on where the plans stand in the document: an event names a plan by its
--- place there, and a stream that runs has the number that the start of its plan was answered with.
-use Rattle.std.specs.Prelude.{ℕ, ◌==◌, ◌++◌, Option, Some, None, List, [], ◌∷◌, map, option_map, option_and_then, slice_index_or, slice_set, if◌then◌else◌}
+-- Events of a document, which are played one after the other. The player has every right that a machine gives away: the
+-- token of each stream that was begun, a permit for each server that is down, and the ticket of each pass that was
+-- recorded. So what an event asks for hangs on the state alone, and on where the plans stand in the document: an event
+-- names a plan by its place there, and a stream that runs has the number that the start of its plan was answered with.
+use Rattle.std.specs.Prelude.{ℕ, ◌==◌, ◌++◌, Option, Some, None, List, [], ◌∷◌, map, option_map, option_and_then}
+use Rattle.std.specs.Prelude.{slice_index_or, slice_set, if◌then◌else◌}
 use Rattle.std.specs.List.{position}
 use Rattle.sm_placement.specs.Setup.{Sizes}
 use Rattle.sm_placement.specs.Place.{Place}
@@ -43,8 +44,8 @@ if_begun w id = if is_begun w id then Some id else None
 abbrev pub named_stream : Scene → StreamId → Option StreamId
 named_stream x id = option_and_then (λ number. if_begun x.state (stream_id number id.stream)) (start_number x.places id.plan)
 
--- An event of the document with its stream as it has begun; None if that has not begun. A start is none, since it names its plan by a place in
--- the document.
+-- An event of the document with its stream as it has begun; None if that has not begun. A start is none, since it names
+-- its plan by a place in the document.
 abbrev pub event_named : Scene → Event → Option Event
 event_named x (event.Step id) = option_map event.Step (named_stream x id)
 event_named x (event.Lose id after) = option_map (λ begun. event.Lose begun after) (named_stream x id)

@@ -32,8 +32,8 @@ end_line w id = stream_end_line id.stream (steps_at_end w id) (progress_of w id)
 abbrev pub end_lines : State → ℕ → List ℕ
 end_lines w number = flat_map (λ i. end_line w (stream_id number i)) (range_with_len 0 (stream_count w number))
 
--- The line of a stream that was run to its end, where each of its calls was tried once: its steps are its instructions and its end, its
--- tries its calls, and it was allowed its budget and its retries.
+-- The line of a stream that was run to its end, where each of its calls was tried once: its steps are its instructions
+-- and its end, its tries its calls, and it was allowed its budget and its retries.
 abbrev pub run_line : ℕ → StreamModel → List ℕ
 run_line i stream = stream_end_line i (length stream.code + 1) (count_by is_call stream.code) (stream.budget + stream.retries)
 

@@ -4,15 +4,17 @@
 use Rattle.std.specs.Prelude.{◌≡◌, List, ℕ, [], ◌∷◌, codes, Result, Ok, Err}
 use Rattle.sm_report.specs.declared.status.Status.TheVariants as status
 use Rattle.sm_report.specs.declared.run_stop.NotFinished.{NotFinished}
-use Rattle.sm_report.specs.declared.run_stop.NotFinished.TheVariants.{NoThread, Halted, Spent, NoCaller, OtherAsk, NotClosed, OtherEvents}
+use Rattle.sm_report.specs.declared.run_stop.NotFinished.TheVariants.{NoThread, Halted, Spent, NoCaller, OtherAsk}
+use Rattle.sm_report.specs.declared.run_stop.NotFinished.TheVariants.{NotClosed, OtherEvents}
 use Rattle.sm_report.specs.declared.run_stop.RunStop.{RunStop}
 use Rattle.sm_report.specs.declared.run_stop.RunStop.TheVariants as run_stop
 use Rattle.sm_report.specs.Stop.{IfEnded, IfReadEnded}
 use Rattle.sm_report_text.specs.Lines.{line}
 use Rattle.sm_report.specs.Report.{Output}
 
--- The text that is written if a plan has begun and was not run to its end. None of the texts behind the first is wanted: nothing halts the
--- board of a report, or happens on it beside the run, and it is closed if all streams have finished; but no contract rules them out.
+-- The text that is written if a plan has begun and was not run to its end. None of the texts behind the first is
+-- wanted: nothing halts the board of a report, or happens on it beside the run, and it is closed if all streams have
+-- finished; but no contract rules them out.
 abbrev pub not_finished_text : NotFinished → List ℕ
 not_finished_text NoThread = line (codes "not run: 2 NoThread" ∷ [])
 not_finished_text Halted = line (codes "not run: 3 Halted" ∷ [])

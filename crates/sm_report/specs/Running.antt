@@ -1,5 +1,6 @@
--- The report of a plan that is run, with a thread for each of its streams and each ask. The stages before the board are those of
--- the other commands. The outcome of threads depends on their schedule, so the rest is told by what is so at the end.
+-- The report of a plan that is run, with a thread for each of its streams and each ask. The stages before the board are
+-- those of the other commands. The outcome of threads depends on their schedule, so the rest is told by what is so at
+-- the end.
 use Rattle.std.specs.Prelude.{◌≡◌, ◌≢◌, ◌⊎◌, ℕ, Bool, true, false, List, [], ◌++◌, All, None, Option, map}
 use Rattle.std.specs.List.{list_all, range_with_len}
 use Rattle.sm_placement.specs.Setup.{Setup, sizes_of}
@@ -45,10 +46,10 @@ pub record HasRun (streams : ℕ) (ended : List EndedModel) (clients : List Clie
   pub ends : streams_ended ended ≡ first_streams streams
   pub answered : All (λ client. client.asked ≢ None) clients
 
--- The plan that has begun was run beside asks: with these ends and callers the board is closed at a state at which no other plan has
--- begun, all events of whose log are steps and requests, and at which the servers that are down are those of the opening; there is a client for
--- each ask, of its shard, and each client's answer is one that its ask may come to. The report has the lines of the plan's streams, those of the
--- asks, and the placement at this state.
+-- The plan that has begun was run beside asks: with these ends and callers the board is closed at a state at which no
+-- other plan has begun, all events of whose log are steps and requests, and at which the servers that are down are
+-- those of the opening; there is a client for each ask, of its shard, and each client's answer is one that its ask may
+-- come to. The report has the lines of the plan's streams, those of the asks, and the placement at this state.
 pub record WasRun (begun : State) (setup : Setup) (asks : List ℕ) (output : Output) : Type 0 where
   pub now : State
   pub ended : List EndedModel

@@ -24,9 +24,11 @@ pub record IsSafeScene (setup : Setup) (es : List Event) (x : Scene) : Type 0 wh
   pub state : (scene_after es x).state ≡ run (happenings es x) x.state
   pub safe : IsSafeRun setup (happenings es x) x.state
 
--- From the opening of a document's placement, whose log has room, with plans that were checked: so it is after each list of events that name known
--- shards and servers. Each front of the list is such a list too: so the laws of the protocol hold after each event.
+-- From the opening of a document's placement, whose log has room, with plans that were checked: so it is after each
+-- list of events that name known shards and servers. Each front of the list is such a list too: so the laws of the
+-- protocol hold after each event.
 abbrev pub ScenesAreSafe : Type 0
-ScenesAreSafe = (setup : Setup) (p : Place) (log : ℕ) (plans : List PlanModel) (es : List Event) → IsOpening setup p log →
+ScenesAreSafe = (setup : Setup) (p : Place) (log : ℕ) (plans : List PlanModel) (es : List Event)
+    → IsOpening setup p log →
     AllByRecursion (IsCheckedPlan (sizes_of setup)) plans → AllByRecursion (NamesKnown (sizes_of setup)) es →
     IsSafeScene setup es (opened_scene (sizes_of setup) p log plans)

@@ -1,8 +1,9 @@
--- The stages of a report. Every command takes them in this order, and leaves out those that it has no use for: the bytes
--- are read, no two members stand for one thing, the command's member is there, the placement is opened, the log has room for
--- it, the plans pass the check, the plan may start; then comes the command's own text. A stage finds what the next ones need,
--- or ends the report with its line.
-use Rattle.std.specs.Prelude.{◌≡◌, ◌≢◌, ◌⊎◌, ◌+◌, ◌++◌, ◌∷◌, [], ℕ, Bool, List, codes, length, Option, Some, None, Result, Ok, Err, nat_lt, if◌then◌else◌}
+-- The stages of a report. Every command takes them in this order, and leaves out those that it has no use for: the
+-- bytes are read, no two members stand for one thing, the command's member is there, the placement is opened, the log
+-- has room for it, the plans pass the check, the plan may start; then comes the command's own text. A stage finds what
+-- the next ones need, or ends the report with its line.
+use Rattle.std.specs.Prelude.{◌≡◌, ◌≢◌, ◌⊎◌, ◌+◌, ◌++◌, ◌∷◌, [], ℕ, Bool, List, codes, length, Option, Some, None}
+use Rattle.std.specs.Prelude.{Result, Ok, Err, nat_lt, if◌then◌else◌}
 use Rattle.sm_placement.specs.declared.opening.OpenFault.{OpenFault}
 use Rattle.sm_placement.specs.Setup.{Setup, Sizes, sizes_of}
 use Rattle.sm_placement.specs.Place.{Place, down_count}
@@ -95,13 +96,15 @@ start_stage setup w plan = begun_or_refused setup (happens w (happening.Begin pl
 
 -- the report ends with the plan's first fault, behind this front
 abbrev pub IsFaultReport : Sizes → List ℕ → PlanModel → Output → Type 0
-IsFaultReport c front plan output = (f : Fault) × IsFault c plan f × (f ≢ fault.NoMemory) × (output ≡ refused (front ++ fault_line f))
+IsFaultReport c front plan output = (f : Fault) × IsFault c plan f × (f ≢ fault.NoMemory)
+    × (output ≡ refused (front ++ fault_line f))
 
 -- the plan passes the check
 abbrev pub AtCheck : Sizes → List ℕ → PlanModel → (Output → Type 0) → Output → Type 0
 AtCheck c front plan Next output = IsFaultReport c front plan output ⊎ (IsSound c plan × Next output)
 
--- each plan passes the check; a document with a list of plans names the one that does not by its place, which is counted from k
+-- each plan passes the check; a document with a list of plans names the one that does not by its place, which is
+-- counted from k
 abbrev pub AtChecks : Sizes → Bool → ℕ → List PlanModel → (Output → Type 0) → Output → Type 0
 AtChecks c many k [] Next output = Next output
 AtChecks c many k (plan ∷ plans) Next output = AtCheck c (plan_front many k) plan (AtChecks c many (k + 1) plans Next) output
@@ -109,9 +112,11 @@ AtChecks c many k (plan ∷ plans) Next output = AtCheck c (plan_front many k) p
 -- the report ends with the first thing that holds the plan up at a placement whose pool has all rights
 abbrev pub IsHoldingReport : Setup → Place → PlanModel → Output → Type 0
 IsHoldingReport setup p plan output =
-    (h : Holding) × IsHolding (sizes_of setup) p (true_rights (sizes_of setup) p) plan h × (output ≡ refused (holding_line setup h))
+    (h : Holding) × IsHolding (sizes_of setup) p (true_rights (sizes_of setup) p) plan h
+    × (output ≡ refused (holding_line setup h))
 
 -- the plan may start at a placement whose pool has all rights
 abbrev pub AtStart : Setup → Place → PlanModel → (Output → Type 0) → Output → Type 0
 AtStart setup p plan Next output =
-    IsHoldingReport setup p plan output ⊎ (IsAdmitted (sizes_of setup) p (true_rights (sizes_of setup) p) plan × Next output)
+    IsHoldingReport setup p plan output
+    ⊎ (IsAdmitted (sizes_of setup) p (true_rights (sizes_of setup) p) plan × Next output)

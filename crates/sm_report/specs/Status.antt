@@ -1,7 +1,8 @@
 -- The exit statuses.
 use Rattle.std.specs.Prelude.{ℕ}
 use Rattle.sm_report.specs.declared.status.Status.{Status}
-use Rattle.sm_report.specs.declared.status.Status.TheVariants.{Done, Refused, BadInput, NoMemory, NoThread, ReadFailed, WriteFailed}
+use Rattle.sm_report.specs.declared.status.Status.TheVariants.{Done, Refused, BadInput, NoMemory, NoThread, ReadFailed}
+use Rattle.sm_report.specs.declared.status.Status.TheVariants.{WriteFailed}
 
 -- the exit status of a program whose report ends so
 abbrev pub code_of : Status → ℕ

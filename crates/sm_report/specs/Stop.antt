@@ -5,8 +5,8 @@ use Rattle.sm_report.specs.declared.stop.Stop.{Stop}
 use Rattle.sm_report.specs.declared.stop.Stop.TheVariants.{NoMemory, ReadFailed, Report}
 use Rattle.sm_report.specs.Report.{Output}
 
--- The report with which a stage behind the reading ended is one of these; if memory was short, there is none. Such a stage
--- reads nothing.
+-- The report with which a stage behind the reading ended is one of these; if memory was short, there is none. Such a
+-- stage reads nothing.
 abbrev pub IfEnded : Stop → (Output → Type 0) → Type 0
 IfEnded NoMemory Is = Unit {0}
 IfEnded ReadFailed Is = ⊥

@@ -1,7 +1,8 @@
 -- The line of an input that is no document.
 use Rattle.std.specs.Prelude.{ℕ, List, [], ◌∷◌, codes}
 use Rattle.sm_plan_text.specs.declared.fault.TextFault.{TextFault}
-use Rattle.sm_plan_text.specs.declared.fault.TextFault.TheVariants.{NoMemory, NotJson, Shape, UnknownName, TooMany, Number}
+use Rattle.sm_plan_text.specs.declared.fault.TextFault.TheVariants.{NoMemory, NotJson, Shape, UnknownName, TooMany}
+use Rattle.sm_plan_text.specs.declared.fault.TextFault.TheVariants.{Number}
 use Rattle.sm_plan_text.specs.Members.{text_of}
 use Rattle.sm_report_text.specs.Lines.{line}
 

@@ -22,7 +22,7 @@ accepted_line plan = line (codes "accepted: calls " ∷ decimal (call_count plan
 abbrev pub fault_line : Fault → List ℕ
 fault_line fault = refusal_line (check_refusal fault)
 
--- The line that says why a plan may not start. No line of 1 or 2 about room or spare replicas is in a report, since only
--- cell rights and crowns are Untrue or Taken.
+-- The line that says why a plan may not start. No line of 1 or 2 about room or spare replicas is in a report, since
+-- only cell rights and crowns are Untrue or Taken.
 abbrev pub holding_line : Setup → Holding → List ℕ
 holding_line setup holding = refusal_line (holding_refusal setup holding)

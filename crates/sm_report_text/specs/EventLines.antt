@@ -1,5 +1,6 @@
 -- The lines of events that are played, and of the streams after them.
-use Rattle.std.specs.Prelude.{ℕ, Bool, true, false, Option, Some, None, List, [], ◌∷◌, ◌++◌, codes, length, slice_index_or, if◌then◌else◌}
+use Rattle.std.specs.Prelude.{ℕ, Bool, true, false, Option, Some, None, List, [], ◌∷◌, ◌++◌, codes, length}
+use Rattle.std.specs.Prelude.{slice_index_or, if◌then◌else◌}
 use Rattle.std.specs.Fmt.{decimal}
 use Rattle.sm_placement.specs.Setup.{Setup}
 use Rattle.sm_task_controller.specs.declared.decision.Denied.{Denied}
@@ -42,8 +43,8 @@ executed_line server = line (codes "executed at " ∷ server ∷ [])
 abbrev pub passed_line : List ℕ → ℕ → ℕ → List ℕ
 passed_line server number place = line (codes "passed to " ∷ server ∷ codes " number " ∷ decimal number ∷ codes " ticket " ∷ decimal place ∷ [])
 
--- The place in the document of the plan whose stream denies a restart, if the document has a list of plans. The plans have
--- begun from these places, by their numbers.
+-- The place in the document of the plan whose stream denies a restart, if the document has a list of plans. The plans
+-- have begun from these places, by their numbers.
 abbrev pub place_told : Bool → List ℕ → Denied → Option ℕ
 place_told true places (denied.Engaged stream) = Some (slice_index_or places stream.plan 0)
 place_told many places why = None
@@ -62,8 +63,8 @@ refill_line refill_fault.LogFull = word_line (codes "refill refused 3 LogFull")
 abbrev pub begun_counts_line : ℕ → ℕ → List ℕ
 begun_counts_line calls streams = line (codes "begun: calls " ∷ decimal calls ∷ codes " streams " ∷ decimal streams ∷ [])
 
--- Why a plan does not start. The line of NoMemory is in no report: if memory is short, nothing is written. Nor is that of
--- TooManyPlans, since a document has no more plans than may run at once.
+-- Why a plan does not start. The line of NoMemory is in no report: if memory is short, nothing is written. Nor is that
+-- of TooManyPlans, since a document has no more plans than may run at once.
 abbrev pub not_begun_line : Setup → BeginFault → List ℕ
 not_begun_line setup fault = refusal_line (begin_refusal setup fault)
 

@@ -4,7 +4,8 @@ use Rattle.std.specs.List.{AllByRecursion}
 use Rattle.sm_reservation.specs.Rights.{Rights}
 use Rattle.sm_reservation.specs.Hold.{Hold, minus}
 use Rattle.sm_reservation.specs.HoldOf.{hold_of}
-use Rattle.sm_reservation.specs.Turns.{lacks_cell, lacks_crown, lacks_room, lacks_spare, loses_cell, loses_crown, loses_room, loses_spare, RoomFits, SpareFits}
+use Rattle.sm_reservation.specs.Turns.{lacks_cell, lacks_crown, lacks_room, lacks_spare, loses_cell, loses_crown}
+use Rattle.sm_reservation.specs.Turns.{loses_room, loses_spare, RoomFits, SpareFits}
 
 -- rights, and how many keys each list can take
 pub record HoldModel : Type 0 where
@@ -83,5 +84,6 @@ pub record HasCapacityAfter (k : HoldModel) (out got : Rights) : Type 0 where
 
 -- the lists have lost the keys that were used up, and gained those that were new
 pub record IsTraded (old new : HoldModel) (out got : Rights) : Type 0 where
-  pub sizes : add_counts (key_counts new.rights) (lost_keys (hold_of old.rights) out) ≡ add_counts (key_counts old.rights) (new_keys (minus (hold_of old.rights) out) got)
+  pub sizes : add_counts (key_counts new.rights) (lost_keys (hold_of old.rights) out)
+      ≡ add_counts (key_counts old.rights) (new_keys (minus (hold_of old.rights) out) got)
   pub capacity : new.capacity ≡ old.capacity

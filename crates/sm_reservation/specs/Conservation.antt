@@ -1,5 +1,5 @@
--- The holders of rights, and the calls that move rights about or give them up for others.
--- One holder is the pool, and each other holder is a grant: a grant that isn't made yet, or that is spent, has nothing (`SpentIsNothing` of
+-- The holders of rights, and the calls that move rights about or give them up for others. One holder is the pool, and
+-- each other holder is a grant: a grant that isn't made yet, or that is spent, has nothing (`SpentIsNothing` of
 -- specs/Laws.antt says so of one that was given back or joined to another one).
 use Rattle.std.specs.Prelude.{◌≡◌, ◌≢◌, ℕ, ◌+◌, ◌≤◌, ◌<◌, is_some, IsSome, None, List, [], ◌∷◌}
 use Rattle.sm_placement.specs.Sums.{put, bit, sum_below}
@@ -25,8 +25,10 @@ after_move b (Trades i p q) = put b i (plus (minus (b i) p) q)
 
 -- the conditions of a call, at the first n holders, but for those on memory and on sums
 abbrev pub CanMake : ℕ → (ℕ → Hold) → Move → Type 0
-CanMake n b (Moves i j p) = (i < n) × (j < n) × (i ≢ j) × IsOrdered p × (first_short (b i) p ≡ None) × AreApart (b j) (hold_of p)
-CanMake n b (Trades i p q) = (i < n) × IsOrdered p × IsOrdered q × (first_short (b i) p ≡ None) × AreApart (minus (b i) p) (hold_of q)
+CanMake n b (Moves i j p) = (i < n) × (j < n) × (i ≢ j) × IsOrdered p × (first_short (b i) p ≡ None)
+    × AreApart (b j) (hold_of p)
+CanMake n b (Trades i p q) = (i < n) × IsOrdered p × IsOrdered q × (first_short (b i) p ≡ None)
+    × AreApart (minus (b i) p) (hold_of q)
 
 -- what the holders have after a list of calls
 abbrev pub after_moves : (ℕ → Hold) → List Move → ℕ → Hold
@@ -58,7 +60,8 @@ gained (Trades i p q ∷ ms) r = count (hold_of q) r + gained ms r
 
 -- pool and grants add up to what there was, changed by what trades gave up and got
 abbrev pub RightsAddUp : Type 0
-RightsAddUp = (n : ℕ) (b : ℕ → Hold) (ms : List Move) → CanMakeAll n b ms → (r : Right) → total n (after_moves b ms) r + given_up ms r ≡ total n b r + gained ms r
+RightsAddUp = (n : ℕ) (b : ℕ → Hold) (ms : List Move) → CanMakeAll n b ms → (r : Right)
+    → total n (after_moves b ms) r + given_up ms r ≡ total n b r + gained ms r
 
 -- ---- how many holders have a right to a cell, or a crown
 
@@ -77,7 +80,8 @@ pub record HasOneHolder (n : ℕ) (b : ℕ → Hold) : Type 0 where
 
 -- what a trade gets is nowhere but in what it gives up
 pub record IsFresh (n : ℕ) (b : ℕ → Hold) (out got : Rights) : Type 0 where
-  pub cells : (s v : ℕ) → IsSome ((hold_of got).cells s v) → cell_holders n b s v ≤ bit (is_some ((hold_of out).cells s v))
+  pub cells : (s v : ℕ) → IsSome ((hold_of got).cells s v)
+      → cell_holders n b s v ≤ bit (is_some ((hold_of out).cells s v))
   pub crowns : (s : ℕ) → IsSome ((hold_of got).crowns s) → crown_holders n b s ≤ bit (is_some ((hold_of out).crowns s))
 
 -- each trade brings rights that are nowhere else
@@ -88,4 +92,5 @@ AllFresh n b (Trades i p q ∷ ms) = IsFresh n b p q × AllFresh n (after_move b
 
 -- a cell right or a crown stays with one holder
 abbrev pub RightsKeepOneHolder : Type 0
-RightsKeepOneHolder = (n : ℕ) (b : ℕ → Hold) (ms : List Move) → CanMakeAll n b ms → AllFresh n b ms → HasOneHolder n b → HasOneHolder n (after_moves b ms)
+RightsKeepOneHolder = (n : ℕ) (b : ℕ → Hold) (ms : List Move) → CanMakeAll n b ms → AllFresh n b ms → HasOneHolder n b
+    → HasOneHolder n (after_moves b ms)

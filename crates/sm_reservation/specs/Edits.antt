@@ -1,6 +1,7 @@
 -- Rows in order, with the rows of a parcel worked into them.
 -- Internal definitions: you need not read them for the public contracts.
-use Rattle.std.specs.Prelude.{◌≡◌, ℕ, ◌+◌, ◌-◌, ◌%◌, ◌^◌, ◌==◌, ◌&&◌, is_none, is_some, insert, remove, slice_set, Option, Some, None, List, [], ◌∷◌, if◌then◌else◌}
+use Rattle.std.specs.Prelude.{◌≡◌, ℕ, ◌+◌, ◌-◌, ◌%◌, ◌^◌, ◌==◌, ◌&&◌, is_none, is_some, insert, remove, slice_set}
+use Rattle.std.specs.Prelude.{Option, Some, None, List, [], ◌∷◌, if◌then◌else◌}
 use Rattle.sm_placement.specs.Sums.{bit}
 use Rattle.sm_reservation.specs.declared.right.Room.{Room}
 use Rattle.sm_reservation.specs.declared.right.Spare.{Spare}

@@ -9,8 +9,8 @@ use Rattle.sm_reservation.specs.declared.right.Room.{Room}
 use Rattle.sm_reservation.specs.declared.right.Spare.{Spare}
 use Rattle.sm_reservation.specs.Rights.{Rights}
 
--- A hold: rights as they are read by their keys. At a key there is a right to the cell or none, a crown or none, and an amount of
--- room or of spare replicas.
+-- A hold: rights as they are read by their keys. At a key there is a right to the cell or none, a crown or none, and an
+-- amount of room or of spare replicas.
 pub record Hold : Type 0 where
   -- by shard, then by server: the state of the cell to which there is a right
   pub cells : ℕ → ℕ → Option PlainCell

@@ -14,8 +14,8 @@ lists_of a = record { cells = a.cells.items; crowns = a.crowns.items; room = a.r
 abbrev pub hold_model : Inside → HoldModel
 hold_model a = record { rights = lists_of a; capacity = a.capacity }
 
--- what every hold in memory keeps: no amount is 0, each is a u64, no list has more keys than the capacity, and each list can take
--- as many as that
+-- what every hold in memory keeps: no amount is 0, each is a u64, no list has more keys than the capacity, and each
+-- list can take as many as that
 pub record IsHold (a : Inside) : Type 0 where
   pub positive : IsPositive (lists_of a)
   pub bounded : AreU64 (lists_of a)

@@ -1,6 +1,7 @@
 -- Keys of rights: their keys in the lists, their order, and how often a key stands.
 -- `IsInOrder` and `first_double` are internal: you need not read them for the public contracts.
-use Rattle.std.specs.Prelude.{◌≡◌, ℕ, ◌≤◌, ◌<◌, ◌^◌, ◌++◌, Bool, true, false, nat_lt, count_by, filter, Contains, List, Option, codes, decimal}
+use Rattle.std.specs.Prelude.{◌≡◌, ℕ, ◌≤◌, ◌<◌, ◌^◌, ◌++◌, Bool, true, false, nat_lt, count_by, filter, Contains, List}
+use Rattle.std.specs.Prelude.{Option, codes, decimal}
 use Rattle.std.specs.List.Sorted.{IsPermutation}
 use Rattle.std.specs.List.{AllByRecursion}
 use Rattle.std.specs.Option.{option_map, option_or}

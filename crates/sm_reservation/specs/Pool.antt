@@ -1,6 +1,7 @@
 -- A pool: the rights that no grant has, by key.
 -- `IsStocked` is what a `Pool` keeps: you need not read it for the public contracts.
-use Rattle.std.specs.Prelude.{◌≡◌, ◌≤◌, ◌<◌, ◌-◌, ◌*◌, ◌&&◌, ℕ, List, length, Option, Some, None, nat_lt, ◌==◌, unwrap_or, if◌then◌else◌}
+use Rattle.std.specs.Prelude.{◌≡◌, ◌≤◌, ◌<◌, ◌-◌, ◌*◌, ◌&&◌, ℕ, List, length, Option, Some, None, nat_lt, ◌==◌}
+use Rattle.std.specs.Prelude.{unwrap_or, if◌then◌else◌}
 use Rattle.std.specs.Option.{option_map}
 use Rattle.sm_placement.specs.declared.lead.Lead.{Lead}
 use Rattle.sm_placement.specs.declared.lead.Lead.TheVariants.{Gone}
@@ -13,8 +14,8 @@ use Rattle.sm_reservation.specs.declared.right.PlainCell.{PlainCell}
 use Rattle.sm_reservation.specs.Hold.{Hold}
 use Rattle.sm_reservation.specs.Amounts.{Right, OfCell, OfCrown, OfRoom, OfSpare, plain_of}
 
--- A pool as contracts see it: how many shards and servers there are, and the rights that no grant has, in lists that are read by
--- the numbers of shards and servers.
+-- A pool as contracts see it: how many shards and servers there are, and the rights that no grant has, in lists that
+-- are read by the numbers of shards and servers.
 pub record PoolModel : Type 0 where
   -- how many shards and servers there are
   pub shards : ℕ

@@ -1,7 +1,8 @@
 -- Rows in the order of their keys, and the row at a key.
 -- `RowsModel`, `ClimbsFrom`, `Climbs`, `first_twin_from` and `first_twin` are internal: you need not read them for the
 -- public contracts.
-use Rattle.std.specs.Prelude.{◌≡◌, ℕ, suc, ◌<◌, Bool, true, false, ◌&&◌, ◌||◌, ◌==◌, nat_lt, Option, Some, None, List, [], ◌∷◌, if◌then◌else◌, find}
+use Rattle.std.specs.Prelude.{◌≡◌, ℕ, suc, ◌<◌, Bool, true, false, ◌&&◌, ◌||◌, ◌==◌, nat_lt, Option, Some, None, List}
+use Rattle.std.specs.Prelude.{[], ◌∷◌, if◌then◌else◌, find}
 
 -- two keys are the same; a key is a shard and a server, or one of them and 0
 abbrev pub same : ℕ × ℕ → ℕ × ℕ → Bool

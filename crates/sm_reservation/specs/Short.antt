@@ -32,8 +32,8 @@ abbrev pub first_answer : {X Y : Type 0} → (X → Option Y) → List X → Opt
 first_answer f [] = None
 first_answer f (x ∷ xs) = option_or (f x) (first_answer f xs)
 
--- The right that a hold is short of for a parcel, of its cell rights first, then of its crowns, its room and its spare replicas, in the order
--- of each list; None if it has all of them.
+-- The right that a hold is short of for a parcel, of its cell rights first, then of its crowns, its room and its spare
+-- replicas, in the order of each list; None if it has all of them.
 abbrev pub first_short : Hold → Rights → Option Short
 first_short h p =
     option_or

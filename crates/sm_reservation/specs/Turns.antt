@@ -6,7 +6,8 @@ use Rattle.sm_reservation.specs.declared.right.CellRight.{CellRight}
 use Rattle.sm_reservation.specs.declared.right.Crown.{Crown}
 use Rattle.sm_reservation.specs.declared.right.Room.{Room}
 use Rattle.sm_reservation.specs.declared.right.Spare.{Spare}
-use Rattle.sm_reservation.specs.Hold.{Hold, with_cell, with_crown, without_crown, pay_room, get_room, pay_spare, get_spare}
+use Rattle.sm_reservation.specs.Hold.{Hold, with_cell, with_crown, without_crown, pay_room, get_room, pay_spare}
+use Rattle.sm_reservation.specs.Hold.{get_spare}
 
 -- ---- one right taken out
 

@@ -46,25 +46,29 @@ pub record Hop (C : Type 0) : Type 0 where
   pub caller : C
 
 -- the hop is the one that is to be made
-abbrev pub IsHop : {C : Type 0} → (C → ℕ → Entry → C → Type 0) → (C → ℕ → ℕ → Answer → C → Type 0) → (C → Ticket → Answer → C → Type 0) → ℕ → Next → C → Hop C → Type 0
+abbrev pub IsHop : {C : Type 0} → (C → ℕ → Entry → C → Type 0) → (C → ℕ → ℕ → Answer → C → Type 0)
+    → (C → Ticket → Answer → C → Type 0) → ℕ → Next → C → Hop C → Type 0
 IsHop looked arrived passed_on shard Look old hop = IsSent looked arrived shard old hop.said hop.caller
 IsHop looked arrived passed_on shard (PassOn ticket) old hop = passed_on old ticket hop.said hop.caller
 IsHop looked arrived passed_on shard (End said) old hop = ⊥
 
 -- no further hop is made: none is to be made, no server is listed, or there were enough
 abbrev pub IsEnd : {C : Type 0} → (C → ℕ → Entry → C → Type 0) → ℕ → Next → C → Asked → C → Type 0
-IsEnd looked shard Look old said new = ((said ≡ asked.NotListed) × HasLooked looked shard old None new) ⊎ ((said ≡ asked.TooManyHops) × (new ≡ old))
+IsEnd looked shard Look old said new = ((said ≡ asked.NotListed) × HasLooked looked shard old None new)
+    ⊎ ((said ≡ asked.TooManyHops) × (new ≡ old))
 IsEnd looked shard (PassOn ticket) old said new = (said ≡ asked.TooManyHops) × (new ≡ old)
 IsEnd looked shard (End end) old said new = (said ≡ end) × (new ≡ old)
 
 -- from here these hops are made, each as the answer before it says, and then it ends so
-abbrev pub LeadsTo : {C : Type 0} → (C → ℕ → Entry → C → Type 0) → (C → ℕ → ℕ → Answer → C → Type 0) → (C → Ticket → Answer → C → Type 0) → ℕ → Next → C → List (Hop C) → Asked → C → Type 0
+abbrev pub LeadsTo : {C : Type 0} → (C → ℕ → Entry → C → Type 0) → (C → ℕ → ℕ → Answer → C → Type 0)
+    → (C → Ticket → Answer → C → Type 0) → ℕ → Next → C → List (Hop C) → Asked → C → Type 0
 LeadsTo looked arrived passed_on shard next old [] said new = IsEnd looked shard next old said new
 LeadsTo looked arrived passed_on shard next old (hop ∷ hops) said new =
-    IsHop looked arrived passed_on shard next old hop × LeadsTo looked arrived passed_on shard (after_answer hop.said) hop.caller hops said new
+    IsHop looked arrived passed_on shard next old hop
+    × LeadsTo looked arrived passed_on shard (after_answer hop.said) hop.caller hops said new
 
--- An ask for a shard: it begins with a look and makes at most MOST_HOPS hops. TooManyHops comes only after that many, and NotListed,
--- which a look finds, after fewer.
+-- An ask for a shard: it begins with a look and makes at most MOST_HOPS hops. TooManyHops comes only after that many,
+-- and NotListed, which a look finds, after fewer.
 pub record HasAsked {C : Type 0} (looked : C → ℕ → Entry → C → Type 0) (arrived : C → ℕ → ℕ → Answer → C → Type 0) (passed_on : C → Ticket → Answer → C → Type 0) (shard : ℕ) (old : C) (said : Asked) (new : C) : Type 0 where
   pub hops : List (Hop C)
   pub few : length hops ≤ MOST_HOPS

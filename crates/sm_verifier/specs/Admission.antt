@@ -47,7 +47,8 @@ IsTrueAt c p streams i key = IsIn (declared streams i) (true_rights c p) key
 
 -- what a stream declares at a key is in the pool, and no earlier stream declares that key
 abbrev pub IsFreeAt : Hold → List StreamModel → ℕ → Key → Type 0
-IsFreeAt pool streams i key = Has (declared streams i) key → Agree (declared streams i) pool key × ((j : ℕ) → j < i → ¬ Has (declared streams j) key)
+IsFreeAt pool streams i key = Has (declared streams i) key
+    → Agree (declared streams i) pool key × ((j : ℕ) → j < i → ¬ Has (declared streams j) key)
 
 -- ---- room, spare replicas and servers
 
@@ -69,7 +70,8 @@ HasDeclaredSpare pool streams s = declared_spare streams s ≤ pool.spare s
 
 -- an instruction mentions the server
 abbrev pub IsMentioned : List StreamModel → ℕ → Type 0
-IsMentioned streams v = (stream : StreamModel) × (i : Instr) × Contains streams stream × Contains stream.code i × Mentions (names_of i) v
+IsMentioned streams v = (stream : StreamModel) × (i : Instr) × Contains streams stream × Contains stream.code i
+    × Mentions (names_of i) v
 
 -- a server that is mentioned is up
 abbrev pub IsUpWhereMentioned : Place → List StreamModel → ℕ → Type 0
@@ -81,7 +83,8 @@ IsUpWhereMentioned p streams v = IsMentioned streams v → p.down v ≡ false
 abbrev pub AreTrue : Sizes → Place → List StreamModel → Type 0
 AreTrue c p streams = (i : ℕ) (key : Key) → IsTrueAt c p streams i key
 
--- each cell right and each crown that a stream declares is in the pool in just that state, and no earlier stream declares its key
+-- each cell right and each crown that a stream declares is in the pool in just that state, and no earlier stream
+-- declares its key
 abbrev pub AreFree : Hold → List StreamModel → Type 0
 AreFree pool streams = (i : ℕ) (key : Key) → IsFreeAt pool streams i key
 

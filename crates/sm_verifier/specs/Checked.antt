@@ -11,8 +11,8 @@ use Rattle.sm_verifier.specs.Peak.{IsPeak}
 use Rattle.sm_verifier.specs.Order.{PlanStep, IsOrder}
 use Rattle.sm_verifier.specs.Plan.{IsSound}
 
--- A checked plan: the configuration and the plan, an order of its steps, and for each stream what it holds at its end and
--- the most keys that one list of its hold has.
+-- A checked plan: the configuration and the plan, an order of its steps, and for each stream what it holds at its end
+-- and the most keys that one list of its hold has.
 pub record CheckedModel : Type 0 where
   pub setup : Setup
   pub plan : PlanModel
@@ -20,7 +20,8 @@ pub record CheckedModel : Type 0 where
   pub finals : List Rights
   pub peaks : List ℕ
 
--- the checked plan of this configuration and this plan, with an order of its steps, and its streams' rights at the end and peaks
+-- the checked plan of this configuration and this plan, with an order of its steps, and its streams' rights at the end
+-- and peaks
 abbrev pub checked_model : Setup → PlanModel → List PlanStep → List Rights → List ℕ → CheckedModel
 checked_model setup plan order finals peaks = record { setup = setup; plan = plan; order = order; finals = finals; peaks = peaks }
 

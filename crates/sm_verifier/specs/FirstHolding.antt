@@ -1,5 +1,6 @@
 -- The search for what holds a plan up: the rules in their order, each over all streams, servers or shards.
-use Rattle.std.specs.Prelude.{◌≡◌, ◌↔◌, ℕ, Bool, nat_le, Option, Some, None, List, length, take, slice_index_or, option_map, if◌then◌else◌}
+use Rattle.std.specs.Prelude.{◌≡◌, ◌↔◌, ℕ, Bool, nat_le, Option, Some, None, List, length, take, slice_index_or}
+use Rattle.std.specs.Prelude.{option_map, if◌then◌else◌}
 use Rattle.std.specs.Option.{option_or}
 use Rattle.sm_placement.specs.Sums.{first_from}
 use Rattle.sm_placement.specs.Setup.{Sizes}
@@ -62,4 +63,5 @@ pub record DecidesHolding (c : Sizes) (p : Place) (pool : Hold) (plan : PlanMode
 
 -- so it is for each plan of the configuration whose parcels are in order
 abbrev pub FindsHolding : Type 0
-FindsHolding = (c : Sizes) (p : Place) (pool : Hold) (plan : PlanModel) → HasOrderedParcels plan → IsKnownPlan c.shards c.servers plan → DecidesHolding c p pool plan
+FindsHolding = (c : Sizes) (p : Place) (pool : Hold) (plan : PlanModel) → HasOrderedParcels plan
+    → IsKnownPlan c.shards c.servers plan → DecidesHolding c p pool plan

@@ -1,5 +1,7 @@
--- Orders of a plan's steps: lists in which each stream goes its own way, and each wait stands behind a post of its signal.
-use Rattle.std.specs.Prelude.{◌≡◌, ◌≤◌, ◌<◌, ◌==◌, ◌++◌, ℕ, suc, min, List, ◌∷◌, length, map, filter, All, Contains, Some, slice_get, slice_index_or}
+-- Orders of a plan's steps: lists in which each stream goes its own way, and each wait stands behind a post of its
+-- signal.
+use Rattle.std.specs.Prelude.{◌≡◌, ◌≤◌, ◌<◌, ◌==◌, ◌++◌, ℕ, suc, min, List, ◌∷◌, length, map, filter, All, Contains}
+use Rattle.std.specs.Prelude.{Some, slice_get, slice_index_or}
 use Rattle.std.specs.List.{range_with_len}
 use Rattle.sm_plan_code.specs.declared.instruction.Instr.{Instr}
 use Rattle.sm_plan_code.specs.declared.instruction.Instr.TheVariants.{Signal, Wait}
@@ -21,15 +23,16 @@ positions_of i steps = map (λ step. step.1) (filter (λ step. step.0 == i) step
 
 -- one of these steps posts the signal
 abbrev pub IsPosted : PlanModel → ℕ → List PlanStep → Type 0
-IsPosted plan k steps = (step : PlanStep) × Contains steps step × (slice_get (code_at plan step.0) step.1 ≡ Some (Signal k))
+IsPosted plan k steps = (step : PlanStep) × Contains steps step
+    × (slice_get (code_at plan step.0) step.1 ≡ Some (Signal k))
 
 -- each wait stands behind a post of its signal
 abbrev pub ArePostsFirst : PlanModel → List PlanStep → Type 0
 ArePostsFirst plan steps = (before after : List PlanStep) (step : PlanStep) (k : ℕ) →
     steps ≡ before ++ step ∷ after → slice_get (code_at plan step.0) step.1 ≡ Some (Wait k) → IsPosted plan k before
 
--- A list of steps that takes each stream as far as `to` says: that number of its first steps, each once and in their order. A
--- stream that has finished is one step further than its code is long.
+-- A list of steps that takes each stream as far as `to` says: that number of its first steps, each once and in their
+-- order. A stream that has finished is one step further than its code is long.
 pub record IsRun (plan : PlanModel) (steps : List PlanStep) (to : ℕ → ℕ) : Type 0 where
   pub known : All (λ step. step.0 < length plan.streams) steps
   pub within : (i : ℕ) → i < length plan.streams → to i ≤ suc (length (code_at plan i))
@@ -47,7 +50,8 @@ HasOrder plan = (steps : List PlanStep) × IsOrder plan steps
 -- some list takes the streams so far, and none takes any stream further
 pub record IsFarthest (plan : PlanModel) (to : ℕ → ℕ) : Type 0 where
   pub reached : (steps : List PlanStep) × IsRun plan steps to
-  pub most : (steps : List PlanStep) (other : ℕ → ℕ) → IsRun plan steps other → (i : ℕ) → i < length plan.streams → other i ≤ to i
+  pub most : (steps : List PlanStep) (other : ℕ → ℕ) → IsRun plan steps other → (i : ℕ) → i < length plan.streams
+      → other i ≤ to i
 
 -- The plan has no order, and these are the greatest positions that its streams get to. One that has ended stands at the
 -- length of its code.

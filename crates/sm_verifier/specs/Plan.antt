@@ -84,13 +84,14 @@ pub record IsFirstBad (c : Sizes) (plan : PlanModel) (i at : ℕ) (why : Why) : 
   pub lower : AreGood c plan i
   pub here : IsFirstBreak (stream_at c plan i) at why
 
--- The fault is the plan's first one: the budget comes before the signals, these before the streams, and these before the
--- order. If memory was short, nothing is said.
+-- The fault is the plan's first one: the budget comes before the signals, these before the streams, and these before
+-- the order. If memory was short, nothing is said.
 abbrev pub IsFault : Sizes → PlanModel → Fault → Type 0
 IsFault c plan NoMemory = Unit {0}
 IsFault c plan (Budget total most) = IsOverBudget plan total most
 IsFault c plan (SignalNotOnce k posted awaited) = KeepsBudget plan × IsFirstMisused plan k posted awaited
-IsFault c plan (Stream i at why) = KeepsBudget plan × AreUsedOnce plan (length plan.signals) × IsFirstBad c plan i at why
+IsFault c plan (Stream i at why) = KeepsBudget plan × AreUsedOnce plan (length plan.signals)
+    × IsFirstBad c plan i at why
 IsFault c plan (Stuck positions) =
     KeepsBudget plan
     × AreUsedOnce plan (length plan.signals)

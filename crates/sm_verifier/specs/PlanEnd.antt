@@ -1,5 +1,6 @@
 -- The end of a plan: what its streams hold at their ends sets a placement.
-use Rattle.std.specs.Prelude.{ℕ, zero, suc, ◌+◌, ◌==◌, Bool, false, Option, Some, None, List, [], ◌∷◌, length, count_by, sum_by, if◌then◌else◌}
+use Rattle.std.specs.Prelude.{ℕ, zero, suc, ◌+◌, ◌==◌, Bool, false, Option, Some, None, List, [], ◌∷◌, length, count_by}
+use Rattle.std.specs.Prelude.{sum_by, if◌then◌else◌}
 use Rattle.sm_server.specs.declared.call.Cell.{Cell}
 use Rattle.sm_server.specs.declared.call.Cell.TheVariants as cell
 use Rattle.sm_placement.specs.declared.lead.Lead.{Lead}
@@ -52,8 +53,8 @@ is_publication s _ = false
 abbrev pub publications : PlanModel → ℕ → ℕ
 publications plan s = sum_by (λ stream. count_by (is_publication s) stream.code) plan.streams
 
--- The end of a plan: the cells, leads and listed servers are those of what its streams hold at their ends, and each version
--- has risen by one with each change of its entry.
+-- The end of a plan: the cells, leads and listed servers are those of what its streams hold at their ends, and each
+-- version has risen by one with each change of its entry.
 abbrev pub end_of : Sizes → PlanModel → Place → Place
 end_of c plan p = record (set_by_streams c plan (length plan.streams) p) { version = λ s. p.version s + publications plan s }
 

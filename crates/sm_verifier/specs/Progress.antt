@@ -20,4 +20,5 @@ pub record CanMakeNext (plan : PlanModel) (to : ℕ → ℕ) (i : ℕ) : Type 0 
 -- in a sound plan, wherever the streams stand, some stream can make its next step unless all have finished
 abbrev pub SomeGoesOn : Type 0
 SomeGoesOn = (c : Sizes) (plan : PlanModel) (to : ℕ → ℕ) (j : ℕ) →
-    KnowsSignals plan → IsSound c plan → j < length plan.streams → to j ≤ length (code_at plan j) → (i : ℕ) × CanMakeNext plan to i
+    KnowsSignals plan → IsSound c plan → j < length plan.streams → to j ≤ length (code_at plan j)
+    → (i : ℕ) × CanMakeNext plan to i

@@ -6,7 +6,8 @@ use Rattle.sm_reservation.specs.Rights.{Rights, no_rights}
 use Rattle.sm_reservation.specs.Hold.{Hold}
 use Rattle.sm_reservation.specs.Capacity.{HoldModel, most_keys}
 use Rattle.sm_plan_code.specs.declared.instruction.Instr.{Instr}
-use Rattle.sm_plan_code.specs.declared.instruction.Instr.TheVariants.{PrepareAdd, PrepareDrop, Add, Drop, Change, Publish, Unlist, Signal, Wait}
+use Rattle.sm_plan_code.specs.declared.instruction.Instr.TheVariants.{PrepareAdd, PrepareDrop, Add, Drop, Change}
+use Rattle.sm_plan_code.specs.declared.instruction.Instr.TheVariants.{Publish, Unlist, Signal, Wait}
 use Rattle.sm_plan_code.specs.declared.instruction.Why.{Why}
 use Rattle.sm_verifier.specs.declared.steps.StepFault.{StepFault}
 use Rattle.sm_verifier.specs.declared.steps.StepFault.TheVariants.{NoMemory, Refused}

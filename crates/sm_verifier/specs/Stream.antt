@@ -1,5 +1,6 @@
 -- Streams: which of them are good, and where and why another one breaks off.
-use Rattle.std.specs.Prelude.{◌≡◌, ◌≤◌, ◌<◌, ℕ, true, ◌&&◌, nat_le, Option, Some, None, Result, Err, IfSome, IsOk, List, length, take, count_by, slice_get, slice_index_or, [], if◌then◌else◌}
+use Rattle.std.specs.Prelude.{◌≡◌, ◌≤◌, ◌<◌, ℕ, true, ◌&&◌, nat_le, Option, Some, None, Result, Err, IfSome, IsOk, List}
+use Rattle.std.specs.Prelude.{length, take, count_by, slice_get, slice_index_or, [], if◌then◌else◌}
 use Rattle.sm_placement.specs.Lead.{is_at_rest}
 use Rattle.sm_placement.specs.Setup.{Sizes}
 use Rattle.sm_reservation.specs.Rights.{Rights, no_rights}
@@ -22,7 +23,8 @@ pub record Course : Type 0 where
   pub holds : Rights
   pub code : List Instr
 
--- a stream to be followed, of these parts: the configuration's numbers, signals, budget, rights at the start and instructions
+-- a stream to be followed, of these parts: the configuration's numbers, signals, budget, rights at the start and
+-- instructions
 abbrev pub course : Sizes → List Rights → ℕ → Rights → List Instr → Course
 course c signals budget holds code = record { sizes = c; signals = signals; budget = budget; holds = holds; code = code }
 

@@ -26,4 +26,5 @@ GoodStreamsGoOn = (s : Course) (p : ℕ) (i : Instr) → IsGood s → slice_get 
 -- each instruction of a plan of the configuration can be made if the servers that the plan mentions are up
 abbrev pub InstrsAreReachable : Type 0
 InstrsAreReachable = (c : Sizes) (p : Place) (plan : PlanModel) (i at : ℕ) (instr : Instr) →
-    IsKnownPlan c.shards c.servers plan → AreUp p plan.streams → slice_get (code_at plan i) at ≡ Some instr → IsReachable c p instr
+    IsKnownPlan c.shards c.servers plan → AreUp p plan.streams → slice_get (code_at plan i) at ≡ Some instr
+    → IsReachable c p instr

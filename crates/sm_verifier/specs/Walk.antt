@@ -1,6 +1,7 @@
 -- Walks through a plan: how far each stream has come by the steps made, and which streams can go on.
 -- Internal definitions: you need not read them for the public contracts.
-use Rattle.std.specs.Prelude.{◌≡◌, ◌≤◌, ◌<◌, ◌+◌, ◌-◌, ◌↔◌, ℕ, min, Bool, false, List, length, sum_by, Some, slice_get, slice_index_or, MatchBool, IsTrue, ◌⊎◌}
+use Rattle.std.specs.Prelude.{◌≡◌, ◌≤◌, ◌<◌, ◌+◌, ◌-◌, ◌↔◌, ℕ, min, Bool, false, List, length, sum_by, Some, slice_get}
+use Rattle.std.specs.Prelude.{slice_index_or, MatchBool, IsTrue, ◌⊎◌}
 use Rattle.sm_plan_code.specs.declared.instruction.Instr.{Instr}
 use Rattle.sm_plan_code.specs.declared.instruction.Instr.TheVariants.{Signal, Wait}
 use Rattle.sm_plan_code.specs.Plan.{PlanModel}
@@ -22,7 +23,8 @@ pub record IsWalk (plan : PlanModel) (walk : Walk) : Type 0 where
   pub streams : length walk.positions.items ≡ length plan.streams
   pub signals : length walk.posted.items ≡ length plan.signals
   pub run : IsRun plan walk.steps.items (steps_made walk)
-  pub posted : (k : ℕ) → k < length plan.signals → IsTrue (slice_index_or walk.posted.items k false) ↔ IsPosted plan k walk.steps.items
+  pub posted : (k : ℕ) → k < length plan.signals
+      → IsTrue (slice_index_or walk.posted.items k false) ↔ IsPosted plan k walk.steps.items
 
 -- a stream can make its next step
 abbrev pub CanGo : PlanModel → Walk → ℕ → Type 0
@@ -34,7 +36,8 @@ AreStuck plan walk count = (i : ℕ) → i < count → ¬ CanGo plan walk i
 
 -- beside the flags that were set, those of the signal that the instruction posts are set
 abbrev pub IsMarked : Instr → List Bool → List Bool → Type 0
-IsMarked instr old new = (k : ℕ) → IsTrue (slice_index_or new k false) ↔ (IsTrue (slice_index_or old k false) ⊎ (instr ≡ Signal k))
+IsMarked instr old new = (k : ℕ)
+    → IsTrue (slice_index_or new k false) ↔ (IsTrue (slice_index_or old k false) ⊎ (instr ≡ Signal k))
 
 -- how many steps are left at most: a stream has no more instructions than a plan allows, and its end
 abbrev pub left : Walk → ℕ
@@ -55,4 +58,5 @@ HaveEnded plan positions = (i : ℕ) → i < length plan.streams → length (cod
 -- where each stream of the plan stops: at its position, or at its code's length if it has finished
 pub record AreStops (plan : PlanModel) (positions stops : List ℕ) : Type 0 where
   pub count : length stops ≡ length plan.streams
-  pub each : (i : ℕ) → i < length plan.streams → slice_get stops i ≡ Some (min (slice_index_or positions i 0) (length (code_at plan i)))
+  pub each : (i : ℕ) → i < length plan.streams
+      → slice_get stops i ≡ Some (min (slice_index_or positions i 0) (length (code_at plan i)))

@@ -31,4 +31,5 @@ AdmittedIsWithin = (c : Sizes) (p : Place) (pool : Hold) (plan : PlanModel) →
 -- at a pool that is true of the placement, what is within the pool is admitted if the servers are up
 abbrev pub WithinIsAdmitted : Type 0
 WithinIsAdmitted = (c : Sizes) (p : Place) (leads : ℕ → Lead) (numbers : ℕ → ℕ) (pool : Hold) (plan : PlanModel) →
-    IsScene c p leads numbers pool → IsKnownPlan c.shards c.servers plan → AreWithin pool plan.streams → AreUp p plan.streams → IsAdmitted c p pool plan
+    IsScene c p leads numbers pool → IsKnownPlan c.shards c.servers plan → AreWithin pool plan.streams
+    → AreUp p plan.streams → IsAdmitted c p pool plan

@@ -10,7 +10,9 @@ use Rattle.sm_plan_text.specs.declared.member.Member.TheVariants as inner
 use Rattle.sm_plan_text.specs.Faults.{number_of}
 use Rattle.sm_plan_text.specs.Members.{text_of}
 use Rattle.smpland_lines.specs.declared.bad_line.BadLine.{BadLine}
-use Rattle.smpland_lines.specs.declared.bad_line.BadLine.TheVariants.{NotJson, TooLong, Malformed, UnknownMember, Missing, Shape, UnknownName, TooMany, Number, Within}
+use Rattle.smpland_lines.specs.declared.bad_line.BadLine.TheVariants.{NotJson, TooLong, Malformed, UnknownMember}
+use Rattle.smpland_lines.specs.declared.bad_line.BadLine.TheVariants.{Missing, Shape, UnknownName, TooMany, Number}
+use Rattle.smpland_lines.specs.declared.bad_line.BadLine.TheVariants.{Within}
 use Rattle.smpland_lines.specs.declared.command_member.CommandMember.{CommandMember}
 use Rattle.smpland_lines.specs.declared.command_member.CommandMember.TheVariants.{Command, Do}
 use Rattle.smpland_lines.specs.declared.line_part.LinePart.{LinePart}

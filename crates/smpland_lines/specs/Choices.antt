@@ -47,6 +47,7 @@ pub record IsChoiceSaid (config : Setup) (row : Data) (choice : ShardChoice) : T
 -- the choices are those that rows say, one for each, in their order
 abbrev pub AreChoicesSaid : Setup → Items → List ShardChoice → Type 0
 AreChoicesSaid config no_items [] = Unit {0}
-AreChoicesSaid config (item row rows) (choice ∷ choices) = IsChoiceSaid config row choice × AreChoicesSaid config rows choices
+AreChoicesSaid config (item row rows) (choice ∷ choices) = IsChoiceSaid config row choice
+    × AreChoicesSaid config rows choices
 AreChoicesSaid config no_items (choice ∷ choices) = ⊥
 AreChoicesSaid config (item row rows) [] = ⊥

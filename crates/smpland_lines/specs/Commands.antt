@@ -45,7 +45,8 @@ abbrev pub IsKnownCommand : Option (Bor Setup) → LineCommand → Type 0
 IsKnownCommand _ (line.Open _ journal _) = journal ≢ 0
 IsKnownCommand _ (line.Driver (driver.Answered _ _ number)) = number ≤ MOST_EXACT
 IsKnownCommand config (line.Driver (driver.Approve server _)) = IsServerOf config server.now
-IsKnownCommand _ (line.Driver (driver.Restarted permit base)) = (permit ≤ MOST_EXACT) × IfSome base (λ number. number ≤ MOST_EXACT)
+IsKnownCommand _ (line.Driver (driver.Restarted permit base)) = (permit ≤ MOST_EXACT)
+    × IfSome base (λ number. number ≤ MOST_EXACT)
 IsKnownCommand config (line.Driver (driver.Restore server nonce)) = IsServerOf config server.now × (nonce ≢ 0)
 IsKnownCommand config (line.Driver (driver.Copied shard journal fence _)) =
     IsShardOf config shard.now × (journal ≢ 0) × (fence ≤ MOST_EXACT)

@@ -1,6 +1,7 @@
 -- The ids by which clients tell their lines.
 -- `value_fault` and `id_fault` are internal: you need not read them for the public contracts.
-use Rattle.std.specs.Prelude.{◌&&◌, ℕ, Bool, List, [], Option, Some, None, codes, if◌then◌else◌, length, nat_le, option_and_then}
+use Rattle.std.specs.Prelude.{◌&&◌, ℕ, Bool, List, [], Option, Some, None, codes, if◌then◌else◌, length, nat_le}
+use Rattle.std.specs.Prelude.{option_and_then}
 use Rattle.std.specs.List.{list_all}
 use Rattle.std.specs.Option.{option_map_or}
 use Rattle.json.specs.Token.{Token}
@@ -28,7 +29,8 @@ told_id _ = []
 abbrev pub line_id : Data → List Token
 line_id d = option_map_or told_id (value_at at.Id d) []
 
--- what is wrong with a value as an id: a text that is no label, a number that is no whole one up to the limit, or neither
+-- what is wrong with a value as an id: a text that is no label, a number that is no whole one up to the limit, or
+-- neither
 abbrev pub value_fault : Data → Option BadLine
 value_fault (string text) = if is_label text then None else Some (Shape Line at.Id)
 value_fault (number (unsigned n)) = if nat_le n MOST_EXACT then None else Some (Number Line at.Id)

@@ -1,6 +1,7 @@
 -- Commands as lines say them: a line is an object, whose member `do` has the command's word, and whose other members have what it asks for.
 -- `TellsFound` and `OfWord` are internal: you need not read them for the public contracts.
-use Rattle.std.specs.Prelude.{◌≡◌, ℕ, Bool, List, [], ◌∷◌, bytes_eq, codes, Option, Some, None, Result, IfOk, option_map}
+use Rattle.std.specs.Prelude.{◌≡◌, ℕ, Bool, List, [], ◌∷◌, bytes_eq, codes, Option, Some, None, Result, IfOk}
+use Rattle.std.specs.Prelude.{option_map}
 use Rattle.std.specs.Borrow.{Bor}
 use Rattle.std.specs.List.{list_any}
 use Rattle.serde_json.specs.Data.{Data, Items, null}
@@ -105,21 +106,28 @@ IsOfOrder d plan stream number =
 -- the members of a command; a base or an epoch that is missing or null is none
 abbrev pub HasMembers : Data → LineCommand → Type 0
 HasMembers d (line.Open document journal epoch) =
-    (value_at at.Document d ≡ Some (view document.now)) × (bits_at at.Journal d ≡ Some journal) × (whole_at at.Epoch d ≡ Some epoch)
-HasMembers d (line.Driver (driver.Begin plan name)) = (value_at at.Plan d ≡ Some (view plan.now)) × (text_at at.Name d ≡ Some name.now)
+    (value_at at.Document d ≡ Some (view document.now)) × (bits_at at.Journal d ≡ Some journal)
+    × (whole_at at.Epoch d ≡ Some epoch)
+HasMembers d (line.Driver (driver.Begin plan name)) = (value_at at.Plan d ≡ Some (view plan.now))
+    × (text_at at.Name d ≡ Some name.now)
 HasMembers d (line.Driver (driver.Answered plan stream number)) = IsOfOrder d plan stream number
-HasMembers d (line.Driver (driver.Approve server by)) = (text_at at.Server d ≡ Some server.now) × (text_at at.By d ≡ Some by.now)
-HasMembers d (line.Driver (driver.Restarted permit base)) = (whole_at at.Permit d ≡ Some permit) × (whole_at at.Base d ≡ base)
-HasMembers d (line.Driver (driver.Restore server nonce)) = (text_at at.Server d ≡ Some server.now) × (bits_at at.Nonce d ≡ Some nonce)
+HasMembers d (line.Driver (driver.Approve server by)) = (text_at at.Server d ≡ Some server.now)
+    × (text_at at.By d ≡ Some by.now)
+HasMembers d (line.Driver (driver.Restarted permit base)) = (whole_at at.Permit d ≡ Some permit)
+    × (whole_at at.Base d ≡ base)
+HasMembers d (line.Driver (driver.Restore server nonce)) = (text_at at.Server d ≡ Some server.now)
+    × (bits_at at.Nonce d ≡ Some nonce)
 HasMembers d (line.Driver (driver.Copied shard journal fence copies)) =
     (text_at at.Shard d ≡ Some shard.now) × (bits_at at.Journal d ≡ Some journal) × (whole_at at.Fence d ≡ Some fence)
     × (whole_at at.Copies d ≡ Some copies)
 HasMembers d (line.Reopening (reopening.Reopen document lost journal epoch)) =
     (value_at at.Document d ≡ Some (view document.now)) × (entries_at at.Lost d ≡ items_view lost.now)
     × (bits_at at.Journal d ≡ journal) × (whole_at at.Epoch d ≡ epoch)
-HasMembers d (line.Reopening (reopening.Fenced server base told)) = IsFrom d server × (whole_at at.Base d ≡ Some base) × HasToldMembers d told
+HasMembers d (line.Reopening (reopening.Fenced server base told)) = IsFrom d server × (whole_at at.Base d ≡ Some base)
+    × HasToldMembers d told
 HasMembers d (line.Reopening (reopening.Confirm base cells lost)) =
-    (whole_at at.Base d ≡ Some base) × (entries_at at.Cells d ≡ items_view cells.now) × (entries_at at.Lost d ≡ items_view lost.now)
+    (whole_at at.Base d ≡ Some base) × (entries_at at.Cells d ≡ items_view cells.now)
+    × (entries_at at.Lost d ≡ items_view lost.now)
 HasMembers d (line.Reopening (reopening.Settled server base)) = IsFrom d server × (whole_at at.Base d ≡ Some base)
 HasMembers d (line.Question (question.InForce (plans.Check plan))) = value_at at.Plan d ≡ Some (view plan.now)
 HasMembers d (line.Question (question.InForce (plans.Moves moves))) = list_at at.Moves d ≡ Some (items_view moves.now)
@@ -127,7 +135,8 @@ HasMembers d (line.Question (question.InForce (plans.Drain server))) = text_at a
 HasMembers d (line.Question (question.State of)) = HasStateMembers d of
 HasMembers d (line.Question (question.Since place)) = whole_at at.Place d ≡ Some place
 HasMembers d (line.Question (question.InForce (plans.Audit server place slots))) =
-    (text_at at.Server d ≡ Some server.now) × (whole_at at.Place d ≡ Some place) × (list_at at.Slots d ≡ Some (items_view slots.now))
+    (text_at at.Server d ≡ Some server.now) × (whole_at at.Place d ≡ Some place)
+    × (list_at at.Slots d ≡ Some (items_view slots.now))
 HasMembers d (line.Question (question.InForce (plans.Failed plan stream number answer))) = IsOfOrder d plan stream number × (text_at at.Answer d ≡ Some (failed_word answer))
 HasMembers d _ = Unit {0}
 

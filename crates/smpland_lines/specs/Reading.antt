@@ -1,7 +1,8 @@
 -- Facts that are known once a member was read, and which members may stand in an object.
 -- `is_clean`, `is_needed`, `row_member`, `object_data`, `ReadsOn`, `IsRead`, `IsValueOf`, `is_name_of`, `is_whole_line`, `may_stand`, `first_unknown` and
 -- `IsObjectFault` are internal: you need not read them for the public contracts.
-use Rattle.std.specs.Prelude.{◌≡◌, ◌&&◌, ◌||◌, ℕ, List, [], ◌∷◌, Bool, Option, true, false, find, is_none, not, option_map}
+use Rattle.std.specs.Prelude.{◌≡◌, ◌&&◌, ◌||◌, ℕ, List, [], ◌∷◌, Bool, Option, true, false, find, is_none, not}
+use Rattle.std.specs.Prelude.{option_map}
 use Rattle.std.specs.Borrow.{Bor}
 use Rattle.std.specs.List.{list_any}
 use Rattle.std.specs.Str.{bytes_eq}

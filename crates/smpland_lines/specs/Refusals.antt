@@ -6,7 +6,8 @@ use Rattle.smpland_lines.specs.Members.{list_member, name_member, number_member,
 use Rattle.sm_task_controller.specs.declared.decision.Denied.{Denied}
 use Rattle.sm_task_controller.specs.declared.decision.Denied.TheVariants as denied
 use Rattle.sm_refusals.specs.declared.field.Field.{Field}
-use Rattle.sm_refusals.specs.Refusals.{FieldModel, MapOwner, Name, Number, Numbers, Word, RefusalModel, field_of, field_words, refusal_words}
+use Rattle.sm_refusals.specs.Refusals.{FieldModel, MapOwner, Name, Number, Numbers, Word, RefusalModel, field_of}
+use Rattle.sm_refusals.specs.Refusals.{field_words, refusal_words}
 
 -- a number in a list of them
 abbrev pub number_item : ℕ → List Token
@@ -34,7 +35,8 @@ refusal_number_members None = []
 
 -- the members of a refusal
 abbrev pub refusal_members : RefusedLine → List Token
-refusal_members r = text_member (codes "kind") r.kind ++ refusal_number_members r.number ++ r.fields ++ text_member (codes "text") r.text
+refusal_members r = text_member (codes "kind") r.kind ++ refusal_number_members r.number ++ r.fields
+    ++ text_member (codes "text") r.text
 
 -- the same as a member
 abbrev pub refused_member : RefusedLine → List Token
@@ -69,4 +71,5 @@ TellsRefused before after = (r : RefusedLine) × (after ≡ before ++ refused_me
 
 -- the members of what is wrong with a line: its kind, where it is, and the same in words
 abbrev pub bad_members : List ℕ → List ℕ → List ℕ → List Token
-bad_members kind at text = text_member (codes "kind") kind ++ text_member (codes "at") at ++ text_member (codes "text") text
+bad_members kind at text = text_member (codes "kind") kind ++ text_member (codes "at") at
+    ++ text_member (codes "text") text

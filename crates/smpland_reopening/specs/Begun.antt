@@ -11,7 +11,8 @@ use Rattle.laws_network.specs.Reopening.{Reopen, Reopening, entered}
 use Rattle.sm_reopening.specs.declared.ongoing.OngoingReopening.{OngoingReopening}
 use Rattle.sm_reopening.specs.declared.party.Membership.{Membership}
 use Rattle.sm_reopening.specs.States.{is_left_out, no_copies, says_lost}
-use Rattle.sm_reopening.specs.Ongoing.{left_out_of, net_reopening, recorded_place, recorded_setup, shards_of, told_copies}
+use Rattle.sm_reopening.specs.Ongoing.{left_out_of, net_reopening, recorded_place, recorded_setup, shards_of}
+use Rattle.sm_reopening.specs.Ongoing.{told_copies}
 use Rattle.sm_reopening.specs.Proposal.{is_the}
 use Rattle.sm_driver.specs.Orders.{epoch_base}
 use Rattle.smpland_reopening.specs.declared.beginning.Begun.{Begun}
@@ -29,8 +30,8 @@ use Rattle.smpland_reopening.specs.Settled.{roles_within}
 abbrev pub members_under : Setup → Setup → List (List ℕ) → List Membership
 members_under numbering document lost = map (membership_at numbering document lost) (range_with_len 0 (length numbering.servers))
 
--- A reopening has begun under a document: names that had numbers keep them, each server that has one takes part, and those that were said to
--- be lost are lost.
+-- A reopening has begun under a document: names that had numbers keep them, each server that has one takes part, and
+-- those that were said to be lost are lost.
 pub record BeginsUnder (before : Reopening) (numbered document numbering : Setup) (lost : List (List ℕ)) (epoch : ℕ) (o : OngoingReopening) : Type 0 where
   pub reopening : net_reopening o ≡ entered (Reopen (epoch_base epoch) (length numbering.servers) (says_lost (members_under numbering document lost))) before
   pub left_out : left_out_of o ≡ is_left_out (members_under numbering document lost)
@@ -55,8 +56,8 @@ roles_by numbering shards servers cells s v =
 
 -- ---- what a reopening begins with
 
--- A reopening numbers what had numbers, and behind it what is new in its document. Names are apart, and those of the document have these numbers. The
--- roles are those of the document's cells.
+-- A reopening numbers what had numbers, and behind it what is new in its document. Names are apart, and those of the
+-- document have these numbers. The roles are those of the document's cells.
 pub record NumbersUnder (numbered : Setup) (r : ReopeningModel) : Type 0 where
   pub numbering : r.numbering ≡ numbered_under numbered r.document.config
   pub apart : IsSetup r.numbering

@@ -32,8 +32,8 @@ cell_fault _ = None
 abbrev pub fault_of_cells : Document → Option ReopenFault
 fault_of_cells document = option_and_then cell_fault (open_fault (sizes_of document.config) (opening_of (rows_of document)))
 
--- A document with this fault begins no reopening, whatever is recorded: its cells have one, or otherwise the first of its
--- servers that is said to be lost.
+-- A document with this fault begins no reopening, whatever is recorded: its cells have one, or otherwise the first of
+-- its servers that is said to be lost.
 abbrev pub document_fault : Document → List (List ℕ) → Option ReopenFault
 document_fault document lost = option_or (fault_of_cells document) (option_map reopen.LostServer (first_lost document.config lost))
 
@@ -44,7 +44,8 @@ abbrev pub refusal_by : OpenFault → ConfirmRefusal
 refusal_by opening.NoMemory = NoMemory
 refusal_by fault = Placement fault
 
--- As long as servers have shards that nobody knows a settlement is refused: for what stands against it otherwise, or for those shards alone.
+-- As long as servers have shards that nobody knows a settlement is refused: for what stands against it otherwise, or
+-- for those shards alone.
 abbrev pub IsRefusedWithUnknown : OngoingReopening → Settlement → ConfirmRefusal → Type 0
 IsRefusedWithUnknown o s (Cells fault) = IsFaultOf o s fault
 IsRefusedWithUnknown o s UnknownShard = MayConfirm o s

@@ -1,5 +1,6 @@
 -- The outcome of a reopening once its settlement is in force.
-use Rattle.std.specs.Prelude.{◌≡◌, ◌&&◌, ℕ, Bool, List, Option, None, Some, is_some, length, map, not, replicate, slice_get, true}
+use Rattle.std.specs.Prelude.{◌≡◌, ◌&&◌, ℕ, Bool, List, Option, None, Some, is_some, length, map, not, replicate}
+use Rattle.std.specs.Prelude.{slice_get, true}
 use Rattle.sm_placement.specs.Setup.{sizes_of}
 use Rattle.sm_placement.specs.Layout.{PlacementModel, place_of}
 use Rattle.sm_protocol.specs.State.{opened}
@@ -11,19 +12,22 @@ use Rattle.sm_driver.specs.Permits.{opening_permits, permit_of}
 use Rattle.smpland_reopening.specs.Eased.{IsEased}
 use Rattle.smpland_reopening.specs.Reopening.{ReopeningModel}
 
--- The driver was opened now, with the document's servers, shards and log, in its order, and with the cells that were settled for their numbers:
--- nothing has begun, no server was restored, and no copies were told. No floor is above the document's. Permits of servers that are down stay, and
--- those are carried over that are down and have told nothing.
+-- The driver was opened now, with the document's servers, shards and log, in its order, and with the cells that were
+-- settled for their numbers: nothing has begun, no server was restored, and no copies were told. No floor is above the
+-- document's. Permits of servers that are down stay, and those are carried over that are down and have told nothing.
 pub record IsInForce (r : ReopeningModel) (s : Settlement) (d : DriverModel) : Type 0 where
   pub state : record_of d ≡ opened (record_of d).sizes (record_of d).place r.document.log
   pub journal : d.journal ≡ r.journal
   pub epoch : d.epoch ≡ r.epoch
   pub fence : d.fence ≡ (net_reopening r.ongoing).base
   pub setup : IsEased r.document.config d.machine.placement.setup
-  pub cells : (k v i j : ℕ) → slice_get r.shards k ≡ Some i → slice_get r.servers v ≡ Some j → (record_of d).place.cells k v ≡ s.place.cells i j
+  pub cells : (k v i j : ℕ) → slice_get r.shards k ≡ Some i → slice_get r.servers v ≡ Some j
+      → (record_of d).place.cells k v ≡ s.place.cells i j
   pub down : (v j : ℕ) → slice_get r.servers v ≡ Some j → (record_of d).place.down v ≡ s.place.down j
-  pub permits : (v j permit : ℕ) → slice_get r.servers v ≡ Some j → permit_of r.permits j ≡ Some permit → s.place.down j ≡ true → permit_of d.permits v ≡ Some permit
-  pub carried : (v j : ℕ) → slice_get r.servers v ≡ Some j → was_carried d.carried v ≡ (not (is_some ((net_reopening r.ongoing).told (Server j))) && s.place.down j)
+  pub permits : (v j permit : ℕ) → slice_get r.servers v ≡ Some j → permit_of r.permits j ≡ Some permit
+      → s.place.down j ≡ true → permit_of d.permits v ≡ Some permit
+  pub carried : (v j : ℕ) → slice_get r.servers v ≡ Some j
+      → was_carried d.carried v ≡ (not (is_some ((net_reopening r.ongoing).told (Server j))) && s.place.down j)
   pub restores : d.restores ≡ replicate (length r.document.config.servers) None
   pub copies : d.copies ≡ replicate (length r.document.config.shards) 1
 

@@ -7,7 +7,7 @@ use Rattle.smpland_reopening.specs.Reopening.{ReopeningModel}
 abbrev pub kept_of : ReopeningModel → ℕ → ℕ
 kept_of r s = slice_index_or r.kept s 1
 
--- Those by which a reopening counts that replaces this one: the same; once a settlement was confirmed, a new primary may
--- have acknowledged alone.
+-- Those by which a reopening counts that replaces this one: the same; once a settlement was confirmed, a new primary
+-- may have acknowledged alone.
 abbrev pub kept_on : ReopeningModel → List ℕ
 kept_on r = if is_some (net_reopening r.ongoing).settlement then [] else r.kept

@@ -37,7 +37,8 @@ is_new_server numbered row = is_none (server_named numbered row.name)
 abbrev pub is_new_shard : Setup → ShardRow → Bool
 is_new_shard numbered row = is_none (shard_named numbered row.name)
 
--- All servers and shards that have numbers under a document: what had numbers, in their order, and behind it what is new in the document, in its order.
+-- All servers and shards that have numbers under a document: what had numbers, in their order, and behind it what is
+-- new in the document, in its order.
 abbrev pub numbered_under : Setup → Setup → Setup
 numbered_under numbered document = record {
   servers = map (server_as_documented document) numbered.servers ++ filter (is_new_server numbered) document.servers;

@@ -67,7 +67,7 @@ abbrev pub parties_or : List ToldParty → List ToldParty → List ToldParty
 parties_or [] others = others
 parties_or (p ∷ ps) others = p ∷ ps
 
--- The parties, in their order, that have to answer the fence before anything can be confirmed: those that are not carried over, or otherwise those
--- that would be primaries and are not recorded so.
+-- The parties, in their order, that have to answer the fence before anything can be confirmed: those that are not
+-- carried over, or otherwise those that would be primaries and are not recorded so.
 abbrev pub parties_waited_for : ReopeningModel → List ToldParty
 parties_waited_for r = parties_or (awaited_parties r) (silent_leaders r)

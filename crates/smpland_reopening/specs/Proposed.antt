@@ -1,4 +1,5 @@
--- A reopening's proposal: the replicas, the shards named as lost, the floors that are not met, and the servers that stay as recorded.
+-- A reopening's proposal: the replicas, the shards named as lost, the floors that are not met, and the servers that
+-- stay as recorded.
 use Rattle.std.specs.Prelude.{◌≡◌, ◌&&◌, ℕ, Bool, List, Option, is_some, length, map, nat_lt, not}
 use Rattle.std.specs.List.{filter, range_with_len}
 use Rattle.sm_server.specs.declared.call.Role.{Role}

@@ -41,7 +41,8 @@ pub record IsRenumbered (document : Setup) (shards servers : List ℕ) (s : Sett
   pub server_names : names_of_servers p.setup ≡ names_of_servers document
   pub shard_names : names_of_shards p.setup ≡ names_of_shards document
   pub eased : IsEased document p.setup
-  pub cells : (k v i j : ℕ) → slice_get shards k ≡ Some i → slice_get servers v ≡ Some j → (place_of p).cells k v ≡ s.place.cells i j
+  pub cells : (k v i j : ℕ) → slice_get shards k ≡ Some i → slice_get servers v ≡ Some j
+      → (place_of p).cells k v ≡ s.place.cells i j
   pub down : (v j : ℕ) → slice_get servers v ≡ Some j → (place_of p).down v ≡ s.place.down j
 
 -- The next driver's placement is settled, and its log has room for the servers that are down.
@@ -60,7 +61,8 @@ pub record IsReopening (r : ReopeningModel) : Type 0 where
   pub named_shards : AreNumbered (names_of_shards r.numbering) r.shards (names_of_shards r.document.config)
   pub permits : AreEarlierPermits (epoch_base r.epoch) r.permits
   pub confirmed : is_some r.next ≡ is_some (net_reopening r.ongoing).settlement
-  pub next : (p : PlacementModel) (s : Settlement) → r.next ≡ Some p → (net_reopening r.ongoing).settlement ≡ Some s → IsNextOpening r.document r.shards r.servers s p
+  pub next : (p : PlacementModel) (s : Settlement) → r.next ≡ Some p → (net_reopening r.ongoing).settlement ≡ Some s
+      → IsNextOpening r.document r.shards r.servers s p
 
 -- all but what is told, and what is confirmed, is as it was
 pub record IsUnder (old new : ReopeningModel) : Type 0 where

@@ -1,5 +1,6 @@
 -- The placement of some roles: the map lists each primary, and each floor is met.
-use Rattle.std.specs.Prelude.{◌≡◌, ◌&&◌, ◌-◌, ◌==◌, ℕ, Bool, List, Option, None, if◌then◌else◌, is_some, length, map, max, nat_lt, not, slice_index_or}
+use Rattle.std.specs.Prelude.{◌≡◌, ◌&&◌, ◌-◌, ◌==◌, ℕ, Bool, List, Option, None, if◌then◌else◌, is_some, length, map}
+use Rattle.std.specs.Prelude.{max, nat_lt, not, slice_index_or}
 use Rattle.std.specs.List.{filter, list_any, range_with_len}
 use Rattle.sm_server.specs.declared.call.Role.{Role}
 use Rattle.sm_placement.specs.Layout.{PlacementModel, entries_of, place_of}

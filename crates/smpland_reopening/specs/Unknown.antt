@@ -2,7 +2,8 @@
 use Rattle.std.specs.Prelude.{◌≡◌, ◌<◌, ◌≤◌, List, [], ◌∷◌, ◌++◌, Option, Some, None, All}
 use Rattle.smpland_reopening.specs.declared.unknown_shard.UnknownShard.{UnknownShard}
 
--- The shard is the first one of the lowest server: those before it are of higher servers, and those behind it of no lower ones.
+-- The shard is the first one of the lowest server: those before it are of higher servers, and those behind it of no
+-- lower ones.
 pub record IsOfLowest (shards : List UnknownShard) (first : UnknownShard) : Type 0 where
   pub before : List UnknownShard
   pub after : List UnknownShard

@@ -16,7 +16,8 @@ cell_by_settle r place v cells s = if is_brought r place v s then cell_by_role (
 -- so a server that had these slots has what was confirmed
 abbrev pub HasWhatIsSettled : ReopeningModel → Settlement → Type 0
 HasWhatIsSettled r x =
-    (v s : ℕ) (cells : ℕ → Cell) (reached : ℕ → Bool) → (net_reopening r.ongoing).told (Server v) ≡ Some (Slots cells reached) →
+    (v s : ℕ) (cells : ℕ → Cell) (reached : ℕ → Bool)
+    → (net_reopening r.ongoing).told (Server v) ≡ Some (Slots cells reached) →
     cell_by_settle r x.place v cells s ≡ x.place.cells s v
 
 -- once a settlement is confirmed that may be

@@ -32,16 +32,17 @@ has_counted outcome.Old = false
 has_counted (outcome.Bad _) = false
 has_counted (outcome.Refused _) = false
 
--- An answer of this party to the fence with this base: it has told what its line tells, for the first time; or the answer is not its first; or
--- its slots are malformed.
+-- An answer of this party to the fence with this base: it has told what its line tells, for the first time; or the
+-- answer is not its first; or its slots are malformed.
 abbrev pub DoesFencedOf : ℕ → InventoryText → Party → ReopeningModel → ReopeningOutcome → ReopeningModel → Type 0
 DoesFencedOf base told party old outcome.Fenced new = TakesToldBy party base told old new
-DoesFencedOf base told party old outcome.Old new = (is_first (net_reopening old.ongoing) party base ≡ false) × (new ≡ old)
+DoesFencedOf base told party old outcome.Old new = (is_first (net_reopening old.ongoing) party base ≡ false)
+    × (new ≡ old)
 DoesFencedOf base told party old (outcome.Bad _) new = new ≡ old
 DoesFencedOf base told party old _ new = ⊥
 
--- A confirmation of the reopening with this base: what may be is confirmed; or it has another base, or is confirmed already; or the cells are
--- malformed; or they may not be confirmed, or other shards may be lost than are named.
+-- A confirmation of the reopening with this base: what may be is confirmed; or it has another base, or is confirmed
+-- already; or the cells are malformed; or they may not be confirmed, or other shards may be lost than are named.
 abbrev pub DoesConfirm : ℕ → List Tree → List Tree → ReopeningModel → ReopeningOutcome → ReopeningModel → Type 0
 DoesConfirm base cells lost old outcome.Confirmed new = ConfirmsAt base cells lost old new
 DoesConfirm base cells lost old outcome.Old new =
@@ -50,22 +51,28 @@ DoesConfirm base cells lost old (outcome.Bad _) new = new ≡ old
 DoesConfirm base cells lost old (outcome.Refused _) new = new ≡ old
 DoesConfirm base cells lost old _ new = ⊥
 
--- An answer of this party to its settle with this base: it has taken it, and others have not taken theirs, or all have; or no such answer is due.
+-- An answer of this party to its settle with this base: it has taken it, and others have not taken theirs, or all have;
+-- or no such answer is due.
 abbrev pub DoesSettledOf : ℕ → Party → ReopeningModel → ReopeningOutcome → ReopeningModel → Type 0
-DoesSettledOf base party old outcome.Settled new = TakesSettledOf party base old new × (AllTook (net_reopening new.ongoing) → ⊥)
+DoesSettledOf base party old outcome.Settled new = TakesSettledOf party base old new
+    × (AllTook (net_reopening new.ongoing) → ⊥)
 DoesSettledOf base party old outcome.Complete new =
-    TakesSettledOf party base old new × AllTook (net_reopening new.ongoing) × (is_some (net_reopening new.ongoing).settlement ≡ true)
-DoesSettledOf base party old outcome.Old new = (is_due_settle (net_reopening old.ongoing) party base ≡ false) × (new ≡ old)
+    TakesSettledOf party base old new × AllTook (net_reopening new.ongoing)
+    × (is_some (net_reopening new.ongoing).settlement ≡ true)
+DoesSettledOf base party old outcome.Old new = (is_due_settle (net_reopening old.ongoing) party base ≡ false)
+    × (new ≡ old)
 DoesSettledOf base party old _ new = ⊥
 
 -- what comes of the answer of a party, or of one that nobody knows: that is old
-abbrev pub DoesOf : (Party → ReopeningModel → ReopeningOutcome → ReopeningModel → Type 0) → Option Party → ReopeningModel → ReopeningOutcome
+abbrev pub DoesOf : (Party → ReopeningModel → ReopeningOutcome → ReopeningModel → Type 0) → Option Party
+    → ReopeningModel → ReopeningOutcome
     → ReopeningModel → Type 0
 DoesOf P (Some party) old came new = P party old came new
 DoesOf P None old came new = (came ≡ outcome.Old) × (new ≡ old)
 
 -- of the answer to a fence from the party that a line names
-abbrev pub DoesFenced : Option (Bor (List ℕ)) → ℕ → InventoryText → ReopeningModel → ReopeningOutcome → ReopeningModel → Type 0
+abbrev pub DoesFenced : Option (Bor (List ℕ)) → ℕ → InventoryText → ReopeningModel → ReopeningOutcome → ReopeningModel
+    → Type 0
 DoesFenced server base told old came new = DoesOf (DoesFencedOf base told) (party_named old.numbering server) old came new
 
 -- of the answer to a settle from it
@@ -74,13 +81,14 @@ DoesSettled server base old came new = DoesOf (DoesSettledOf base) (party_named 
 
 -- ---- replies
 
--- The reply that tells what has come of a line, by the reopening after it, in this journal. An answer to a fence tells who has to answer, or
--- otherwise what may be confirmed, a confirmation the settles, and an answer to a settle who has not taken its own. The last one tells nothing
--- here: the next epoch is open.
+-- The reply that tells what has come of a line, by the reopening after it, in this journal. An answer to a fence tells
+-- who has to answer, or otherwise what may be confirmed, a confirmation the settles, and an answer to a settle who has
+-- not taken its own. The last one tells nothing here: the next epoch is open.
 abbrev pub TellsTaken : List ℕ → ReopeningModel → ReopeningOutcome → List Token → List Token → Type 0
 TellsTaken journal r outcome.Fenced before after = TellsAwaited r before after
 TellsTaken journal r outcome.Confirmed before after = after ≡ before ++ settles_member journal r
-TellsTaken journal r outcome.Settled before after = after ≡ before ++ waiting_member r.numbering (unsettled_parties (net_reopening r.ongoing))
+TellsTaken journal r outcome.Settled before after = after
+    ≡ before ++ waiting_member r.numbering (unsettled_parties (net_reopening r.ongoing))
 TellsTaken journal r outcome.Complete before after = after ≡ before
 TellsTaken journal r outcome.Old before after = after ≡ before ++ text_member (codes "ignored") (codes "old")
 TellsTaken journal r (outcome.Bad fault) before after = after ≡ before ++ told_bad fault

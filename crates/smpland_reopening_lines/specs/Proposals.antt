@@ -1,4 +1,5 @@
--- The proposal in replies: the replicas, the shards that may be lost, the floors that are not met, and the servers that stay as recorded.
+-- The proposal in replies: the replicas, the shards that may be lost, the floors that are not met, and the servers that
+-- stay as recorded.
 use Rattle.std.specs.Prelude.{◌≡◌, ℕ, List, [], ◌∷◌, ◌++◌, Option, Some, None, codes, length}
 use Rattle.std.specs.List.{flat_map, range_with_len}
 use Rattle.json.specs.Token.{Token, string}
@@ -11,7 +12,8 @@ use Rattle.smpland_reopening.specs.Proposed.{roles_proposed, short_floors, unans
 use Rattle.smpland_reopening.specs.Reopening.{ReopeningModel}
 use Rattle.smpland_reopening.specs.Settled.{RolesGiven}
 use Rattle.smpland_reopening.specs.declared.proposal.ShortFloor.{ShortFloor}
-use Rattle.smpland_lines.specs.Members.{list_member, number_member, object, object_member, server_text, shard_text, text_member}
+use Rattle.smpland_lines.specs.Members.{list_member, number_member, object, object_member, server_text, shard_text}
+use Rattle.smpland_lines.specs.Members.{text_member}
 use Rattle.smpland_reopening_lines.specs.Parties.{waiting_member}
 use Rattle.smpland_reopening_lines.specs.Settles.{given_cell_text}
 

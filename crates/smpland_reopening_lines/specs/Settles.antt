@@ -1,5 +1,6 @@
 -- Settles in replies: what each party has from now on.
-use Rattle.std.specs.Prelude.{ℕ, ◌||◌, Bool, List, [], ◌++◌, Option, Some, None, codes, false, if◌then◌else◌, is_some, length, option_map}
+use Rattle.std.specs.Prelude.{ℕ, ◌||◌, Bool, List, [], ◌++◌, Option, Some, None, codes, false, if◌then◌else◌, is_some}
+use Rattle.std.specs.Prelude.{length, option_map}
 use Rattle.std.specs.Fmt.{digits}
 use Rattle.std.specs.List.{flat_map, range_with_len}
 use Rattle.json.specs.Token.{Token}
@@ -17,7 +18,8 @@ use Rattle.smpland_reopening.specs.Reopening.{ReopeningModel}
 use Rattle.smpland_reopening.specs.Roles.{role_by_cell}
 use Rattle.smpland_reopening.specs.Told.{has_told_of}
 use Rattle.smpland_reopening.specs.Waiting.{unsettled_parties}
-use Rattle.smpland_lines.specs.Members.{list_member, name_member, number_member, object, server_text, shard_text, text_member}
+use Rattle.smpland_lines.specs.Members.{list_member, name_member, number_member, object, server_text, shard_text}
+use Rattle.smpland_lines.specs.Members.{text_member}
 use Rattle.smpland_reopening_lines.specs.Parties.{addressed_members}
 
 -- the word for a role
@@ -37,7 +39,8 @@ given_slot_members setup s given =
     ++ text_member (codes "cell") (settled_cell_text given)
     ++ number_member (codes "load") ((sizes_of setup).load s)
 
--- A settle brings a server the slot of each shard of which it has something from now on, or has told that it has something.
+-- A settle brings a server the slot of each shard of which it has something from now on, or has told that it has
+-- something.
 abbrev pub is_brought : ReopeningModel → Place → ℕ → ℕ → Bool
 is_brought r place v s = is_some (role_by_cell (place.cells s v)) || has_told_of r v s
 
@@ -61,10 +64,12 @@ abbrev pub entries_member : ReopeningModel → Setup → Place → List Token
 entries_member r setup place =
     list_member (codes "entries") (flat_map (λ s. object (entry_members setup place (net_reopening r.ongoing).base s)) (document_shards r))
 
--- what a settle brings: to the map's owner the entries, to a server its slots for the nonce under which it asked, if it did
+-- what a settle brings: to the map's owner the entries, to a server its slots for the nonce under which it asked, if it
+-- did
 abbrev pub brought_members : ReopeningModel → Setup → Place → Party → Option ℕ → List Token
 brought_members r setup place MapOwner asked = entries_member r setup place
-brought_members r setup place (Server v) asked = name_member (codes "nonce") (option_map (digits 16 false) asked) ++ given_slots_member r setup place v
+brought_members r setup place (Server v) asked = name_member (codes "nonce") (option_map (digits 16 false) asked)
+    ++ given_slots_member r setup place v
 
 -- the network's settle to a party; no other message is told so
 abbrev pub settle_text : List ℕ → ReopeningModel → Party → Message → List Token

@@ -1,6 +1,7 @@
 -- A server's slots as it tells them at a fence: the slot of each shard is what the row with the shard's name tells.
 -- `party_told`, `cell_by`, `cell_told`, `copy_said`, `slot_told`, `is_text_of` and `slot_by` are internal: you need not read them for the public contracts.
-use Rattle.std.specs.Prelude.{◌≡◌, ℕ, Bool, List, [], ◌∷◌, Option, Some, None, false, option_and_then, unwrap_or, if◌then◌else◌}
+use Rattle.std.specs.Prelude.{◌≡◌, ℕ, Bool, List, [], ◌∷◌, Option, Some, None, false, option_and_then, unwrap_or}
+use Rattle.std.specs.Prelude.{if◌then◌else◌}
 use Rattle.std.specs.Option.{option_map_or, option_or}
 use Rattle.serde_json.specs.Data.{Data}
 use Rattle.json_tree.specs.View.{view}
@@ -41,9 +42,11 @@ IsCellOf numbering row cell.Absent = text_at at.Cell row ≡ Some (cell_word kin
 IsCellOf numbering row cell.Secondary = text_at at.Cell row ≡ Some (cell_word kind.Secondary)
 IsCellOf numbering row cell.Primary = text_at at.Cell row ≡ Some (cell_word kind.Primary)
 IsCellOf numbering row (cell.Prepared from number) =
-    (text_at at.Cell row ≡ Some (cell_word kind.Prepared)) × IsPartyOf numbering row from × (whole_at at.Handover row ≡ Some number)
+    (text_at at.Cell row ≡ Some (cell_word kind.Prepared)) × IsPartyOf numbering row from
+    × (whole_at at.Handover row ≡ Some number)
 IsCellOf numbering row (cell.Forwarding to number) =
-    (text_at at.Cell row ≡ Some (cell_word kind.Forwarding)) × IsPartyOf numbering row to × (whole_at at.Handover row ≡ Some number)
+    (text_at at.Cell row ≡ Some (cell_word kind.Forwarding)) × IsPartyOf numbering row to
+    × (whole_at at.Handover row ≡ Some number)
 
 -- the copy that a row tells: what it leaves out is 0
 abbrev pub copy_in : Data → ToldCopy

@@ -1,10 +1,12 @@
 -- The effects of lines on a reopening.
-use Rattle.std.specs.Prelude.{◌≡◌, ◌≢◌, ◌<◌, ◌⊎◌, ℕ, List, [], Option, Some, None, map, option_and_then, option_map, true, unwrap_or}
+use Rattle.std.specs.Prelude.{◌≡◌, ◌≢◌, ◌<◌, ◌⊎◌, ℕ, List, [], Option, Some, None, map, option_and_then, option_map}
+use Rattle.std.specs.Prelude.{true, unwrap_or}
 use Rattle.std.specs.Borrow.{Bor}
 use Rattle.json_tree.specs.declared.tree.Tree.{Tree}
 use Rattle.sm_server.specs.declared.call.Role.{Role}
 use Rattle.sm_placement.specs.Setup.{Setup, server_named, shard_named}
-use Rattle.laws_network.specs.Reopening.{Confirm, Entries, Inventory, MapOwner, Party, Server, Settlement, Slots, Told, Took, Unknown, entered, is_first}
+use Rattle.laws_network.specs.Reopening.{Confirm, Entries, Inventory, MapOwner, Party, Server, Settlement, Slots, Told}
+use Rattle.laws_network.specs.Reopening.{Took, Unknown, entered, is_first}
 use Rattle.sm_copies.specs.declared.order.ToldCopy.{ToldCopy}
 use Rattle.sm_reopening.specs.Faults.{MayConfirm}
 use Rattle.sm_reopening.specs.Ongoing.{net_reopening, told_copies}
@@ -45,7 +47,8 @@ pub record TakesToldOf (party : Party) (base : ℕ) (inventory : Inventory) (old
 abbrev pub TakesTold : ReopeningModel → ReopeningModel → Type 0
 TakesTold old new = (party : Party) × (base : ℕ) × (inventory : Inventory) × TakesToldOf party base inventory old new
 
--- A settlement is confirmed that may be: it is that of the roles that were chosen, and the next driver opens with the same.
+-- A settlement is confirmed that may be: it is that of the roles that were chosen, and the next driver opens with the
+-- same.
 pub record TakesConfirm (old new : ReopeningModel) : Type 0 where
   pub chosen : List Choice
   pub settlement : Settlement
@@ -95,11 +98,13 @@ IsInventoryOf MapOwner told inventory new = inventory ≡ Entries
 
 -- a party has told what a line tells, by the names that have numbers
 abbrev pub TakesToldBy : Party → ℕ → InventoryText → ReopeningModel → ReopeningModel → Type 0
-TakesToldBy party base told old new = (inventory : Inventory) × IsInventoryOf party told inventory new × TakesToldOf party base inventory old new
+TakesToldBy party base told old new = (inventory : Inventory) × IsInventoryOf party told inventory new
+    × TakesToldOf party base inventory old new
 
 -- the party that a line names has told what it tells
 abbrev pub TakesFenced : Option (Bor (List ℕ)) → ℕ → InventoryText → ReopeningModel → ReopeningModel → Type 0
-TakesFenced server base told old new = (party : Party) × (party_named old.numbering server ≡ Some party) × TakesToldBy party base told old new
+TakesFenced server base told old new = (party : Party) × (party_named old.numbering server ≡ Some party)
+    × TakesToldBy party base told old new
 
 -- the number of the shard that a value names, or one that no shard has
 abbrev pub shard_told : Setup → Tree → ℕ
@@ -119,15 +124,18 @@ choice_said choice = (choice.shard, map replica_said choice.cells.items)
 
 -- the choices are those that values say, by the names of a document
 abbrev pub AreChosen : Setup → List Tree → List Choice → Type 0
-AreChosen config cells chosen = (said : List ShardChoice) × AreChoicesSaid config (items_view cells) said × (map choice_made chosen ≡ map choice_said said)
+AreChosen config cells chosen = (said : List ShardChoice) × AreChoicesSaid config (items_view cells) said
+    × (map choice_made chosen ≡ map choice_said said)
 
--- A settlement is confirmed of the reopening with this base. The first values name the roles that were chosen, and the others the shards that may be
--- lost.
+-- A settlement is confirmed of the reopening with this base. The first values name the roles that were chosen, and the
+-- others the shards that may be lost.
 abbrev pub ConfirmsAt : ℕ → List Tree → List Tree → ReopeningModel → ReopeningModel → Type 0
 ConfirmsAt base cells lost old new =
-    (base ≡ (net_reopening old.ongoing).base) × NamesLost old (map (shard_told old.numbering) lost) × (taken : TakesConfirm old new)
+    (base ≡ (net_reopening old.ongoing).base) × NamesLost old (map (shard_told old.numbering) lost)
+    × (taken : TakesConfirm old new)
     × AreChosen old.document.config cells taken.chosen
 
 -- the party that a line names has taken its settle with this base
 abbrev pub TakesSettledBy : Option (Bor (List ℕ)) → ℕ → ReopeningModel → ReopeningModel → Type 0
-TakesSettledBy server base old new = (party : Party) × (party_named old.numbering server ≡ Some party) × TakesSettledOf party base old new
+TakesSettledBy server base old new = (party : Party) × (party_named old.numbering server ≡ Some party)
+    × TakesSettledOf party base old new

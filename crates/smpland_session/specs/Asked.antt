@@ -1,5 +1,6 @@
 -- The effect of a line on a session, as its command asks for it.
-use Rattle.std.specs.Prelude.{◌≡◌, ◌<◌, ◌⊎◌, ℕ, Bool, true, false, List, [], ◌∷◌, Option, Some, None, Ok, length, option_map, replicate}
+use Rattle.std.specs.Prelude.{◌≡◌, ◌<◌, ◌⊎◌, ℕ, Bool, true, false, List, [], ◌∷◌, Option, Some, None, Ok, length}
+use Rattle.std.specs.Prelude.{option_map, replicate}
 use Rattle.std.specs.List.{flat_map}
 use Rattle.std.specs.Option.{option_map_or}
 use Rattle.std.specs.Borrow.{Bor}
@@ -16,7 +17,8 @@ use Rattle.sm_plan_text.specs.Documents.{DocumentModel}
 use Rattle.sm_plan_text.specs.Opened.{opening_of}
 use Rattle.sm_plan_text.specs.Reading.{data_of, read_data, read_plan_data, rows_of}
 use Rattle.sm_protocol.specs.State.{opened}
-use Rattle.sm_driver.specs.Driver.{DriverModel, HasApproved, HasBegunPlan, HasRestored, HasTakenStep, base, is_due, record_of}
+use Rattle.sm_driver.specs.Driver.{DriverModel, HasApproved, HasBegunPlan, HasRestored, HasTakenStep, base, is_due}
+use Rattle.sm_driver.specs.Driver.{record_of}
 use Rattle.sm_driver.specs.Permits.{opening_permits}
 use Rattle.sm_driver.specs.declared.copies.ToldCopies.{ToldCopies}
 use Rattle.smpland_lines.specs.Commands.{IsKnownCommand}
@@ -43,7 +45,8 @@ SaysPlan setup value plan = read_plan_data (names_of_shards setup) (names_of_ser
 -- the plan of a value, which was checked, and calls no server that is not known, has begun
 abbrev pub BeginsPlanOf : Data → DriverModel → DriverModel → Type 0
 BeginsPlanOf value old new =
-    (plan : PlanModel) × (number : ℕ) × SaysPlan old.machine.placement.setup value plan × IsCheckedPlan (record_of old).sizes plan
+    (plan : PlanModel) × (number : ℕ) × SaysPlan old.machine.placement.setup value plan
+    × IsCheckedPlan (record_of old).sizes plan
     × (unknown_called old plan ≡ None) × HasBegunPlan plan number old new
 
 -- this stream has made the step whose answer came under this number
@@ -53,7 +56,8 @@ TakesAnswerOf id number old new = (is_due old id number ≡ true) × HasTakenSte
 -- the restart of the server with this name was approved
 abbrev pub ApprovesRestartOf : List ℕ → DriverModel → DriverModel → Type 0
 ApprovesRestartOf name old new =
-    (server : ℕ) × (permit : ℕ) × (server_named old.machine.placement.setup name ≡ Some server) × (server < (record_of old).sizes.servers)
+    (server : ℕ) × (permit : ℕ) × (server_named old.machine.placement.setup name ≡ Some server)
+    × (server < (record_of old).sizes.servers)
     × HasApproved server permit old new
 
 -- the server with this name was restored under this nonce
@@ -63,7 +67,8 @@ RestoresServerOf name nonce old new =
 
 -- these copies of the shard with this name were noted
 abbrev pub NotesCopiesOf : List ℕ → ToldCopies → DriverModel → DriverModel → Type 0
-NotesCopiesOf name told old new = (shard : ℕ) × (shard_named old.machine.placement.setup name ≡ Some shard) × NotesTold shard told old new
+NotesCopiesOf name told old new = (shard : ℕ) × (shard_named old.machine.placement.setup name ≡ Some shard)
+    × NotesTold shard told old new
 
 -- the effect of a command on the driver of an open journal
 abbrev pub DoesToDriver : DriverCommand → DriverModel → DriverModel → Type 0
@@ -132,13 +137,15 @@ OpensAsNamed journal epoch opened under after = Unit {0}
 abbrev pub Does : LineCommand → Option JournalState → Option UnderWay → Option JournalState → Option UnderWay → Type 0
 Does (line.Open document journal epoch) opened under new after = OpensOver (view document.now) journal epoch opened new
 Does (line.Reopening (reopening.Reopen document lost journal epoch)) opened under new after =
-    ReopensWithout (texts_among lost.now) opened under after × IsUnderDocument (view document.now) after × OpensAsNamed journal epoch opened under after
+    ReopensWithout (texts_among lost.now) opened under after × IsUnderDocument (view document.now) after
+    × OpensAsNamed journal epoch opened under after
     × (new ≡ opened)
 Does (line.Reopening (reopening.Fenced server base told)) opened under new after = StaysUnderWay (TakesFenced server base told) under after × (new ≡ opened)
 Does (line.Reopening (reopening.Confirm base cells lost)) opened under new after =
     StaysUnderWay (ConfirmsAt base cells.now lost.now) under after × (new ≡ opened)
 Does (line.Reopening (reopening.Settled server base)) opened under new after =
-    (WaitsUnderWay (TakesSettledBy server base) under after × (new ≡ opened)) ⊎ ComesInForceBy (TakesSettledBy server base) under after new
+    (WaitsUnderWay (TakesSettledBy server base) under after × (new ≡ opened))
+    ⊎ ComesInForceBy (TakesSettledBy server base) under after new
 Does (line.Driver command) opened under new after = StaysOpen (DoesToDriver command) opened new
 Does (line.Question question) opened under new after = ⊥
 
@@ -152,12 +159,14 @@ setup_in_force s = option_map (λ (o : JournalState). o.driver.machine.placement
 
 -- a command is known over these servers and shards, or over any if there are none
 abbrev pub IsKnownOver : Option Setup → LineCommand → Type 0
-IsKnownOver setup command = (config : Option (Bor Setup)) × (option_map (λ (c : Bor Setup). c.now) config ≡ setup) × IsKnownCommand config command
+IsKnownOver setup command = (config : Option (Bor Setup)) × (option_map (λ (c : Bor Setup). c.now) config ≡ setup)
+    × IsKnownCommand config command
 
 -- a value says a command that is known, and the session has done it
 abbrev pub DoesAsTold : Data → Session → Session → Type 0
 DoesAsTold value old new =
-    (command : LineCommand) × Says value command × IsKnownOver (setup_in_force old) command × DoesToSession command old new
+    (command : LineCommand) × Says value command × IsKnownOver (setup_in_force old) command
+    × DoesToSession command old new
 
 -- so does the JSON value of a line
 abbrev pub DoesAsSaid : List ℕ → Session → Session → Type 0

@@ -1,5 +1,6 @@
 -- Begins under a name under which a plan has begun before.
-use Rattle.std.specs.Prelude.{◌≡◌, ◌≢◌, ◌==◌, ◌&&◌, ℕ, Bool, List, [], ◌++◌, Option, Some, None, IfSome, IsSome, codes, if◌then◌else◌, length, nat_lt, string_bytes}
+use Rattle.std.specs.Prelude.{◌≡◌, ◌≢◌, ◌==◌, ◌&&◌, ℕ, Bool, List, [], ◌++◌, Option, Some, None, IfSome, IsSome, codes}
+use Rattle.std.specs.Prelude.{if◌then◌else◌, length, nat_lt, string_bytes}
 use Rattle.std.specs.Option.{IsSomeAnd}
 use Rattle.json.specs.Token.{Token}
 use Rattle.serde_json.specs.Data.{Data}
@@ -44,10 +45,13 @@ other_plan name = record {
   text = codes "refused: OtherPlan name " ++ name;
 }
 
--- The reply to a begin under the name of a plan that has begun. If that is kept, and the value says no plan, its fault is told; if it says another
--- one, it is refused. Otherwise the reply tells the plan that has begun again, with the messages that its streams stand before now.
+-- The reply to a begin under the name of a plan that has begun. If that is kept, and the value says no plan, its fault
+-- is told; if it says another one, it is refused. Otherwise the reply tells the plan that has begun again, with the
+-- messages that its streams stand before now.
 pub record TellsUnder (d : DriverModel) (goes_on : Bool) (value : Data) (name : List ℕ) (begun : BegunPlan) (before after : List Token) : Type 0 where
-  pub same : IfSome (kept_plan d begun) (SaysPlan d.machine.placement.setup value) → after ≡ before ++ begun_again_members d begun goes_on
-  pub other : IsSomeAnd (kept_plan d begun) (SaysOther d.machine.placement.setup value) → after ≡ before ++ refused_member (other_plan name)
+  pub same : IfSome (kept_plan d begun) (SaysPlan d.machine.placement.setup value)
+      → after ≡ before ++ begun_again_members d begun goes_on
+  pub other : IsSomeAnd (kept_plan d begun) (SaysOther d.machine.placement.setup value)
+      → after ≡ before ++ refused_member (other_plan name)
   pub no_plan : (fault : TextFault) → IsSome (kept_plan d begun) → SaysNoPlan d.machine.placement.setup value fault
       → after ≡ before ++ told_bad (bad.Within PlanMember fault)

@@ -1,5 +1,6 @@
 -- The effects on a driver of the commands that change something.
-use Rattle.std.specs.Prelude.{◌≡◌, ◌<◌, ◌⊎◌, ◌+◌, ◌-◌, ◌^◌, ℕ, Bool, true, false, List, [], Option, Some, None, length, min, option_map}
+use Rattle.std.specs.Prelude.{◌≡◌, ◌<◌, ◌⊎◌, ◌+◌, ◌-◌, ◌^◌, ℕ, Bool, true, false, List, [], Option, Some, None, length}
+use Rattle.std.specs.Prelude.{min, option_map}
 use Rattle.sm_reservation.specs.declared.stream_id.StreamId.{StreamId}
 use Rattle.sm_placement.specs.Setup.{Setup, Sizes}
 use Rattle.sm_placement.specs.Config.{setup_of}
@@ -11,7 +12,8 @@ use Rattle.sm_verifier.specs.Plan.{IsCheckedPlan}
 use Rattle.sm_protocol.specs.Laws.{IsReached}
 use Rattle.sm_protocol.specs.State.{opened}
 use Rattle.sm_driver.specs.Copies.{HasNotedCopies, copies_effect, kept_copies}
-use Rattle.sm_driver.specs.Driver.{DriverModel, HasApproved, HasBegunPlan, HasEndedRestart, HasRestored, HasTakenStep, is_due, record_of}
+use Rattle.sm_driver.specs.Driver.{DriverModel, HasApproved, HasBegunPlan, HasEndedRestart, HasRestored, HasTakenStep}
+use Rattle.sm_driver.specs.Driver.{is_due, record_of}
 use Rattle.sm_driver.specs.Epochs.{HasOpenedEpoch, epoch_fault}
 use Rattle.sm_driver.specs.declared.copies.CopiesEffect.TheVariants.{Noted}
 use Rattle.sm_driver.specs.declared.copies.ToldCopies.{ToldCopies}
@@ -39,7 +41,8 @@ HasOpened new =
 
 -- a checked plan has begun
 abbrev pub BeginsPlan : DriverModel → DriverModel → Type 0
-BeginsPlan old new = (plan : PlanModel) × (number : ℕ) × IsCheckedPlan (record_of old).sizes plan × HasBegunPlan plan number old new
+BeginsPlan old new = (plan : PlanModel) × (number : ℕ) × IsCheckedPlan (record_of old).sizes plan
+    × HasBegunPlan plan number old new
 
 -- a stream has made the step whose answer it waited for
 abbrev pub TakesAnswer : DriverModel → DriverModel → Type 0
@@ -47,7 +50,8 @@ TakesAnswer old new = (id : StreamId) × (number : ℕ) × (is_due old id number
 
 -- the restart of a known server was approved
 abbrev pub ApprovesRestart : DriverModel → DriverModel → Type 0
-ApprovesRestart old new = (server : ℕ) × (permit : ℕ) × (server < (record_of old).sizes.servers) × HasApproved server permit old new
+ApprovesRestart old new = (server : ℕ) × (permit : ℕ) × (server < (record_of old).sizes.servers)
+    × HasApproved server permit old new
 
 -- a restart has ended by this permit, of a server with this base
 abbrev pub EndsRestart : ℕ → Option ℕ → DriverModel → DriverModel → Type 0
@@ -61,7 +65,8 @@ RestoresServer old new = (server : ℕ) × (nonce : ℕ) × HasRestored server n
 -- tells more than was noted before, but no more than the shard wants.
 abbrev pub NotesTold : ℕ → ToldCopies → DriverModel → DriverModel → Type 0
 NotesTold shard told old new =
-    (shard < (record_of old).sizes.shards) × (copies_effect old shard told ≡ Noted) × HasNotedCopies shard told.copies old new
+    (shard < (record_of old).sizes.shards) × (copies_effect old shard told ≡ Noted)
+    × HasNotedCopies shard told.copies old new
 
 -- copies were noted of a shard
 abbrev pub NotesCopies : DriverModel → DriverModel → Type 0
@@ -173,9 +178,11 @@ BecomesLast P (Some r) last = P r last
 BecomesLast P None last = ⊥
 
 -- the last party has taken its settle, so all have, and the settlement is in force
-abbrev pub ComesInForceBy : (ReopeningModel → ReopeningModel → Type 0) → Option UnderWay → Option UnderWay → Option JournalState → Type 0
+abbrev pub ComesInForceBy : (ReopeningModel → ReopeningModel → Type 0) → Option UnderWay → Option UnderWay
+    → Option JournalState → Type 0
 ComesInForceBy P under after new =
-    (last : ReopeningModel) × BecomesLast P (reopening_under_way under) last × AllTook (net_reopening last.ongoing) × (after ≡ None) × OpensOf last new
+    (last : ReopeningModel) × BecomesLast P (reopening_under_way under) last × AllTook (net_reopening last.ongoing)
+    × (after ≡ None) × OpensOf last new
     × OpensFrom last new
 
 -- the same, whichever party it is
@@ -185,7 +192,8 @@ ComesInForce = ComesInForceBy TakesSettled
 -- The effect of a command that changed something on the open journal, and on the reopening under way. While one is
 -- under way the driver stays as it is.
 pub data HasChanged (opened : Option JournalState) (under : Option UnderWay) (new : Option JournalState) (after : Option UnderWay) : Type 0 where
-  Drives : under ≡ None → after ≡ None → HasDriven (driver_of opened) (driver_of new) → HasChanged opened under new after
+  Drives : under ≡ None → after ≡ None → HasDriven (driver_of opened) (driver_of new)
+      → HasChanged opened under new after
   Reopens : new ≡ opened → HasReopened opened under after → HasChanged opened under new after
   Follows : new ≡ opened → HasGoneOn under after → HasChanged opened under new after
   Opens : ComesInForce under after new → HasChanged opened under new after

@@ -42,7 +42,8 @@ pub data TellsVerdict (m : MachineModel) (plan : PlanModel) (before after : List
   WouldBegin : (happens (state_of m) (Begin plan)).0 ≡ Answered (played.Begun (length (state_of m).plans))
       → after ≡ before ++ accepted_member plan → TellsVerdict m plan before after
   WouldNot : (why : BeginFault) → (happens (state_of m) (Begin plan)).0 ≡ Answered (played.NotBegun why)
-      → after ≡ before ++ refused_member (shared_refusal (begin_refusal m.placement.setup why)) → TellsVerdict m plan before after
+      → after ≡ before ++ refused_member (shared_refusal (begin_refusal m.placement.setup why))
+      → TellsVerdict m plan before after
 
 -- ---- values
 
@@ -53,7 +54,8 @@ SaysNoPlan setup value fault = read_plan_data (names_of_shards setup) (names_of_
 -- a value says a plan that is not sound: this is the plan's first fault
 abbrev pub SaysUnsound : Setup → Data → Fault → Type 0
 SaysUnsound setup value fault =
-    (plan : PlanModel) × SaysPlan setup value plan × (¬ IsSound (sizes_of setup) plan) × IsFault (sizes_of setup) plan fault
+    (plan : PlanModel) × SaysPlan setup value plan × (¬ IsSound (sizes_of setup) plan)
+    × IsFault (sizes_of setup) plan fault
 
 -- why a value is declined that says no sound plan
 abbrev pub IsUnchecked : Setup → Data → Decline → Type 0
@@ -64,7 +66,8 @@ IsUnchecked setup value why = ⊥
 -- a value says a sound plan that calls servers that are not known: first this one
 abbrev pub SaysUnknown : DriverModel → Data → ℕ → Type 0
 SaysUnknown d value server =
-    (plan : PlanModel) × SaysPlan d.machine.placement.setup value plan × IsSound (sizes_of d.machine.placement.setup) plan
+    (plan : PlanModel) × SaysPlan d.machine.placement.setup value plan
+    × IsSound (sizes_of d.machine.placement.setup) plan
     × (unknown_called d plan ≡ Some server)
 
 -- why a value is declined that says no sound plan, or one that calls a server that is not known
@@ -81,14 +84,19 @@ unknown_refusal setup v = record {
   text = codes "refused: Unknown server " ++ server_text setup v;
 }
 
--- The reply to `check` of a value. If the value says no plan, its first fault is told. If it says one that is not sound, the plan is refused by its
--- first fault; if it calls servers that are not known, by the first of these. Otherwise the reply tells whether the plan would begin now.
+-- The reply to `check` of a value. If the value says no plan, its first fault is told. If it says one that is not
+-- sound, the plan is refused by its first fault; if it calls servers that are not known, by the first of these.
+-- Otherwise the reply tells whether the plan would begin now.
 pub data TellsCheck (d : DriverModel) (value : Data) (before after : List Token) : Type 0 where
-  NoPlan : (fault : TextFault) → SaysNoPlan d.machine.placement.setup value fault → after ≡ before ++ told_bad (bad.Within PlanMember fault)
+  NoPlan : (fault : TextFault) → SaysNoPlan d.machine.placement.setup value fault
+      → after ≡ before ++ told_bad (bad.Within PlanMember fault)
       → TellsCheck d value before after
-  Unsound : (fault : Fault) → SaysUnsound d.machine.placement.setup value fault → after ≡ before ++ refused_member (shared_refusal (check_refusal fault))
+  Unsound : (fault : Fault) → SaysUnsound d.machine.placement.setup value fault
+      → after ≡ before ++ refused_member (shared_refusal (check_refusal fault))
       → TellsCheck d value before after
-  Unknown : (server : ℕ) → SaysUnknown d value server → after ≡ before ++ refused_member (unknown_refusal d.machine.placement.setup server)
+  Unknown : (server : ℕ) → SaysUnknown d value server
+      → after ≡ before ++ refused_member (unknown_refusal d.machine.placement.setup server)
       → TellsCheck d value before after
-  Sound : (plan : PlanModel) → SaysPlan d.machine.placement.setup value plan → IsSound (sizes_of d.machine.placement.setup) plan
+  Sound : (plan : PlanModel) → SaysPlan d.machine.placement.setup value plan
+      → IsSound (sizes_of d.machine.placement.setup) plan
       → unknown_called d plan ≡ None → TellsVerdict d.machine plan before after → TellsCheck d value before after

@@ -36,8 +36,10 @@ pub data Declines (before after : List Token) : Type 0 where
 -- A command that could have changed the driver of a journal is declined, but for one under a name that was used before.
 -- Of a restore this is said as long as there is no such server.
 abbrev pub DriverDeclines : DriverCommand → Option JournalState → List Token → List Token → Type 0
-DriverDeclines (driver.Begin _ name) opened before after = IfSome opened (λ o. value_of o.plans name.now ≡ None) → Declines before after
-DriverDeclines (driver.Approve _ by) opened before after = IfSome opened (λ o. value_of o.approvals by.now ≡ None) → Declines before after
+DriverDeclines (driver.Begin _ name) opened before after = IfSome opened (λ o. value_of o.plans name.now ≡ None)
+    → Declines before after
+DriverDeclines (driver.Approve _ by) opened before after = IfSome opened (λ o. value_of o.approvals by.now ≡ None)
+    → Declines before after
 DriverDeclines (driver.Restore name _) opened before after =
     IfSome opened (λ o. server_named o.driver.machine.placement.setup name.now ≡ None) → Declines before after
 DriverDeclines (driver.Answered _ _ _) opened before after = Declines before after
@@ -56,12 +58,14 @@ SessionDeclines (line.Question _) s before after = Unit {0}
 
 -- a value is bad, or the command that it says is declined
 abbrev pub DeclinesValue : Data → Session → List Token → List Token → Type 0
-DeclinesValue value s before after = TellsBad before after ⊎ ((command : LineCommand) × Says value command × SessionDeclines command s before after)
+DeclinesValue value s before after = TellsBad before after
+    ⊎ ((command : LineCommand) × Says value command × SessionDeclines command s before after)
 
 -- a line is bad, or its value is, behind its id, or declined there
 abbrev pub DeclinesLine : List ℕ → Session → List Token → List Token → Type 0
 DeclinesLine line s before after =
-    TellsBad before after ⊎ ((value : Data) × (data_of line ≡ Some value) × DeclinesValue value s (before ++ line_id value) after)
+    TellsBad before after ⊎ ((value : Data) × (data_of line ≡ Some value)
+    × DeclinesValue value s (before ++ line_id value) after)
 
 -- a reply declines a line
 abbrev pub DeclinesBy : List ℕ → List ℕ → Session → Type 0

@@ -2,7 +2,8 @@
 -- exchange. (The clause `told` of `Session::apply` says so, by `IsLineReply` of Replies.antt.) `IsNoObject`,
 -- `ReadsObject`, `TellsClosed`, `TellsExchange`, `KnowsAll`, `Replies` and `Exchanges` are internal: you need not read
 -- them for the public contracts.
-use Rattle.std.specs.Prelude.{◌≡◌, ◌<◌, ◌⊎◌, ℕ, Bool, true, false, List, [], ◌++◌, IfSome, Ok, Err, Option, Some, None, Result, codes, if◌then◌else◌, is_some, length}
+use Rattle.std.specs.Prelude.{◌≡◌, ◌<◌, ◌⊎◌, ℕ, Bool, true, false, List, [], ◌++◌, IfSome, Ok, Err, Option, Some, None}
+use Rattle.std.specs.Prelude.{Result, codes, if◌then◌else◌, is_some, length}
 use Rattle.json.specs.Token.{Token}
 use Rattle.json.specs.Print.{print}
 use Rattle.serde_json.specs.Data.{Data}
@@ -51,7 +52,8 @@ use Rattle.smpland_session.specs.declared.under_way.UnderWay.{UnderWay}
 pub data IsNoObject (text : List ℕ) (fault : BadLine) : Type 0 where
   TooLong : MOST_BYTES < length text → fault ≡ bad.TooLong → IsNoObject text fault
   NotJson : (data_of text ≡ None) ⊎ (IsObject text → ⊥) → fault ≡ bad.NotJson → IsNoObject text fault
-  NoObject : (value : Data) → data_of text ≡ Some value → as_object value ≡ None → fault ≡ bad.Malformed Line → IsNoObject text fault
+  NoObject : (value : Data) → data_of text ≡ Some value → as_object value ≡ None → fault ≡ bad.Malformed Line
+      → IsNoObject text fault
 
 -- a line is an object of this value, or it is bad
 abbrev pub ReadsObject : List ℕ → Result Tree BadLine → Type 0
@@ -93,7 +95,8 @@ abbrev pub ComesTo : LineCommand → Option JournalState → Option UnderWay →
     → Option UnderWay → Type 0
 ComesTo (line.Open document journal epoch) opened under (came.Open it) new after =
     (after ≡ under) × DoesOpen (record { document = document; journal = journal; epoch = epoch }) (is_some under) opened it new
-ComesTo (line.Driver command) opened under (came.Driver it) new after = (after ≡ under) × TakesOnOpen command (is_some under) opened it new
+ComesTo (line.Driver command) opened under (came.Driver it) new after = (after ≡ under)
+    × TakesOnOpen command (is_some under) opened it new
 ComesTo (line.Driver command) opened under (came.Closed why) new after =
     (after ≡ under) × (opened ≡ None) × (new ≡ opened) × (why ≡ why_closed command (is_some under))
 ComesTo (line.Reopening (reopening.Reopen document lost journal epoch)) opened under (came.Reopen it) new after =
@@ -103,18 +106,21 @@ ComesTo (line.Reopening (reopening.Fenced server base told)) opened under (came.
 ComesTo (line.Reopening (reopening.Confirm base cells lost)) opened under (came.Reopening it) new after =
     (new ≡ opened) × DoesUnderWay (DoesConfirm base cells.now lost.now) under it after
 ComesTo (line.Reopening (reopening.Settled server base)) opened under (came.Reopening it) new after = DoesSettle server base opened under it new after
-ComesTo (line.Question asked) opened under (came.Answered it) new after = (new ≡ opened) × (after ≡ under) × (it ≡ asked)
+ComesTo (line.Question asked) opened under (came.Answered it) new after = (new ≡ opened) × (after ≡ under)
+    × (it ≡ asked)
 ComesTo _ opened under _ new after = ⊥
 
 -- So does a command to a session, which counts it if something has changed.
 abbrev pub Comes : LineCommand → Session → Outcome → Session → Type 0
 Comes command old it new =
-    ComesTo command old.opened old.under_way it new.opened new.under_way × (new.place ≡ count_after (is_change it) old.place)
+    ComesTo command old.opened old.under_way it new.opened new.under_way
+    × (new.place ≡ count_after (is_change it) old.place)
 
 -- A session takes the value of a line: its command comes to an outcome; or it is bad, and nothing changes.
 pub data Takes (value : Data) (old : Session) (it : Outcome) (new : Session) : Type 0 where
   TakesBad : (fault : BadLine) → it ≡ came.Bad fault → new ≡ old → Takes value old it new
-  TakesCommand : (command : LineCommand) → Says value command → IsKnownOver (setup_in_force old) command → Comes command old it new
+  TakesCommand : (command : LineCommand) → Says value command → IsKnownOver (setup_in_force old) command
+      → Comes command old it new
       → Takes value old it new
 
 -- ---- replies
@@ -155,6 +161,7 @@ pub record Exchanges (value : Data) (old : Session) (effect : LineEffect) (new :
 
 -- A session takes a text, whatever the reply: its value comes to an outcome; or it has none, and nothing changes.
 pub data TakesAgain (text : List ℕ) (old : Session) (effect : LineEffect) (new : Session) : Type 0 where
-  OfValue : (value : Data) → data_of text ≡ Some value → (it : Outcome) → Takes value old it new → effect ≡ effect_if (is_change it)
+  OfValue : (value : Data) → data_of text ≡ Some value → (it : Outcome) → Takes value old it new
+      → effect ≡ effect_if (is_change it)
       → TakesAgain text old effect new
   OfNoValue : data_of text ≡ None → effect ≡ Unchanged → new ≡ old → TakesAgain text old effect new

@@ -26,7 +26,8 @@ has_opened (opens.NotOpened _) = false
 -- has changed.
 abbrev pub DoesOpen : OpenLine → Bool → Option JournalState → OpenOutcome → Option JournalState → Type 0
 DoesOpen line is_reopening old opens.Opened new =
-    (is_reopening ≡ false) × HasDriven (driver_of old) (driver_of new) × OpensOver (view line.document.now) line.journal line.epoch old new
+    (is_reopening ≡ false) × HasDriven (driver_of old) (driver_of new)
+    × OpensOver (view line.document.now) line.journal line.epoch old new
 DoesOpen line is_reopening old (opens.NotOpened _) new = new ≡ old
 
 -- the reply that tells why no journal has opened

@@ -1,7 +1,8 @@
 -- The outcomes of commands on an open journal, and the replies that tell them.
 -- `TellsDecline`, `TellsOutcome`, `KnowsServers`, `StartOutcome`, `IsKeptFromStarting`, `HasMovedWith`, `is_down_under`
 -- and `why_not_ended` are internal: you need not read them for the public contracts.
-use Rattle.std.specs.Prelude.{◌≡◌, ◌<◌, ℕ, ◌&&◌, ◌||◌, Bool, true, false, List, ◌++◌, Option, Some, None, IfSome, bytes_eq, codes, decimal, if◌then◌else◌, not, string_bytes}
+use Rattle.std.specs.Prelude.{◌≡◌, ◌<◌, ℕ, ◌&&◌, ◌||◌, Bool, true, false, List, ◌++◌, Option, Some, None, IfSome}
+use Rattle.std.specs.Prelude.{bytes_eq, codes, decimal, if◌then◌else◌, not, string_bytes}
 use Rattle.std.specs.List.{list_any}
 use Rattle.std.specs.Option.{IsSomeAnd}
 use Rattle.json.specs.Token.{Token}
@@ -18,7 +19,8 @@ use Rattle.sm_protocol.specs.Happens.{Begin, happens}
 use Rattle.sm_protocol.specs.Steps.{Answered}
 use Rattle.laws_network.specs.Controller.{is_permitted}
 use Rattle.sm_driver.specs.Copies.{copies_effect, shard_want}
-use Rattle.sm_driver.specs.Driver.{DriverModel, HasApproved, HasBegunPlan, HasEndedRestart, HasRestored, HasTakenStep, is_due, is_past, record_of}
+use Rattle.sm_driver.specs.Driver.{DriverModel, HasApproved, HasBegunPlan, HasEndedRestart, HasRestored, HasTakenStep}
+use Rattle.sm_driver.specs.Driver.{is_due, is_past, record_of}
 use Rattle.sm_driver.specs.declared.copies.CopiesEffect.{CopiesEffect}
 use Rattle.sm_driver.specs.declared.copies.CopiesEffect.TheVariants as effect
 use Rattle.sm_driver.specs.declared.copies.ToldCopies.{ToldCopies}
@@ -71,11 +73,15 @@ above_want setup s = record {
 
 -- behind what was written is told, over these servers and shards, why nothing has come of a command
 abbrev pub TellsDecline : Setup → Decline → List Token → List Token → Type 0
-TellsDecline setup (decline.Ignored why) before after = after ≡ before ++ text_member (codes "ignored") (ignored_word why)
+TellsDecline setup (decline.Ignored why) before after = after
+    ≡ before ++ text_member (codes "ignored") (ignored_word why)
 TellsDecline setup (decline.NoPlan fault) before after = after ≡ before ++ told_bad (bad.Within PlanMember fault)
-TellsDecline setup (decline.Unchecked fault) before after = after ≡ before ++ refused_member (shared_refusal (check_refusal fault))
-TellsDecline setup (decline.OtherPlan name) before after = after ≡ before ++ refused_member (other_plan (string_bytes name))
-TellsDecline setup (decline.Unknown server) before after = after ≡ before ++ refused_member (unknown_refusal setup server)
+TellsDecline setup (decline.Unchecked fault) before after = after
+    ≡ before ++ refused_member (shared_refusal (check_refusal fault))
+TellsDecline setup (decline.OtherPlan name) before after = after
+    ≡ before ++ refused_member (other_plan (string_bytes name))
+TellsDecline setup (decline.Unknown server) before after = after
+    ≡ before ++ refused_member (unknown_refusal setup server)
 TellsDecline setup (decline.OtherServer at) before after = TellsRefused before after
 TellsDecline setup (decline.AboveWant shard) before after = after ≡ before ++ refused_member (above_want setup shard)
 TellsDecline setup _ before after = Declines before after
@@ -83,13 +89,15 @@ TellsDecline setup _ before after = Declines before after
 -- behind it is told, by the journal after the change, the outcome of a command
 abbrev pub TellsOutcome : JournalState → DriverOutcome → List Token → List Token → Type 0
 TellsOutcome o (outcome.Begun plan) before after = after ≡ before ++ begun_members o.driver plan
-TellsOutcome o (outcome.BegunBefore plan goes_on) before after = after ≡ before ++ begun_again_members o.driver plan goes_on
+TellsOutcome o (outcome.BegunBefore plan goes_on) before after = after
+    ≡ before ++ begun_again_members o.driver plan goes_on
 TellsOutcome o (outcome.Moved id gone) before after = after ≡ before ++ moved_members o.driver id gone.items
 TellsOutcome o (outcome.Approved server permit) before after =
     after ≡ before ++ approved_member o.driver server permit
 TellsOutcome o (outcome.ApprovedBefore at) before after =
     IfSome (given_at o.permits at) (λ given. after ≡ before ++ given_member o.driver (string_bytes given.server) given.permit)
-TellsOutcome o (outcome.Up server) before after = after ≡ before ++ text_member (codes "up") (server_text o.driver.machine.placement.setup server)
+TellsOutcome o (outcome.Up server) before after = after
+    ≡ before ++ text_member (codes "up") (server_text o.driver.machine.placement.setup server)
 TellsOutcome o (outcome.Restored server nonce) before after = TellsKept o.driver server before after
 TellsOutcome o (outcome.RestoredBefore server nonce) before after = TellsAgain o server nonce before after
 TellsOutcome o outcome.NextEpoch before after = after ≡ before ++ opened_member o.driver
@@ -138,14 +146,16 @@ StartOutcome plan old _ new = ⊥
 -- the plan that a value says has begun, and is this one: it calls no server that is not known
 abbrev pub BeginsPlanAs : Data → BegunPlan → JournalState → JournalState → Type 0
 BeginsPlanAs value begun old new =
-    (plan : PlanModel) × SaysPlan old.driver.machine.placement.setup value plan × IsCheckedPlan (record_of old.driver).sizes plan
+    (plan : PlanModel) × SaysPlan old.driver.machine.placement.setup value plan
+    × IsCheckedPlan (record_of old.driver).sizes plan
     × (unknown_called old.driver plan ≡ None) × HasBegunPlan plan begun.number old.driver new.driver
     × (begun ≡ begun_plan new.driver begun.number)
 
 -- the plan that a value says calls no server that is not known, and this is in its way
 abbrev pub SaysHindered : DriverModel → Data → BeginFault → Type 0
 SaysHindered d value fault =
-    (plan : PlanModel) × SaysPlan d.machine.placement.setup value plan × (unknown_called d plan ≡ None) × IsInTheWay d plan fault
+    (plan : PlanModel) × SaysPlan d.machine.placement.setup value plan × (unknown_called d plan ≡ None)
+    × IsInTheWay d plan fault
 
 -- why the plan that a value says is not begun: it is not ready, or something is in its way
 abbrev pub IsNotBegun : DriverModel → Data → Decline → Type 0
@@ -189,13 +199,15 @@ abbrev pub HasMovedWith : StreamId → List StreamId → DriverOutcome → Type 
 HasMovedWith id ids (outcome.Moved stream gone) = (stream ≡ id) × (gone.items ≡ ids)
 HasMovedWith id ids _ = ⊥
 
--- the stream has made its step, and is told with the streams of its plan that have gone on since; or no stream waits for the answer
+-- the stream has made its step, and is told with the streams of its plan that have gone on since; or no stream waits
+-- for the answer
 abbrev pub AnsweredOutcome : StreamId → ℕ → Bool → JournalState → DriverOutcome → JournalState → Type 0
 AnsweredOutcome id number is_reopening old (outcome.Moved stream gone) new =
     (is_expected is_reopening old.driver id number ≡ true) × HasTakenStep id old.driver new.driver × (stream ≡ id)
     × (gone.items ≡ gone_on (record_of new.driver) id.plan (sinces_of (record_of old.driver) id.plan))
 AnsweredOutcome id number is_reopening old (outcome.Declined why) new =
-    (is_expected is_reopening old.driver id number ≡ false) × (why ≡ decline.Ignored (why_ignored is_reopening old.driver id number)) × (new ≡ old)
+    (is_expected is_reopening old.driver id number ≡ false)
+    × (why ≡ decline.Ignored (why_ignored is_reopening old.driver id number)) × (new ≡ old)
 AnsweredOutcome id number is_reopening old _ new = ⊥
 
 -- ---- restarts
@@ -208,15 +220,18 @@ AgainOutcome server o at (outcome.Declined (decline.OtherServer given)) =
     (given ≡ at) × IfSome (given_at o.permits at) (λ (permit : GivenPermit). bytes_eq (string_bytes permit.server) server ≡ false)
 AgainOutcome server o at _ = ⊥
 
--- the restart of the server with this name is approved; one was approved under this name before; or none was, and none is
+-- the restart of the server with this name is approved; one was approved under this name before; or none was, and none
+-- is
 abbrev pub ApproveOutcome : List ℕ → List ℕ → Bool → JournalState → DriverOutcome → JournalState → Type 0
 ApproveOutcome name by is_reopening old (outcome.Approved server permit) new =
-    (is_reopening ≡ false) × (value_of old.approvals by ≡ None) × (server_named old.driver.machine.placement.setup name ≡ Some server)
+    (is_reopening ≡ false) × (value_of old.approvals by ≡ None)
+    × (server_named old.driver.machine.placement.setup name ≡ Some server)
     × (server < (record_of old.driver).sizes.servers) × HasApproved server permit old.driver new.driver
 ApproveOutcome name by is_reopening old (outcome.ApprovedBefore at) new =
     (value_of old.approvals by ≡ Some at) × AgainOutcome name old at (outcome.ApprovedBefore at) × (new ≡ old)
 ApproveOutcome name by is_reopening old (outcome.Declined (decline.OtherServer at)) new =
-    (value_of old.approvals by ≡ Some at) × AgainOutcome name old at (outcome.Declined (decline.OtherServer at)) × (new ≡ old)
+    (value_of old.approvals by ≡ Some at) × AgainOutcome name old at (outcome.Declined (decline.OtherServer at))
+    × (new ≡ old)
 ApproveOutcome name by is_reopening old (outcome.Declined why) new = (value_of old.approvals by ≡ None) × (new ≡ old)
 ApproveOutcome name by is_reopening old _ new = ⊥
 
@@ -224,7 +239,8 @@ ApproveOutcome name by is_reopening old _ new = ⊥
 abbrev pub is_down_under : List (Option ℕ) → ℕ → Bool
 is_down_under permits permit = list_any (λ given. is_permitted given permit) permits
 
--- why no restart ends by this permit while a reopening is under way: it has to wait, if a server is down under it; otherwise it has ended before
+-- why no restart ends by this permit while a reopening is under way: it has to wait, if a server is down under it;
+-- otherwise it has ended before
 abbrev pub why_not_ended : List (Option ℕ) → ℕ → Decline
 why_not_ended permits permit = if is_down_under permits permit then decline.Reopening else decline.Ignored ignored.Old
 
@@ -240,13 +256,16 @@ RestartedOutcome permit base is_reopening old _ new = ⊥
 -- the server with this name is restored; it was told under this nonce last; or it was not, and is not
 abbrev pub RestoreOutcome : List ℕ → ℕ → Bool → JournalState → DriverOutcome → JournalState → Type 0
 RestoreOutcome name nonce is_reopening old (outcome.Restored server under) new =
-    (is_reopening ≡ false) × (server_named old.driver.machine.placement.setup name ≡ Some server) × (is_told old server nonce ≡ false)
+    (is_reopening ≡ false) × (server_named old.driver.machine.placement.setup name ≡ Some server)
+    × (is_told old server nonce ≡ false)
     × HasRestored server nonce old.driver new.driver × (under ≡ nonce) × (server < (record_of new.driver).sizes.servers)
 RestoreOutcome name nonce is_reopening old (outcome.RestoredBefore server under) new =
-    (server_named old.driver.machine.placement.setup name ≡ Some server) × (is_told old server nonce ≡ true) × (under ≡ nonce)
+    (server_named old.driver.machine.placement.setup name ≡ Some server) × (is_told old server nonce ≡ true)
+    × (under ≡ nonce)
     × (server < (record_of new.driver).sizes.servers) × (new ≡ old)
 RestoreOutcome name nonce is_reopening old (outcome.Declined why) new =
-    IfSome (server_named old.driver.machine.placement.setup name) (λ server. is_told old server nonce ≡ false) × (new ≡ old)
+    IfSome (server_named old.driver.machine.placement.setup name) (λ server. is_told old server nonce ≡ false)
+    × (new ≡ old)
 RestoreOutcome name nonce is_reopening old _ new = ⊥
 
 -- ---- copies
@@ -264,7 +283,8 @@ IsNotNoted effect.AboveWant shard why = why ≡ decline.AboveWant shard
 -- these copies of the shard with this name are noted; or they are not: they are old, or more than the shard wants
 abbrev pub CopiedOutcome : List ℕ → ToldCopies → Bool → JournalState → DriverOutcome → JournalState → Type 0
 CopiedOutcome name told is_reopening old (outcome.Copied shard) new =
-    (is_reopening ≡ false) × (shard_named old.driver.machine.placement.setup name ≡ Some shard) × NotesTold shard told old.driver new.driver
+    (is_reopening ≡ false) × (shard_named old.driver.machine.placement.setup name ≡ Some shard)
+    × NotesTold shard told old.driver new.driver
 CopiedOutcome name told is_reopening old (outcome.Declined why) new =
     (new ≡ old) × IfSome (shard_named old.driver.machine.placement.setup name)
     (λ shard. IsNotNoted (copies_effect_now is_reopening old.driver shard told) shard why)

@@ -33,7 +33,8 @@ TellsMade setup (Err why) before after = after ≡ before ++ refused_member (sha
 
 -- A planner's reply: a plan of the kind that was asked for, or why there is none.
 pub data TellsPlanned (setup : Setup) (IsMade : PlanModel → Type 0) (IsNone : NoPlan → Type 0) (before after : List Token) : Type 0 where
-  Made : (plan : PlanModel) → IsMade plan → after ≡ before ++ plan_member setup plan → TellsPlanned setup IsMade IsNone before after
+  Made : (plan : PlanModel) → IsMade plan → after ≡ before ++ plan_member setup plan
+      → TellsPlanned setup IsMade IsNone before after
   NotMade : (why : NoPlan) → IsNone why → after ≡ before ++ refused_member (shared_refusal (no_plan_refusal setup why))
       → TellsPlanned setup IsMade IsNone before after
 

@@ -1,5 +1,6 @@
 -- Replies to questions.
-use Rattle.std.specs.Prelude.{◌≡◌, ℕ, Bool, true, false, List, [], ◌++◌, Option, Some, None, codes, if◌then◌else◌, is_some, nat_lt}
+use Rattle.std.specs.Prelude.{◌≡◌, ℕ, Bool, true, false, List, [], ◌++◌, Option, Some, None, codes, if◌then◌else◌}
+use Rattle.std.specs.Prelude.{is_some, nat_lt}
 use Rattle.json.specs.Token.{Token}
 use Rattle.json_tree.specs.View.{view}
 use Rattle.json_tree.specs.declared.tree.Tree.{Tree}
@@ -65,7 +66,8 @@ fences_left r =
 -- the reply to `orders` while a reopening is under way: what its parties have not answered, and no order and no notice
 abbrev pub orders_during : ReopeningModel → List Token
 orders_during r =
-    list_member (codes "orders") [] ++ fences_left r ++ settles_member (hexadecimal r.journal) r ++ list_member (codes "notice") []
+    list_member (codes "orders") [] ++ fences_left r ++ settles_member (hexadecimal r.journal) r
+    ++ list_member (codes "notice") []
 
 -- the reply to `orders`
 abbrev pub all_orders : Option JournalState → Option UnderWay → List Token
@@ -92,11 +94,13 @@ epoch_member None = name_member (codes "epoch") None
 
 -- the journal, its epoch, and how many commands have changed something
 abbrev pub place_members : Session → List Token
-place_members s = journal_member (present_journal s.opened s.under_way) ++ epoch_member s.opened ++ number_member (codes "place") s.place
+place_members s = journal_member (present_journal s.opened s.under_way) ++ epoch_member s.opened
+    ++ number_member (codes "place") s.place
 
 -- what the program is, and where its journal stands
 abbrev pub hello_members : Session → List Token
-hello_members s = text_member (codes "program") (codes "smpland") ++ number_member (codes "format") FORMAT ++ place_members s
+hello_members s = text_member (codes "program") (codes "smpland") ++ number_member (codes "format") FORMAT
+    ++ place_members s
 
 -- ---- journals
 
@@ -112,8 +116,10 @@ TellsOf None Tells before after = TellsRefused before after
 
 -- the reply to `failed`: what to do about the stream's order under this number; while a reopening is under way it is
 -- old
-abbrev pub TellsFailed : StreamId → ℕ → FailedAnswer → Option JournalState → Option UnderWay → List Token → List Token → Type 0
-TellsFailed id number answer opened (Some _) before after = after ≡ before ++ text_member (codes "ignored") (codes "old")
+abbrev pub TellsFailed : StreamId → ℕ → FailedAnswer → Option JournalState → Option UnderWay → List Token → List Token
+    → Type 0
+TellsFailed id number answer opened (Some _) before after = after
+    ≡ before ++ text_member (codes "ignored") (codes "old")
 TellsFailed id number answer (Some o) None before after = after ≡ before ++ failed_member o.driver id number answer
 TellsFailed id number answer None None before after = TellsRefused before after
 

@@ -49,23 +49,27 @@ DoesReopen line opened under reopen.Begun after =
 DoesReopen line opened under (reopen.NotBegun _) after = after ≡ under
 
 -- this has come of a line to the reopening under way; without one, each line is old
-abbrev pub DoesUnderWay : (ReopeningModel → ReopeningOutcome → ReopeningModel → Type 0) → Option UnderWay → ReopeningOutcome → Option UnderWay → Type 0
+abbrev pub DoesUnderWay : (ReopeningModel → ReopeningOutcome → ReopeningModel → Type 0) → Option UnderWay
+    → ReopeningOutcome → Option UnderWay → Type 0
 DoesUnderWay P (Some old) came (Some new) = P old.reopening came new.reopening
 DoesUnderWay P None came None = came ≡ outcome.Old
 DoesUnderWay P _ came _ = ⊥
 
 -- An answer to a settle, from the party that the line names: with the last one what was settled is in force. Any other
 -- leaves the journal as it is.
-abbrev pub DoesSettle : Option (Bor (List ℕ)) → ℕ → Option JournalState → Option UnderWay → ReopeningOutcome → Option JournalState → Option UnderWay → Type 0
+abbrev pub DoesSettle : Option (Bor (List ℕ)) → ℕ → Option JournalState → Option UnderWay → ReopeningOutcome
+    → Option JournalState → Option UnderWay → Type 0
 DoesSettle server base opened under outcome.Complete new after = ComesInForceBy (TakesSettledBy server base) under after new
-DoesSettle server base opened under came new after = DoesUnderWay (DoesSettled server base) under came after × (new ≡ opened)
+DoesSettle server base opened under came new after = DoesUnderWay (DoesSettled server base) under came after
+    × (new ≡ opened)
 
 -- ---- replies
 
 -- the reply that tells why no reopening has begun
 abbrev pub TellsNotBegun : NotBegun → List Token → List Token → Type 0
 TellsNotBegun (not_begun.Malformed fault) before after = after ≡ before ++ told_bad (bad.Within member.Document fault)
-TellsNotBegun (not_begun.UnknownLost name) before after = after ≡ before ++ refused_member (unknown_server (string_bytes name))
+TellsNotBegun (not_begun.UnknownLost name) before after = after
+    ≡ before ++ refused_member (unknown_server (string_bytes name))
 TellsNotBegun _ before after = TellsRefused before after
 
 -- the reply to a line that asks for a reopening: the fences of the one that has begun, or why none has

@@ -66,7 +66,8 @@ TellsPermit server old new before after =
 -- the same of the server with this name
 abbrev pub TellsApproved : List ℕ → DriverModel → DriverModel → List Token → List Token → Type 0
 TellsApproved name old new before after =
-    (server : ℕ) × (server_named old.machine.placement.setup name ≡ Some server) × TellsPermit server old new before after
+    (server : ℕ) × (server_named old.machine.placement.setup name ≡ Some server)
+    × TellsPermit server old new before after
 
 -- the restart that has this permit has ended, of a server with this base, and it is told which is up
 abbrev pub TellsUp : ℕ → Option ℕ → DriverModel → DriverModel → List Token → List Token → Type 0
@@ -77,7 +78,8 @@ TellsUp permit base old new before after =
 -- the server with this name was restored under this nonce, and is told what the driver keeps for it
 abbrev pub TellsRestored : List ℕ → ℕ → DriverModel → DriverModel → List Token → List Token → Type 0
 TellsRestored name nonce old new before after =
-    (server : ℕ) × (server_named old.machine.placement.setup name ≡ Some server) × HasRestored server nonce old new × TellsKept new server before after
+    (server : ℕ) × (server_named old.machine.placement.setup name ≡ Some server) × HasRestored server nonce old new
+    × TellsKept new server before after
 
 -- these copies of the shard with this name were noted, and it is told what is noted of it now
 abbrev pub TellsCopied : List ℕ → ToldCopies → DriverModel → DriverModel → List Token → List Token → Type 0
@@ -119,8 +121,11 @@ TellsFences None before after = ⊥
 -- a confirmation the settles, and an answer to a settle who has not taken its own.
 pub data TellsOn (old new : ReopeningModel) (before after : List Token) : Type 0 where
   Fenced : TakesTold old new → TellsAwaited new before after → TellsOn old new before after
-  Confirmed : TakesConfirm old new → after ≡ before ++ settles_member (hexadecimal new.journal) new → TellsOn old new before after
-  Settled : TakesSettled old new → after ≡ before ++ waiting_member new.numbering (unsettled_parties (net_reopening new.ongoing)) → TellsOn old new before after
+  Confirmed : TakesConfirm old new → after ≡ before ++ settles_member (hexadecimal new.journal) new
+      → TellsOn old new before after
+  Settled : TakesSettled old new → after
+      ≡ before ++ waiting_member new.numbering (unsettled_parties (net_reopening new.ongoing))
+      → TellsOn old new before after
 
 -- the reopening under way has gone on, and that is told
 abbrev pub TellsGoneOn : Option UnderWay → Option UnderWay → List Token → List Token → Type 0
@@ -129,13 +134,17 @@ TellsGoneOn old new before after = ⊥
 
 -- The reply to a line on a reopening that changed something.
 pub data TellsReopening (opened : Option JournalState) (under : Option UnderWay) (new : Option JournalState) (after_it : Option UnderWay) (before after : List Token) : Type 0 where
-  Reopens : HasReopened opened under after_it → TellsFences after_it before after → TellsReopening opened under new after_it before after
+  Reopens : HasReopened opened under after_it → TellsFences after_it before after
+      → TellsReopening opened under new after_it before after
   Follows : TellsGoneOn under after_it before after → TellsReopening opened under new after_it before after
-  Opens : ComesInForce under after_it new → TellsOpened new before after → TellsReopening opened under new after_it before after
+  Opens : ComesInForce under after_it new → TellsOpened new before after
+      → TellsReopening opened under new after_it before after
 
 -- The reply to a command that changed something.
-abbrev pub TellsChanges : LineCommand → Option JournalState → Option UnderWay → Option JournalState → Option UnderWay → List Token → List Token → Type 0
-TellsChanges (line.Open _ _ _) opened under new after_it before after = (under ≡ None) × (after_it ≡ None) × TellsOpened new before after
+abbrev pub TellsChanges : LineCommand → Option JournalState → Option UnderWay → Option JournalState → Option UnderWay
+    → List Token → List Token → Type 0
+TellsChanges (line.Open _ _ _) opened under new after_it before after = (under ≡ None) × (after_it ≡ None)
+    × TellsOpened new before after
 TellsChanges (line.Driver command) opened under new after_it before after =
     (under ≡ None) × (after_it ≡ None) × TellsDriven command opened new before after
 TellsChanges (line.Reopening _) opened under new after_it before after = TellsReopening opened under new after_it before after
@@ -148,12 +157,14 @@ SessionTells command old new before after = TellsChanges command old.opened old.
 -- a value says a command that is known, the session has done it, and behind the value's id the reply tells that it has
 abbrev pub TellsValue : Data → Session → Session → List Token → List Token → Type 0
 TellsValue value old new before after =
-    (command : LineCommand) × Says value command × IsKnownOver (setup_in_force old) command × DoesToSession command old new
+    (command : LineCommand) × Says value command × IsKnownOver (setup_in_force old) command
+    × DoesToSession command old new
     × SessionTells command old new (before ++ line_id value) after
 
 -- so does the JSON value of a line
 abbrev pub TellsLine : List ℕ → Session → Session → List Token → List Token → Type 0
-TellsLine text old new before after = (value : Data) × (data_of text ≡ Some value) × TellsValue value old new before after
+TellsLine text old new before after = (value : Data) × (data_of text ≡ Some value)
+    × TellsValue value old new before after
 
 -- A text replies to a line: that of some tokens in braces, which need not make an object. They answer the line, and if
 -- it has changed something, they tell that.

@@ -1,7 +1,8 @@
 -- Answers to lines, whether they change something or not: a command that comes again is told what it was told, an
 -- answer that no stream waits for is ignored, so are copies that are not noted, a question is told what it asks, and a
 -- line that is no command is told as bad.
-use Rattle.std.specs.Prelude.{◌≡◌, ◌<◌, ◌⊎◌, ℕ, Bool, true, false, List, ◌++◌, Some, None, IfSome, bytes_eq, codes, is_some, length, not, string_bytes}
+use Rattle.std.specs.Prelude.{◌≡◌, ◌<◌, ◌⊎◌, ℕ, Bool, true, false, List, ◌++◌, Some, None, IfSome, bytes_eq, codes}
+use Rattle.std.specs.Prelude.{is_some, length, not, string_bytes}
 use Rattle.json.specs.Token.{Token}
 use Rattle.serde_json.specs.Data.{Data}
 use Rattle.serde_json.specs.Find.{as_object}
@@ -109,14 +110,18 @@ Answers _ s before after = Unit {0}
 -- An object is told as bad, or answered as the known command that it says.
 pub data AnswersObject (value : Data) (s : Session) (before after : List Token) : Type 0 where
   IsBad : (fault : BadLine) → after ≡ before ++ told_bad fault → AnswersObject value s before after
-  IsCommand : (command : LineCommand) → Says value command → IsKnownOver (setup_in_force s) command → Answers command s before after
+  IsCommand : (command : LineCommand) → Says value command → IsKnownOver (setup_in_force s) command
+      → Answers command s before after
       → AnswersObject value s before after
 
 -- The reply tells that a line is bad if it is too long, is no JSON on one line, or has a value that is no object.
 -- Otherwise it answers the line behind its id.
 pub data AnswersLine (text : List ℕ) (s : Session) (before after : List Token) : Type 0 where
   TooLong : MOST_BYTES < length text → after ≡ before ++ told_bad bad.TooLong → AnswersLine text s before after
-  NotJson : (data_of text ≡ None) ⊎ (IsObject text → ⊥) → after ≡ before ++ told_bad bad.NotJson → AnswersLine text s before after
-  NoObject : (value : Data) → data_of text ≡ Some value → as_object value ≡ None → after ≡ before ++ told_bad (bad.Malformed Line)
+  NotJson : (data_of text ≡ None) ⊎ (IsObject text → ⊥) → after ≡ before ++ told_bad bad.NotJson
       → AnswersLine text s before after
-  Object : (value : Data) → data_of text ≡ Some value → AnswersObject value s (before ++ line_id value) after → AnswersLine text s before after
+  NoObject : (value : Data) → data_of text ≡ Some value → as_object value ≡ None
+      → after ≡ before ++ told_bad (bad.Malformed Line)
+      → AnswersLine text s before after
+  Object : (value : Data) → data_of text ≡ Some value → AnswersObject value s (before ++ line_id value) after
+      → AnswersLine text s before after

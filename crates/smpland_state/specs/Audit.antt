@@ -1,5 +1,7 @@
 -- Replies to `audit`: what a server tells of its slots, against what is recorded.
-use Rattle.std.specs.Prelude.{◌==◌, ◌+◌, ◌&&◌, ◌||◌, ℕ, Bool, true, false, List, [], ◌∷◌, ◌++◌, Option, Some, None, codes, is_some, length, map, nat_le, nat_lt, not, option_and_then, slice_index_or, unwrap_or, if◌then◌else◌}
+use Rattle.std.specs.Prelude.{◌==◌, ◌+◌, ◌&&◌, ◌||◌, ℕ, Bool, true, false, List, [], ◌∷◌, ◌++◌, Option, Some, None}
+use Rattle.std.specs.Prelude.{codes, is_some, length, map, nat_le, nat_lt, not, option_and_then, slice_index_or}
+use Rattle.std.specs.Prelude.{unwrap_or, if◌then◌else◌}
 use Rattle.std.specs.List.{filter, flat_map, list_any, range_with_len}
 use Rattle.std.specs.Option.{option_map_or, option_or}
 use Rattle.json.specs.Token.{Token}
@@ -13,7 +15,8 @@ use Rattle.laws_network.specs.Net.{Order, cell_above, order_of}
 use Rattle.sm_driver.specs.Driver.{DriverModel, base, record_of}
 use Rattle.sm_driver.specs.Orders.{awaiting_of}
 use Rattle.smpland_lines.specs.BadLines.{told_bad}
-use Rattle.smpland_lines.specs.Members.{list_member, name_member, number_member, object, object_member, shard_text, text_member}
+use Rattle.smpland_lines.specs.Members.{list_member, name_member, number_member, object, object_member, shard_text}
+use Rattle.smpland_lines.specs.Members.{text_member}
 use Rattle.smpland_lines.specs.Slots.{cell_word}
 use Rattle.smpland_lines.specs.declared.bad_line.BadLine.TheVariants as bad
 use Rattle.smpland_lines.specs.declared.command_member.CommandMember.TheVariants as at
@@ -220,7 +223,8 @@ compared_member d name v told shards unknown_shards =
     else differs_member d name v told shards unknown_shards
 
 -- what is found of a server, by the two sides of each shard and the unknown shards
-abbrev pub audit_found : JournalState → List ℕ → ℕ → ℕ → List (Option SlotText) → List (Option StreamId) → List SlotText → List Token
+abbrev pub audit_found : JournalState → List ℕ → ℕ → ℕ → List (Option SlotText) → List (Option StreamId)
+    → List SlotText → List Token
 audit_found o name v place told streams unknown_shards =
     if has_ahead o.driver told streams unknown_shards then audited_member name (codes "ahead")
     else compared_member o.driver name v told (differing o v place told streams) unknown_shards

@@ -25,7 +25,8 @@ word_of_call (PrepareDrop new_owner number) = codes "prepare_drop"
 
 -- the other server of a handover, and its number
 abbrev pub handover_members : Setup → List ℕ → ℕ → ℕ → List Token
-handover_members setup end other number = text_member end (server_text setup other) ++ number_member (codes "handover") number
+handover_members setup end other number = text_member end (server_text setup other)
+    ++ number_member (codes "handover") number
 
 -- the roles of a change
 abbrev pub change_members : Role → Role → List Token

@@ -7,7 +7,8 @@ use Rattle.smpland_lines.specs.Members.{number_member, object_member, shard_text
 
 -- a shard, and how many of its replicas surely have each acknowledged write
 abbrev pub copied_members : DriverModel → ℕ → List Token
-copied_members d s = text_member (codes "shard") (shard_text d.machine.placement.setup s) ++ number_member (codes "copies") (copies_of d s)
+copied_members d s = text_member (codes "shard") (shard_text d.machine.placement.setup s)
+    ++ number_member (codes "copies") (copies_of d s)
 
 -- the same as a member
 abbrev pub copied_member : DriverModel → ℕ → List Token

@@ -33,7 +33,8 @@ of_servers o None text = flat_map text (range_with_len 0 (length o.driver.machin
 
 -- who is down, and under which names that was approved: of this server alone, or of all
 abbrev pub down_members : JournalState → Option ℕ → List Token
-down_members o server = list_member (codes "down") (of_servers o server (down_text o)) ++ list_member (codes "by") (of_servers o server (by_text o))
+down_members o server = list_member (codes "down") (of_servers o server (down_text o))
+    ++ list_member (codes "by") (of_servers o server (by_text o))
 
 -- a restart is denied since servers are down
 abbrev pub denied_by_down : JournalState → Option ℕ → RefusalModel → RefusedLine

@@ -1,5 +1,6 @@
 -- The service as a document.
-use Rattle.std.specs.Prelude.{ℕ, Bool, List, [], ◌∷◌, ◌++◌, Option, Some, None, codes, is_some, length, option_map, slice_index_or, if◌then◌else◌}
+use Rattle.std.specs.Prelude.{ℕ, Bool, List, [], ◌∷◌, ◌++◌, Option, Some, None, codes, is_some, length, option_map}
+use Rattle.std.specs.Prelude.{slice_index_or, if◌then◌else◌}
 use Rattle.std.specs.List.{flat_map, range_with_len}
 use Rattle.std.specs.Option.{option_map_or}
 use Rattle.json.specs.Token.{Token, boolean, key}
@@ -10,7 +11,8 @@ use Rattle.sm_placement.specs.Place.{Place}
 use Rattle.sm_placement.specs.Setup.{ServerRow, Setup, ShardRow, no_server, no_shard}
 use Rattle.sm_driver.specs.Driver.{record_of}
 use Rattle.sm_driver.specs.Permits.{permit_of}
-use Rattle.smpland_lines.specs.Members.{list_member, name_member, number_member, object, object_member, server_text, text_member}
+use Rattle.smpland_lines.specs.Members.{list_member, name_member, number_member, object, object_member, server_text}
+use Rattle.smpland_lines.specs.Members.{text_member}
 use Rattle.smpland_state.specs.declared.journal_state.JournalState.{JournalState}
 use Rattle.smpland_state.specs.Messages.{owner_under}
 use Rattle.smpland_state.specs.Unserved.{is_owner}

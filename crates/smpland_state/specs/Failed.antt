@@ -35,7 +35,8 @@ nonce_members None = []
 
 -- what an order that failed points to, what is to be done then, and under which nonce
 abbrev pub cause_members : List ℕ → List ℕ → Option ℕ → List Token
-cause_members cause what nonce = text_member (codes "cause") cause ++ text_member (codes "then") what ++ nonce_members nonce
+cause_members cause what nonce = text_member (codes "cause") cause ++ text_member (codes "then") what
+    ++ nonce_members nonce
 
 -- the server has lost its slots: it takes those of its restore, if it had one in this epoch
 abbrev pub unknown_members : Option ℕ → List Token

@@ -1,5 +1,6 @@
 -- Permits that were given under names.
-use Rattle.std.specs.Prelude.{◌≡◌, ◌==◌, ◌∷◌, ◌++◌, ℕ, List, [], Option, find, if◌then◌else◌, length, option_map, slice_get, string_bytes}
+use Rattle.std.specs.Prelude.{◌≡◌, ◌==◌, ◌∷◌, ◌++◌, ℕ, List, [], Option, find, if◌then◌else◌, length, option_map}
+use Rattle.std.specs.Prelude.{slice_get, string_bytes}
 use Rattle.std.specs.Option.{option_or}
 use Rattle.smpland_state.specs.declared.given_permits.GivenAt.{GivenAt}
 use Rattle.smpland_state.specs.declared.given_permits.GivenPermit.{GivenPermit}

@@ -1,5 +1,6 @@
 -- The places at which things came up, as a journal notes them. A place counts the commands that have changed something.
-use Rattle.std.specs.Prelude.{◌==◌, ◌&&◌, ◌∷◌, ◌++◌, ℕ, Bool, List, [], Option, Some, None, nat_lt, replicate, slice_get, slice_index_or, slice_set, unwrap_or}
+use Rattle.std.specs.Prelude.{◌==◌, ◌&&◌, ◌∷◌, ◌++◌, ℕ, Bool, List, [], Option, Some, None, nat_lt, replicate}
+use Rattle.std.specs.Prelude.{slice_get, slice_index_or, slice_set, unwrap_or}
 use Rattle.indexmap.specs.IndexMap.{insert_entry}
 use Rattle.std.specs.List.{filter}
 use Rattle.std.specs.Map.{lookup}

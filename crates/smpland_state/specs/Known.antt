@@ -1,5 +1,6 @@
 -- Servers that are known, and the others: they may be Unknown, and a plan that calls one is not begun.
-use Rattle.std.specs.Prelude.{ℕ, ◌||◌, Bool, false, List, [], ◌∷◌, Option, None, codes, if◌then◌else◌, is_some, length, nat_lt, not, option_and_then}
+use Rattle.std.specs.Prelude.{ℕ, ◌||◌, Bool, false, List, [], ◌∷◌, Option, None, codes, if◌then◌else◌, is_some, length}
+use Rattle.std.specs.Prelude.{nat_lt, not, option_and_then}
 use Rattle.std.specs.List.{find, flat_map, list_any, range_with_len}
 use Rattle.std.specs.Option.{option_map_or}
 use Rattle.json.specs.Token.{Token, string}

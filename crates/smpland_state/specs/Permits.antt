@@ -1,4 +1,5 @@
--- Permits of restarts in replies, and the reply to an opening, which has those of the servers that are down, and names those that are not known.
+-- Permits of restarts in replies, and the reply to an opening, which has those of the servers that are down, and names
+-- those that are not known.
 use Rattle.std.specs.Prelude.{ℕ, List, [], ◌++◌, Option, Some, None, codes, length, option_and_then, if◌then◌else◌}
 use Rattle.std.specs.List.{flat_map, range_with_len}
 use Rattle.std.specs.Option.{option_map_or}
@@ -23,7 +24,8 @@ permit_member word server permit = object_member word (permit_members server per
 -- a server whose restart is approved: its permit, and the shards that nobody serves meanwhile
 abbrev pub approved_members : DriverModel → ℕ → ℕ → List Token
 approved_members d v permit =
-    permit_members (server_text d.machine.placement.setup v) permit ++ unserved_member d.machine.placement.setup (record_of d).place v
+    permit_members (server_text d.machine.placement.setup v) permit
+    ++ unserved_member d.machine.placement.setup (record_of d).place v
 
 -- the same as a member
 abbrev pub approved_member : DriverModel → ℕ → ℕ → List Token
@@ -54,7 +56,8 @@ permits_member d = list_member (codes "permits") (flat_map (permit_text d) (rang
 -- the journal is open in an epoch, with these permits, and with these servers to restore
 abbrev pub opened_members : DriverModel → List Token
 opened_members d =
-    bits_member (codes "journal") d.journal ++ number_member (codes "epoch") d.epoch ++ permits_member d ++ unknown_member d
+    bits_member (codes "journal") d.journal ++ number_member (codes "epoch") d.epoch ++ permits_member d
+    ++ unknown_member d
 
 -- the same as a member
 abbrev pub opened_member : DriverModel → List Token

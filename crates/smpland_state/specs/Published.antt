@@ -5,7 +5,8 @@ use Rattle.json.specs.Token.{Token}
 use Rattle.sm_placement.specs.Setup.{Setup}
 use Rattle.sm_placement.specs.declared.entry.Entry.{Entry}
 use Rattle.sm_driver.specs.Driver.{DriverModel, base, record_of}
-use Rattle.smpland_lines.specs.Members.{list_member, name_member, number_member, object, server_text, shard_text, text_member}
+use Rattle.smpland_lines.specs.Members.{list_member, name_member, number_member, object, server_text, shard_text}
+use Rattle.smpland_lines.specs.Members.{text_member}
 
 -- the entry of a shard that is recorded, with the base added to its version
 abbrev pub recorded_entry : DriverModel → ℕ → Entry

@@ -1,5 +1,6 @@
 -- Which streams a reply tells the messages of.
-use Rattle.std.specs.Prelude.{ℕ, Bool, true, ◌==◌, List, [], ◌∷◌, ◌++◌, Option, Some, None, codes, decimal, map, not, slice_get, if◌then◌else◌}
+use Rattle.std.specs.Prelude.{ℕ, Bool, true, ◌==◌, List, [], ◌∷◌, ◌++◌, Option, Some, None, codes, decimal, map, not}
+use Rattle.std.specs.Prelude.{slice_get, if◌then◌else◌}
 use Rattle.std.specs.List.{filter, list_any, range_with_len}
 use Rattle.json.specs.Token.{Token, number}
 use Rattle.sm_reservation.specs.declared.stream_id.StreamId.{StreamId}
@@ -49,7 +50,8 @@ position_of w id = if is_begun w id then (progress_of w id).at else 0
 -- which stream has made its step, and where it stands
 abbrev pub step_members : State → StreamId → List Token
 step_members w id =
-    number_member (codes "plan") id.plan ++ number_member (codes "stream") id.stream ++ number_member (codes "at") (position_of w id)
+    number_member (codes "plan") id.plan ++ number_member (codes "stream") id.stream
+    ++ number_member (codes "at") (position_of w id)
 
 -- the same as a member
 abbrev pub moved_member : State → StreamId → List Token

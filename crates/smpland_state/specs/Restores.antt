@@ -1,7 +1,8 @@
 -- Replies to servers that have lost all they had.
 -- `last_told`, `told_to`, `told_in_epoch`, `was_told` and `latest_told` are internal: you need not read them for the
 -- public contracts.
-use Rattle.std.specs.Prelude.{◌≡◌, ◌==◌, ◌&&◌, ℕ, List, [], ◌∷◌, ◌++◌, Bool, IfSome, Option, Some, None, bytes_eq, codes, if◌then◌else◌, is_some, length, not, option_map}
+use Rattle.std.specs.Prelude.{◌≡◌, ◌==◌, ◌&&◌, ℕ, List, [], ◌∷◌, ◌++◌, Bool, IfSome, Option, Some, None, bytes_eq}
+use Rattle.std.specs.Prelude.{codes, if◌then◌else◌, is_some, length, not, option_map}
 use Rattle.std.specs.List.{filter, find, flat_map, list_any, range_with_len}
 use Rattle.std.specs.Option.{option_map_or}
 use Rattle.json.specs.Token.{Token, key}

@@ -40,7 +40,8 @@ ended_since h place = list_member (codes "ended") (ended_later h place)
 
 -- the messages and the entries that came up after a place, and the plans that ended after it
 abbrev pub changes_since : JournalState → Bool → ℕ → List Token
-changes_since o is_reopening place = orders_since o is_reopening place ++ published_since o place ++ ended_since o.history place
+changes_since o is_reopening place = orders_since o is_reopening place ++ published_since o place
+    ++ ended_since o.history place
 
 -- the same, or that the place is still to come
 abbrev pub changes_or_later : JournalState → Bool → ℕ → ℕ → List Token

@@ -1,5 +1,6 @@
 -- Replies to `state`: what is recorded of servers, shards and plans.
-use Rattle.std.specs.Prelude.{◌≡◌, ℕ, ◌+◌, ◌-◌, ◌==◌, Bool, true, false, List, [], ◌∷◌, ◌++◌, Option, Some, None, codes, length, min, nat_lt, option_map, slice_get, slice_index_or, if◌then◌else◌}
+use Rattle.std.specs.Prelude.{◌≡◌, ℕ, ◌+◌, ◌-◌, ◌==◌, Bool, true, false, List, [], ◌∷◌, ◌++◌, Option, Some, None, codes}
+use Rattle.std.specs.Prelude.{length, min, nat_lt, option_map, slice_get, slice_index_or, if◌then◌else◌}
 use Rattle.std.specs.List.{flat_map, list_any, range_with_len}
 use Rattle.std.specs.Option.{option_map_or}
 use Rattle.json.specs.Token.{Token, key}
@@ -16,7 +17,8 @@ use Rattle.sm_driver.specs.Driver.{DriverModel, base, order_number, record_of}
 use Rattle.sm_driver.specs.Orders.{message_of}
 use Rattle.sm_driver.specs.Permits.{permit_of}
 use Rattle.smpland_lines.specs.BadLines.{told_bad}
-use Rattle.smpland_lines.specs.Members.{list_member, name_member, number_member, object, object_member, server_text, shard_text, text_member}
+use Rattle.smpland_lines.specs.Members.{list_member, name_member, number_member, object, object_member, server_text}
+use Rattle.smpland_lines.specs.Members.{shard_text, text_member}
 use Rattle.smpland_lines.specs.Refusals.{TellsRefused}
 use Rattle.smpland_lines.specs.declared.bad_line.BadLine.TheVariants as bad
 use Rattle.smpland_lines.specs.declared.command_member.CommandMember.TheVariants as at
@@ -57,7 +59,8 @@ shard_head d s live entry =
 
 -- these, and what all servers have of it
 abbrev pub shard_state_members : DriverModel → ℕ → List Token
-shard_state_members d s = shard_head d s (live_at (record_of d).sizes (record_of d).place s) (recorded_entry d s) ++ cell_rows d s
+shard_state_members d s = shard_head d s (live_at (record_of d).sizes (record_of d).place s) (recorded_entry d s)
+    ++ cell_rows d s
 
 -- the same as an object
 abbrev pub shard_state : DriverModel → ℕ → List Token
