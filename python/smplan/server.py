@@ -17,7 +17,7 @@ from typing import Any, Callable, Dict, List, Optional, Sequence
 from .access import read_certificate, read_token
 from .failure import Failure
 from .server_aside import Aside
-from .server_copied import Copied
+from .server_copied import TOO_FEW, Copied, copies_of
 from .server_http import Caller, listen
 from .server_leave import Leaves
 from .server_offers import Offers
@@ -53,6 +53,8 @@ class Server:
 
     def __init__(self, name: str, service: Service, storage: Storage, controllers: Sequence[str], is_new: bool = False, token: Optional[str] = None,
                  limits: Limits = Limits(), tls: Optional[ssl.SSLContext] = None, forgets: bool = False, copies: int = 1) -> None:
+        if copies < 1:
+            raise Failure(TOO_FEW)
         self.name, self.service, self.storage, self.controllers, self.limits = name, service, storage, list(controllers), limits
         self.token, self.tls, self.copies = token, tls, copies
         self.changed, self.pool, self.beside = threading.Condition(), ThreadPoolExecutor(64), ThreadPoolExecutor(16)
@@ -223,7 +225,7 @@ def main(service: Service, text: str) -> None:
     once = parser.add_mutually_exclusive_group()
     once.add_argument("--new", action="store_true", help="the service is new, and no shard has data yet")
     once.add_argument("--forget", action="store_true", help="the server was given up: it is to be added again, and asks for its slots anew")
-    parser.add_argument("--copies", type=int, default=1, metavar="N", help="acknowledge only what N servers have, the same at all servers of the service (1)")
+    parser.add_argument("--copies", type=copies_of, default=1, metavar="N", help="acknowledge only what N servers have, the same at all servers of the service (1)")
     parser.add_argument("--token", metavar="FILE", help="the controller's token: all but clients have to show it")
     parser.add_argument("--tls", nargs=2, metavar=("CERT", "KEY"), help="serve by TLS, at an address with https")
     told = parser.parse_args()

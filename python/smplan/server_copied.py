@@ -1,7 +1,9 @@
 """What a server tells the controllers of the copies of its shards: a reopening counts by it, and names fewer shards as lost."""
 from __future__ import annotations
 
+import argparse
 import sys
+import time
 from typing import TYPE_CHECKING, Any, Callable, Dict, List, Optional, Protocol
 
 from .agent import Cell
@@ -12,6 +14,22 @@ if TYPE_CHECKING:
 
 Line = Dict[str, Any]
 
+# What is said where a write would be at fewer servers.
+TOO_FEW = "--copies: a write is at one server at least"
+
+# For how long a controller may be silent, in seconds.
+PATIENCE = 10.0
+
+# For how long it rests while a controller does not take all, in seconds: twice as long each time.
+SHORTEST, LONGEST = 0.5, 30.0
+
+
+def copies_of(text: str) -> int:
+    """How many servers are to have each write, as a command line says."""
+    if not text.isascii() or not text.isdigit() or int(text) < 1:
+        raise argparse.ArgumentTypeError(f"{text}: {TOO_FEW.partition(': ')[2]}")
+    return int(text)
+
 
 class Teller(Protocol):
     """A server that tells its controllers something."""
@@ -21,57 +39,90 @@ class Teller(Protocol):
     call: Callable[[str, Optional[Line], float], Any]
 
 
-def line_of(journal: int, fence: int, shard: str, copies: int) -> Line:
-    """The line that tells how many servers have each acknowledged write of a shard, since a reopening at which the server was settled that says so."""
-    return {"do": "copied", "journal": f"{journal:x}", "fence": fence, "shard": shard, "copies": copies}
+class Recorded:
+    """What the controllers have recorded of copies. One line asks for it, of however many shards, and one more tells of each shard of which they know
+    of fewer."""
 
+    def __init__(self, server: Teller) -> None:
+        self.server, self.when, self.rest, self.until = server, (0, 0), 0.0, 0.0
 
-def is_told(server: Teller, line: Line, seconds: float) -> bool:
-    """Tells the controllers. Whether one that leads has answered; what is refused is said in the log."""
-    for controller in server.controllers:
-        try:
-            said: Line = server.call(f"{controller}/do", line, seconds)
-        except (OSError, ValueError):
-            continue  # (it is not there, or does not lead)
-        if "refused" in said:
-            print(f"{server.name}: {line['copies']} copies of {line['shard']} are not counted: {said['refused']}", file=sys.stderr, flush=True)
-        if {"copied", "ignored", "refused"} & set(said):
-            return True
-    return False
+    def take(self, journal: int, fence: int, copies: Dict[str, int]) -> List[str]:
+        """Tells of shards, each with its number of copies, under the last reopening at which the server was settled. Returns those of which there is
+        nothing more to be said under it. While others remain, as during a reopening, it rests ever longer."""
+        if self.when != (journal, fence):
+            self.when, self.rest, self.until = (journal, fence), 0.0, 0.0
+        if not copies or time.monotonic() < self.until:
+            return []
+        known = self.known(journal, fence)
+        done = [] if known is None else self.tell(journal, fence, copies, known)
+        self.rest = 0.0 if len(done) == len(copies) else min(max(2 * self.rest, SHORTEST), LONGEST)
+        self.until = time.monotonic() + self.rest
+        return done
+
+    def known(self, journal: int, fence: int) -> Optional[Dict[str, int]]:
+        """By shard how many copies a controller knows of since this reopening; none if nobody answers where it is the last one, and has ended."""
+        for controller in self.server.controllers:
+            try:
+                state = self.server.call(f"{controller}/ask", {"do": "state"}, PATIENCE)["state"]
+                if state["is"] == "open" and (int(state["journal"], 16), state["fence"]) == (journal, fence):
+                    return {it["shard"]: it["copies"] for it in state["shards"]}
+            except (OSError, ValueError, LookupError, TypeError):
+                continue  # (it is not there)
+        return None
+
+    def tell(self, journal: int, fence: int, copies: Dict[str, int], known: Dict[str, int]) -> List[str]:
+        """Tells of those shards of which fewer copies are known. Which are known then, or refused. (The reopening decides that, too.)"""
+        done = []
+        for shard, number in copies.items():
+            said: Optional[Line] = {"copied": {}}
+            if known.get(shard, number) < number:
+                said = self.say({"do": "copied", "journal": f"{journal:x}", "fence": fence, "shard": shard, "copies": number})
+            if said is None:
+                break
+            if "refused" in said:
+                print(f"{self.server.name}: {number} copies of {shard} are not counted: {said['refused']}", file=sys.stderr, flush=True)
+            if {"copied", "refused"} & set(said):
+                done.append(shard)
+        return done
+
+    def say(self, line: Line) -> Optional[Line]:
+        """What the controller replies that leads; none if nobody does."""
+        for controller in self.server.controllers:
+            try:
+                said: Line = self.server.call(f"{controller}/do", line, PATIENCE)
+            except (OSError, ValueError):
+                continue  # (it is not there, or does not lead)
+            if {"copied", "ignored", "refused"} & set(said):
+                return said
+        return None
 
 
 class Copied:
-    """How many servers have each acknowledged write of the shards that this one leads, told once for each reopening, and once it leads anew."""
+    """How many servers have each acknowledged write of the shards that this one leads, told until a controller knows it: anew behind each reopening, and
+    once it leads anew."""
 
     def __init__(self, server: "Server") -> None:
-        self.server = server
+        self.server, self.recorded = server, Recorded(server)
 
     def tell(self) -> None:
-        """Tells of each shard that it leads, and that is not told yet, as soon as enough servers have all that is here."""
-        if self.server.copies < 2:
-            return
+        """Tells of each shard that it leads, as soon as enough servers have all that was here when it began to."""
         with self.server.storage.transaction() as tx:
             it = Records(tx)
-            base, fence = it.base(), it.heard()
+            base, (settled, copies) = it.base(), it.counting()
             led = {shard: it.mark(shard).position for shard, slot in it.slots().items() if slot.cell == Cell.PRIMARY}
-        if not base.known or base.fenced:
-            return
-        for shard, place in led.items():
+            if copies < 2 or not base.known or base.fenced:
+                return
+            with self.server.changed:
+                terms = {shard: self.server.live(shard).term for shard, place in led.items() if self.has_enough(shard, place, (settled, copies))}
+        for shard in self.recorded.take(base.journal, settled, {it: copies for it in terms}):
             with self.server.changed:
                 live = self.server.live(shard)
-                is_to_tell, term = live.told != fence, live.term
-            if is_to_tell:
-                self.server.beside.submit(self.tell_one, line_of(base.journal, fence, shard, self.server.copies), place, term)
+                if live.term == terms[shard]:
+                    live.told = settled
 
-    def tell_one(self, line: Line, place: int, term: int) -> None:
-        """Tells of one shard, if enough servers have the writes up to a place while the term lasts."""
-        live = self.server.live(line["shard"])
-        if not self.server.streams.replicate(line["shard"], place, term):
-            return
-        with self.server.changed:
-            live.is_copied = live.is_copied or live.term == term
-        if not is_told(self.server, line, self.server.limits.peer):
-            return
-        with self.server.changed:
-            if live.term == term:
-                live.told = line["fence"]
+    def has_enough(self, shard: str, place: int, counting: Any) -> bool:
+        """Whether enough servers have a shard up to the place where its list ended when it was looked at first, and no controller is known to know.
+        `changed` is held."""
+        live = self.server.live(shard)
+        live.noted = place if live.noted is None else live.noted
+        return live.told != counting[0] and self.server.streams.are_enough(live, live.noted, counting)

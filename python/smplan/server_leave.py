@@ -33,7 +33,7 @@ class Leaves:
         shard, number = line["shard"], line["from"]
         with self.server.storage.transaction() as tx:
             it = Records(tx)
-            base, slot, mark = it.base(), it.slot(shard), it.mark(shard)
+            base, slot, mark, copies = it.base(), it.slot(shard), it.mark(shard), it.counting()[1]
             if not base.known or base.fenced or int(line["journal"], 16) != base.journal or it.heard() != line["heard"]:
                 return {"later": "it knows of another reopening"}
             if not self.may_answer(shard, number):
@@ -47,7 +47,7 @@ class Leaves:
                 link = self.server.streams.link(self.server.live(shard), number)
                 link.left, link.joined = line["question"], link.joined + 1
         if slot.cell != Cell.SECONDARY and not self.server.streams.has_enough(shard):
-            return {"later": f"fewer than {self.server.copies} others have all"}
+            return {"later": f"fewer than {copies} others have all"}
         return {"leave": True}
 
     def may_answer(self, shard: str, number: int) -> bool:
@@ -83,11 +83,12 @@ class Leaves:
             it = Records(tx)
             if is_beside and not it.has_copy(shard):
                 return LOST.format(shard)
-            if is_beside and self.server.copies > 1 and it.slot(shard).cell != Cell.PRIMARY and it.mark(shard).view > it.heard():
+            settled, copies = it.counting()
+            if is_beside and copies > 1 and it.slot(shard).cell != Cell.PRIMARY and it.mark(shard).view > settled:
                 return "nobody leads it, and this copy may have writes of a primary since the last reopening"
             line = {"shard": shard, "from": self.server.number, "journal": f"{it.base().journal:x}", "heard": it.heard(),
                     "mark": astuple(it.mark(shard)), "question": question, "beside": is_beside}
-        said, needed = [], self.server.copies if is_beside else 1
+        said, needed = [], copies if is_beside else 1
         for number in givers:
             try:
                 told = self.server.ask(number, "leave", line, self.server.limits.peer)
@@ -99,4 +100,4 @@ class Leaves:
                 said.append(f"no leave from {self.server.name_of(number)}: {told.get('later')}")
             if needed == 0:
                 return ""
-        return "; ".join(said) or f"fewer than {self.server.copies} others are named"
+        return "; ".join(said) or f"fewer than {copies} others are named"

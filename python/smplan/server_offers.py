@@ -47,6 +47,11 @@ def views_of(offer: Line) -> List[ViewStart]:
     return [ViewStart(*it) for it in offer.get("views") or [[0, 0]]]
 
 
+def fewer(name: str, copies: int, leader: str, wanted: int) -> str:
+    """What is said of a server that is to lead after one whose acknowledged writes are at more servers."""
+    return f"{name} acknowledges what {copies} servers have, and {leader} only what {wanted} have: start {name} with --copies {wanted}"
+
+
 class Offers:
     """Offers that a server makes, asks for and takes."""
 
@@ -57,7 +62,7 @@ class Offers:
         """What a server lacks whose list ends at a mark: the writes behind it, or a whole copy if the mark is not this list's, or too far behind."""
         slot, mark, views = it.slot(shard), it.mark(shard), it.views(shard)
         told: Line = {"shard": shard, "from": self.server.number, "journal": f"{it.base().journal:x}", "heard": it.heard(), "mark": astuple(mark),
-                      "after": astuple(after), "cut": [slot.handover, slot.cut] if slot.cell == Cell.FORWARDING else None}
+                      "copies": it.counting()[1], "after": astuple(after), "cut": [slot.handover, slot.cut] if slot.cell == Cell.FORWARDING else None}
         if it.has(shard, after) and mark.position - after.position <= MOST_WRITES:
             later = [view for view in views if after.view <= view.view]
             return {**told, "views": later, "writes": [asdict(write) for write in it.kept(shard, after.position)]}
@@ -112,6 +117,8 @@ class Offers:
             told = self.refused(it, line)
             if told is None and self.server.live(shard).leaving:
                 told = {Told.LATER.value: "it leaves"}
+            if told is None and not it.has_copy(shard) and self.fewer(it, line):
+                told = {Told.LATER.value: self.fewer(it, line)}
             if told is None:
                 has_all, mark = self.take(it, shard, line), it.mark(shard)
                 if has_all and line["cut"] is not None:
@@ -119,8 +126,15 @@ class Offers:
                 told = {Told.HAS.value: True} if has_all else {Told.LACKS.value: astuple(mark)}
                 if not has_all and mark.has_more_than(Mark(*line["mark"])):
                     told = {Told.LATER.value: "it has more"}
+            if Told.HAS.value in told:
+                told["settled"] = it.counting()[0]
         self.server.wake()
         return told
+
+    def fewer(self, it: Records, offer: Line) -> str:
+        """Why nothing is copied from a source whose acknowledged writes are at more servers than this one's, if so: this one may lead the shard next."""
+        copies = it.counting()[1]
+        return fewer(self.server.name, copies, self.server.name_of(offer["from"]), offer["copies"]) if copies < offer.get("copies", 1) else ""
 
     def refused(self, it: Records, line: Line) -> Optional[Line]:
         """What a server answers to a source that it does not follow now, if so."""

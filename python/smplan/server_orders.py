@@ -8,7 +8,7 @@ from typing import TYPE_CHECKING, Any, Dict, List, Optional
 from . import agent
 from .agent import Answer, Call, Cell, Order, Role, Slot
 from .control_agent import order_of
-from .server_offers import LOST
+from .server_offers import LOST, fewer
 from .server_records import Mark, Records
 
 if TYPE_CHECKING:
@@ -133,6 +133,7 @@ class Orders:
         if order.call == Call.CHANGE and order.new_role == Role.PRIMARY:
             self.compare(shard, others)
         if needs_rest(order, slot):
+            self.look_at_next(order, others)
             self.rest(shard)
         if order.call == Call.CHANGE and order.new_role == Role.SECONDARY:
             with self.server.storage.transaction() as tx:
@@ -153,7 +154,22 @@ class Orders:
         offer = self.server.offers.asked(shard, source, after)
         if "said" in offer:
             raise NotYet(f"{self.server.name_of(source)}: {offer['said']}")
+        with self.server.storage.transaction() as tx:
+            why = self.server.offers.fewer(Records(tx), offer)
+        if why:
+            raise NotYet(why)
         return offer
+
+    def look_at_next(self, order: Order, others: List[int]) -> None:
+        """Before this server leads a shard no more: those that may lead it next have each acknowledged write at as many servers. Controllers count by
+        that."""
+        with self.server.storage.transaction() as tx:
+            wanted = Records(tx).counting()[1]
+        following = [order.party] if order.call == Call.PREPARE_DROP else others
+        for number in following if wanted > 1 else ():
+            copies = self.server.ask(number, "life", {}, self.limits.peer).get("copies", 1)
+            if copies < wanted:
+                raise NotYet(fewer(self.server.name_of(number), copies, self.server.name, wanted))
 
     def compare(self, shard: str, others: List[int]) -> None:
         """A secondary that becomes primary takes what others have whose copies are greater. Each of them has to answer."""

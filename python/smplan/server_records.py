@@ -4,7 +4,7 @@ from __future__ import annotations
 import json
 import time
 from dataclasses import asdict, astuple, dataclass, replace
-from typing import Any, Dict, List, Optional, Sequence
+from typing import Any, Dict, List, Optional, Sequence, Tuple
 from urllib.parse import quote, unquote
 
 from . import agent
@@ -101,6 +101,26 @@ class Records:
         """Stores the base."""
         self.tx.put("frame/base", json.dumps([int(it) for it in astuple(base)]))
         self.tx.put("frame/heard", str(heard))
+
+    def counting(self) -> Tuple[int, int]:
+        """The last reopening of which it has taken slots: who was settled there counts. And how many servers, itself among them, have each write that
+        it acknowledges."""
+        text = self.tx.get("frame/settled")
+        if text is None:  # (a store of before this was kept)
+            return (0 if self.base().fenced else self.heard()), 1
+        settled, copies = json.loads(text)
+        return settled, copies
+
+    def put_copies(self, copies: int) -> int:
+        """Stores at a start how many these are to be, and returns how many they are: no fewer than before, since a controller may count by them."""
+        settled, before = self.counting()
+        self.tx.put("frame/settled", json.dumps([settled, max(copies, before)]))
+        return max(copies, before)
+
+    def put_settled(self, number: int, copies: int) -> None:
+        """Stores of which reopening it takes slots. By those of a later one its writes may be at fewer servers than before."""
+        settled, before = self.counting()
+        self.tx.put("frame/settled", json.dumps([number, copies if settled < number else max(copies, before)]))
 
     def fleet(self) -> Dict[str, Any]:
         """The servers that it knows: their numbers and addresses."""

@@ -34,13 +34,15 @@ class Service(Protocol):
 @dataclass
 class Link:
     """What a source of writes knows of another server: whether it has to be asked, by which question it got leave to drop the shard, up to which
-    position it has this list, where its own one is said to end, and until when it is taken for dead."""
+    position it has this list, at which reopening it was settled as it said so, where its own list is said to end, and until when it is taken for
+    dead."""
 
     lock: threading.Lock = field(default_factory=threading.Lock)
     is_asked: bool = True
     left: str = ""
     joined: int = 0
     has: int = -1
+    settled: int = -1
     mark: Optional[Mark] = None
     failures: int = 0
     dead_until: float = 0.0
@@ -58,8 +60,8 @@ class Link:
 @dataclass
 class Live:
     """A shard in memory. Requests that run belong to a term; if it ends, they are not acknowledged. Writes up to `acknowledged` are at all who are
-    alive. Once it `is_copied`, enough servers have all that was here when it began to lead; `told` is the last reopening since which a controller
-    knows. No order that holds requests back begins before `rest_until`. Who is `leaving` asks for leave under this number; `leave` is that of the
+    alive. Up to the place `noted` goes all that was here when it began to lead; `told` is the last reopening since which a controller knows that
+    enough servers have that. No order that holds requests back begins before `rest_until`. Who is `leaving` asks for leave under this number; `leave` is that of the
     question that was answered."""
 
     running: int = 0
@@ -72,13 +74,13 @@ class Live:
     said: str = ""
     rest_until: float = 0.0
     acknowledged: int = 0
-    is_copied: bool = False
+    noted: Optional[int] = None
     told: Optional[int] = None
     links: Dict[int, Link] = field(default_factory=dict)
 
     def begin_anew(self) -> None:
         """Forgets what other servers have, since who executes is another one, or may be."""
-        self.acknowledged, self.is_copied, self.told, self.links = 0, False, None, {}
+        self.acknowledged, self.noted, self.told, self.links = 0, None, None, {}
         self.stay()
 
     def stay(self) -> None:

@@ -2,7 +2,7 @@
 from __future__ import annotations
 
 import time
-from typing import TYPE_CHECKING, Any, Dict, Iterable
+from typing import TYPE_CHECKING, Any, Dict, Iterable, Tuple
 
 from .agent import Cell, Slot
 from .server_offers import Told, is_source_for
@@ -73,7 +73,7 @@ class Streams:
         told = next((it for it in Told if it.value in answer), Told.LATER)
         with self.server.changed:
             if told == Told.HAS and link.joined == joined:
-                link.has, link.mark = mark.position, mark
+                link.has, link.mark, link.settled = mark.position, mark, answer.get("settled", -1)
             elif told == Told.LACKS:
                 link.mark = Mark(*answer["lacks"])
             elif told == Told.NOTHING and link.joined == joined:
@@ -93,15 +93,17 @@ class Streams:
         with self.server.changed:
             return self.link(self.server.live(shard), number).counts
 
-    def must_have(self, shard: str) -> int:
-        """The old owner, whom each write of a handover waits for, live or not; 0 if there is none."""
+    def must_have(self, shard: str) -> Tuple[int, Tuple[int, int]]:
+        """The old owner, whom each write of a handover waits for, live or not, 0 if there is none; and what all are counted by."""
         with self.server.storage.transaction() as tx:
             it = Records(tx)
-            return it.old_owner(shard, it.slot(shard))
+            return it.old_owner(shard, it.slot(shard)), it.counting()
 
-    def are_enough(self, told: Dict[int, Told]) -> bool:
-        """Whether as many servers have the writes as each has to be at, this one among them."""
-        return 1 + sum(it == Told.HAS for it in told.values()) >= self.server.copies
+    def are_enough(self, live: Live, place: int, counting: Tuple[int, int]) -> bool:
+        """Whether as many servers have the writes up to a place as each has to be at, this one among them. Another one counts by what it has said once it
+        was settled at this one's last reopening: one that was given up may go on to follow. `changed` is held: nobody gets leave meanwhile."""
+        settled, copies = counting
+        return copies <= 1 + sum(it.counts and it.has >= place and it.settled >= settled for it in live.links.values())
 
     def replicate(self, shard: str, place: int, term: int, must: Iterable[int] = ()) -> bool:
         """Waits until each live server that follows has the writes up to a place, enough servers do, and those that must have them, live or not.
@@ -113,27 +115,29 @@ class Streams:
                     return False
                 if live.acknowledged >= place and not must:
                     return True
-            old = self.must_have(shard)
+            old, counting = self.must_have(shard)
             told = self.round(shard, place, {*must, old} - {0})
             if old and told.get(old) == Told.NOTHING:
                 self.release(shard, old)
             if Told.OVERTAKEN in told.values():
                 return False
             has_old = not old or told.get(old) in RELEASED
-            if Told.LACKS not in told.values() and all(told.get(it) == Told.HAS for it in must) and has_old and self.are_enough(told):
+            if Told.LACKS not in told.values() and all(told.get(it) == Told.HAS for it in must) and has_old:
                 with self.server.changed:
-                    if live.term == term:
+                    if live.term == term and self.are_enough(live, place, counting):
                         live.acknowledged = max(live.acknowledged, place)
-                    return live.term == term
+                        return True
             time.sleep(0.05)
         return False
 
     def has_enough(self, shard: str) -> bool:
         """Whether enough servers that follow, and do not leave, have all that is acknowledged, and that was here when this one began to lead."""
+        with self.server.storage.transaction() as tx:
+            counting = Records(tx).counting()
         with self.server.changed:
             live = self.server.live(shard)
-            having = 1 + sum(link.counts and link.has >= live.acknowledged for link in live.links.values())
-            return self.server.copies < 2 or (live.is_copied and having >= self.server.copies)
+            is_noted = live.noted is not None and self.are_enough(live, max(live.acknowledged, live.noted), counting)
+            return counting[1] < 2 or is_noted
 
     def release(self, shard: str, old: int) -> None:
         """The old owner has dropped the shard."""

@@ -28,9 +28,13 @@ class Whole:
         self.server, self.limits, self.life = server, server.limits, nonce()
 
     def tell_life(self, _: Line) -> Line:
-        """A number that is another one after each start, and whenever its slots were set or lost; and the shards that it asks leave to drop."""
+        """A number that is another one after each start, and whenever its slots were set or lost; the shards that it asks leave to drop; and how
+        many servers have what it acknowledges."""
+        with self.server.storage.transaction() as tx:
+            copies = Records(tx).counting()[1]
         with self.server.changed:
-            return {"life": f"{self.life:x}", "leaving": {shard: live.leaving for shard, live in self.server.shards.items() if live.leaving}}
+            leaving = {shard: live.leaving for shard, live in self.server.shards.items() if live.leaving}
+            return {"life": f"{self.life:x}", "leaving": leaving, "copies": copies}
 
     def fence(self, line: Line) -> Line:
         """Takes a fence once no request of a handover runs, and answers with all slots, or with the nonce of an Unknown server."""
@@ -115,7 +119,9 @@ class Whole:
             answer, base, slots = agent.take(it.base(), told, before, brought)
             if answer != Answer.TAKEN:
                 return answer
-            it.put_base(base, told.fence if isinstance(told, Restoration) else told.number)
+            number = told.fence if isinstance(told, Restoration) else told.number
+            it.put_base(base, number)
+            it.put_settled(number, self.server.copies)
             tx.delete("frame/new")
             for shard, slot in {**{one: VACANT for one in it.copies()}, **slots}.items():
                 is_chosen = isinstance(told, Settlement) and before.get(shard, Slot()).cell != Cell.PRIMARY
@@ -184,12 +190,16 @@ class Whole:
         """Begins without work; an Unknown server under a new nonce."""
         with self.server.storage.transaction() as tx:
             it = Records(tx)
+            copies = it.put_copies(self.server.copies)
             if not it.base().known:
                 it.put_base(agent.forget(nonce()), 0)
             self.abandon_all(it)
             for shard, slot in it.slots().items():
                 if agent.may_delete(it.base(), slot):
                     it.delete_slot(shard)
+        if copies > self.server.copies:
+            name = self.server.name
+            print(f"{name}: acknowledges only what {copies} servers have, as before, until it is settled at a reopening", file=sys.stderr, flush=True)
 
     def abandon_all(self, it: Records) -> None:
         """Gives up all work."""

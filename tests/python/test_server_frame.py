@@ -363,12 +363,12 @@ class Inline:
 class Frame(Server):
     """A server of the frame with the functions of examples/kv_server.py, by which the schedules of tests/agent/kv_rules.py play."""
 
-    times = FAST
+    times, wanted = FAST, 1
 
     def __init__(self, number, peers):
         self.peers, self.db = peers, nullcontext()
         peers[number] = self
-        super().__init__(NAMES[number], kv_http.Texts(), Sqlite(":memory:"), [], is_new=True, limits=self.times)
+        super().__init__(NAMES[number], kv_http.Texts(), Sqlite(":memory:"), [], is_new=True, limits=self.times, copies=self.wanted)
         self.pool, self.beside, self.call = Inline(), Inline(), self.call_peer
         self.learn({name: {"number": at, "url": f"http://{name}"} for at, name in NAMES.items()})
 
@@ -448,19 +448,36 @@ class Frame(Server):
 
 
 class Twice(Frame):
-    """Acknowledges only what two servers have, and keeps what it tells the controllers."""
+    """Acknowledges only what two servers have, and keeps what it tells the controllers, of which one does not lead. That one has another state."""
+
+    wanted = 2
 
     def __init__(self, number, peers):
         super().__init__(number, peers)
-        self.copies, self.controllers, self.lines, self.said = 2, ["http://controller", "http://leader"], [], {"copied": {}}
+        self.controllers, self.lines, self.asked, self.said, self.state, self.known = ["http://controller", "http://leader"], [], 0, {"copied": {}}, {}, {"s": 1}
 
     def call_peer(self, url, line, seconds):
-        if url == "http://leader/do":
-            self.lines.append(line)
-            return self.said
-        if url.startswith("http://controller"):
+        if not url.startswith(("http://controller", "http://leader")):
+            return super().call_peer(url, line, seconds)
+        if url.endswith("/ask"):
+            self.asked += 1
+            state = {"is": "open", "journal": "7", "fence": self.kept(lambda it: it.counting()[0]), **self.state}
+            return {"state": {**state, "shards": [{"shard": it, "copies": copies} for it, copies in self.known.items()]}}
+        if url != "http://leader/do":
             raise OSError("it does not lead")
-        return super().call_peer(url, line, seconds)
+        self.lines.append(line)
+        if "copied" in self.said:
+            self.known[line["shard"]] = line["copies"]
+        if not self.said:
+            raise OSError("the reply is lost")
+        return self.said
+
+    def tell(self):
+        """Has followers have all, and tells of the copies, without a rest."""
+        for _ in range(2):
+            self.streams.keep_up()
+        self.copied.recorded.until = 0.0
+        self.copied.tell()
 
 
 class CommitsFirst(Frame):
@@ -1004,6 +1021,69 @@ def leave_ends_at_a_fence(kind):
     kv_rules.want((b.live(kv_rules.SHARD).leave, b.whole.tell_life({})["leaving"]), ("", {}))
 
 
+def three(kind):
+    """A primary and two secondaries that have each write twice."""
+    kind = type(kind.__name__, (kind,), {"wanted": 2})
+    a, b = kv_rules.pair(kind, Cell.SECONDARY)
+    c = kind(3, a.peers)
+    kv_rules.restore(c, Cell.SECONDARY)
+    kv_rules.push(a, "r1", "x")
+    for _ in range(2):
+        a.streams.keep_up()
+    a.copied.tell()
+    return a, b, c
+
+
+class CountsTheGivenUp(Frame):
+    """Says that it was settled with its source, whether it was or not."""
+    def follow(self, line):
+        return {**super().follow(line), "settled": 100}
+
+
+def given_up_and_counted(kind):
+    """Server b is given up, and lives on: what it has does not count."""
+    a, b, c = three(kind)
+    for server, cell in ((a, Cell.PRIMARY), (c, Cell.SECONDARY)):
+        server.fence(kv_rules.JOURNAL, 100)
+        kv_rules.want(server.settle(kv_rules.JOURNAL, 100, None, {kv_rules.SHARD: Slot(cell=cell, load=1)}), True)
+    with kv_rules.lost(c, "follow"):
+        kv_rules.want(kv_rules.push(a, "r2", "y"), Answer.NOT_YET)
+    kv_rules.want((kv_rules.push(a, "r2", "y"), c.value(kv_rules.SHARD, "k")), ("xy", "xy"))
+
+
+class CountsWhoLeaves(Frame):
+    """Counts by what it was told in a round, though somebody has got leave meanwhile."""
+    def __init__(self, number, peers):
+        super().__init__(number, peers)
+        self.streams.are_enough = lambda live, place, counting: counting[1] <= 1 + sum(it.has >= place for it in live.links.values())
+
+
+def leave_amid_a_round(kind):
+    """Server c has a write, and gets leave before b has answered, which does not."""
+    a, b, c = three(kind)
+
+    def hangs(_):
+        kv_rules.want(kv_rules.answered(c, kv_rules.order(1, Call.DROP)), True)
+        raise OSError("it does not answer")
+
+    b.follow = hangs
+    told = kv_rules.push(a, "r2", "y")
+    kv_rules.want((told, c.slot(kv_rules.SHARD).cell), (Answer.NOT_YET, Cell.ABSENT))
+
+
+def leave_behind_a_start(kind):
+    """Behind a start who leaves has all that was acknowledged before, and the other one has not."""
+    a, b, c = three(kind)
+    with kv_rules.lost(b, "follow"):
+        kv_rules.want(kv_rules.push(a, "r2", "y"), "xy")
+        a.start()
+        for _ in range(2):
+            a.streams.keep_up()
+        a.copied.tell()
+        a.streams.link(a.live(kv_rules.SHARD), 2).has = 1
+        kv_rules.want(kv_rules.answered(c, kv_rules.order(1, Call.DROP)), False)
+
+
 SCHEDULES = (
     (CommitsFirst, kv_rules.crash_amid_copy), (KeepsTheRest, kv_rules.late_after_settle), (ForgetsRequests, kv_rules.repeat_after_handover),
     (AnswersAtOnce, kv_rules.crash_at_work), (KeepsWork, kv_rules.crash_and_repeat), (DeletesAtDrop, kv_rules.late_order),
@@ -1018,7 +1098,8 @@ SCHEDULES = (
     (TellsNoView, reopened_beside_an_older_view), (TakesTheViewFirst, view_before_its_beginning), (None, overtaken),
     (None, roles_change),
     (DropsWithoutLeave, dropped_by_leave), (CountsNoMore, leave_is_given_up), (TellsWhileItLeaves, leave_is_given_up), (None, leave_ends_at_a_fence),
-    (None, primary_is_not_known), (GivesWhileItLeaves, both_leave))
+    (None, primary_is_not_known), (GivesWhileItLeaves, both_leave), (CountsTheGivenUp, given_up_and_counted), (CountsWhoLeaves, leave_amid_a_round),
+    (None, leave_behind_a_start))
 
 
 class RulesTest(unittest.TestCase):
@@ -1044,29 +1125,117 @@ class RulesTest(unittest.TestCase):
         a, b = kv_rules.pair(Twice, Cell.SECONDARY)
         with kv_rules.lost(b, "follow"):
             kv_rules.push(a, "r1", "x")
-            a.copied.tell()
-        self.assertEqual((a.lines, b.value("s", "k")), ([], ""))
+            a.tell()
+        self.assertEqual((a.lines, a.asked, b.value("s", "k")), ([], 0, ""))
         for _ in range(2):
-            a.copied.tell()
-            b.copied.tell()
+            a.tell()
+            b.tell()
         line = {"do": "copied", "journal": f"{kv_rules.JOURNAL:x}", "fence": 0, "shard": "s", "copies": 2}
         self.assertEqual((a.lines, b.lines, b.value("s", "k")), ([line], [], "x"))
         for server, cell in ((a, Cell.SECONDARY), (b, Cell.PRIMARY)):
             server.fence(kv_rules.JOURNAL, 100)
-            server.copied.tell()
+            server.tell()
             server.settle(kv_rules.JOURNAL, 100, None, {"s": Slot(cell=cell, load=1)})
-        b.said = {"ignored": "old"}
         for _ in range(2):
-            b.copied.tell()
-        self.assertEqual((a.lines, b.lines), ([line], [{**line, "fence": 100}]))
+            b.tell()
+        self.assertEqual((a.lines, b.lines, a.asked, b.asked), ([line], [{**line, "fence": 100}], 1, 1))
+
+    def test_copies_are_told_until_a_controller_knows_them(self):
+        a, _ = kv_rules.pair(Twice, Cell.SECONDARY)
+        found = []
+        for a.state, a.said in (({"is": "reopening"}, {}), ({"fence": 9}, {}), ({"journal": "8"}, {}), ({}, {}), ({}, {"ignored": "old"}), ({}, {"copied": {}})):
+            a.tell()
+            found.append(len(a.lines))
+        a.tell()
+        self.assertEqual((found, len(a.lines), a.asked), ([0, 0, 0, 1, 2, 3], 3, 9))  # (both controllers are asked while none has the reopening in force)
+
+    def test_copies_that_are_known_are_not_told(self):
+        """As behind a start, or once a reply was lost."""
+        a, _ = kv_rules.pair(Twice, Cell.SECONDARY)
+        a.known = {"s": 2}
+        for _ in range(2):
+            a.tell()
+        a.start()
+        a.tell()
+        self.assertEqual((a.lines, a.asked), ([], 2))
+
+    def test_one_question_is_for_all_shards_and_rests_ever_longer(self):
+        server = Twice(1, {})
+        recorded, times, now = server.copied.recorded, [], 0.0
+        server.known, server.state = {f"s{it}": 1 + it % 2 for it in range(100)}, {"is": "reopening"}
+        with mock.patch("smplan.server_copied.time.monotonic", lambda: now):
+            for now in range(200):
+                before = server.asked
+                self.assertEqual(recorded.take(7, 0, {it: 2 for it in server.known}), [])
+                times += [now] if server.asked > before else []
+            self.assertEqual((times, server.asked), ([0, 1, 2, 4, 8, 16, 32, 62, 92, 122, 152, 182], 24))
+            server.state, now = {}, 300
+            self.assertEqual((len(recorded.take(7, 0, {it: 2 for it in server.known})), server.asked, len(server.lines)), (100, 25, 50))
+            server.known["s0"], server.state = 1, {"fence": 5}
+            self.assertEqual(recorded.take(7, 5, {"s0": 2}), ["s0"])  # (at once under another reopening)
 
     def test_copies_that_are_refused_are_told_once(self):
         a, _ = kv_rules.pair(Twice, Cell.SECONDARY)
         a.said = {"refused": {"kind": "AboveWant", "shard": "s", "want": 1}}
         with mock.patch("builtins.print") as told:
             for _ in range(2):
-                a.copied.tell()
+                a.tell()
         self.assertEqual((len(a.lines), "AboveWant" in told.call_args.args[0]), (1, True))
+
+    def test_nobody_counts_by_fewer_copies_until_a_later_reopening(self):
+        class Once(Twice):
+            wanted = 1
+
+        a, b = kv_rules.pair(Twice, Cell.SECONDARY)
+        a.tell()
+        again = Once.__new__(Once)
+        Server.__init__(again, a.name, a.service, a.storage, a.controllers, limits=FAST)
+        again.pool, again.beside, again.call = Inline(), Inline(), a.call_peer
+        self.assertEqual(again.kept(lambda it: it.counting()), (0, 2))
+        with kv_rules.lost(b, "follow"):
+            self.assertEqual(kv_rules.push(again, "r1", "x"), Answer.NOT_YET)
+        self.assertEqual(kv_rules.push(again, "r1", "x"), "x")
+        for server, cell in ((again, Cell.PRIMARY), (b, Cell.SECONDARY)):
+            server.fence(kv_rules.JOURNAL, 100)
+            self.assertEqual(server.kept(lambda it: it.counting()), (0, 2))
+            server.settle(kv_rules.JOURNAL, 100, None, {"s": Slot(cell=cell, load=1)})
+        self.assertEqual((again.kept(lambda it: it.counting()), b.kept(lambda it: it.counting())), ((100, 1), (100, 2)))
+        with kv_rules.lost(b, "follow"):
+            self.assertEqual(kv_rules.push(again, "r2", "y"), "xy")
+
+    def test_who_counts_by_fewer_copies_is_not_to_lead_next(self):
+        def at(server, copies):
+            server.kept(lambda it: it.tx.put("frame/settled", json.dumps([0, copies])))
+
+        a, b = kv_rules.pair(Twice)
+        at(b, 1)
+        prepare_add, prepare_drop = kv_rules.HANDOVER[:2]
+        self.assertFalse(kv_rules.answered(b, prepare_add))
+        with self.assertRaisesRegex(NotYet, "v2 acknowledges what 1 servers have, and v1 only what 2 have: start v2 with --copies 2"):
+            b.orders.prepare("s", prepare_add, b.line_of("s", prepare_add))
+        at(b, 2)
+        self.assertTrue(b.work("s", prepare_add))
+        demotion, drop = kv_rules.order(8, Call.CHANGE, role=Role.PRIMARY, new_role=Role.SECONDARY), kv_rules.order(9, Call.DROP)
+        for order in (prepare_drop, demotion, drop):
+            at(b, 1)
+            with self.assertRaisesRegex(NotYet, "start v2 with --copies 2"):
+                a.orders.prepare("s", order, {**a.line_of("s", order), "replicas": ["v1", "v2"]})
+        at(b, 2)
+        self.assertTrue(kv_rules.answered(a, prepare_drop))
+
+    def test_who_has_lost_its_copy_takes_none_from_one_that_counts_by_more(self):
+        a, b = kv_rules.pair(Twice, Cell.SECONDARY)
+        b.kept(lambda it: it.tx.put("frame/settled", "[0, 1]"))
+        a.tell()
+        self.assertEqual((a.lines, b.kept(lambda it: it.has_copy("s"))), ([], False))
+
+    def test_a_write_is_at_one_server_at_least(self):
+        with self.assertRaisesRegex(Failure, "--copies: a write is at one server at least"):
+            Server("a", kv_http.Texts(), Sqlite(":memory:"), [], copies=0)
+        for words in ("0", "-1", "x"):
+            told = subprocess.run([sys.executable, ROOT / "examples/kv_http.py", f"--copies={words}", "a", "http://127.0.0.1:1", "/nowhere/store"], capture_output=True,
+                                  text=True, check=False, timeout=60)
+            self.assertEqual((told.returncode, f"argument --copies: {words}: a write is at one server at least" in told.stderr), (2, True), told.stderr)
 
     def test_leave_is_given_once_two_others_have_all(self):
         a, b = kv_rules.pair(Twice, Cell.SECONDARY)
@@ -1078,7 +1247,7 @@ class RulesTest(unittest.TestCase):
         for _ in range(2):
             a.streams.keep_up()
         self.assertFalse(b.work("s", drop))
-        a.copied.tell()
+        a.tell()
         self.assertEqual((b.work("s", drop), b.slot("s").cell, c.value("s", "k")), (True, Cell.ABSENT, "x"))
 
     def test_without_a_primary_two_others_give_leave(self):

@@ -20,7 +20,10 @@ func Main(service Service) {
 		fmt.Fprintf(flag.CommandLine.Output(), "%s [-new | -forget] [-copies N] [-token FILE] [-cert FILE -key FILE] NAME CONTROLLERS STORE\n", os.Args[0])
 		flag.PrintDefaults()
 	}
-	if flag.Parse(); flag.NArg() != 3 || *isNew && *forgets {
+	if flag.Parse(); flag.NArg() != 3 || *isNew && *forgets || *copies < 1 {
+		if *copies < 1 {
+			fmt.Fprintln(flag.CommandLine.Output(), tooFew)
+		}
 		flag.Usage()
 		os.Exit(2)
 	}

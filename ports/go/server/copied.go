@@ -4,8 +4,19 @@ import (
 	"encoding/json"
 	"fmt"
 	"log"
+	"time"
 
 	"hammerecru.example/smplan"
+)
+
+// tooFew is what is said where a write would be at fewer servers.
+const tooFew = "-copies: a write is at one server at least"
+
+// For how long a controller may be silent; and for how long it rests while one does not take all, twice as long each time.
+const (
+	silence  = 10 * time.Second
+	shortest = time.Second / 2
+	longest  = 30 * time.Second
 )
 
 // copiedLine tells a controller how many servers have each acknowledged write of a shard: a reopening counts by it, and names fewer shards as lost.
@@ -17,78 +28,152 @@ type copiedLine struct {
 	Copies  int    `json:"copies"`
 }
 
-// tellCopies tells of each shard that this server leads, and that is not told yet, as soon as enough servers have all that is here.
-func (it *Server) tellCopies() {
-	if it.Copies < 2 {
-		return
+// stateLine is what is needed of what a controller has recorded.
+type stateLine struct {
+	State struct {
+		Is      string
+		Journal string
+		Fence   uint64
+		Shards  []struct {
+			Shard  string
+			Copies int
+		}
 	}
+}
+
+// recorded is when a server tells next, and for how long it has rested, under a journal's last reopening.
+type recorded struct {
+	journal, fence uint64
+	rest           time.Duration
+	until          time.Time
+}
+
+// tellCopies tells of each shard that this server leads, as soon as enough servers have all that was here when it began to, until a controller knows
+// it: anew behind each reopening, and once it leads anew.
+func (it *Server) tellCopies() {
 	var base smplan.Base
-	var fence uint64
-	led := map[string]uint64{}
+	var by counting
+	shards, terms := []string{}, map[string]int{}
 	it.transact(func(kept records) error {
-		base, fence = kept.base(), kept.heard()
+		if base, by = kept.base(), kept.counting(); by.Copies < 2 || !base.Known || base.Fenced {
+			return nil
+		}
 		for shard, slot := range kept.slots() {
-			if slot.Cell.Kind == smplan.Primary {
-				led[shard] = kept.mark(shard).Position
-			}
+			position := kept.mark(shard).Position
+			it.with(shard, func(live *live) {
+				if slot.Cell.Kind == smplan.Primary && live.isToTell(position, by) {
+					shards, terms[shard] = append(shards, shard), live.term
+				}
+			})
 		}
 		return nil
 	})
-	if !base.Known || base.Fenced {
-		return
-	}
-	for shard, position := range led {
-		isToTell, term := false, 0
-		it.with(shard, func(live *live) { isToTell, term = live.told == nil || *live.told != fence, live.term })
-		if isToTell {
-			go it.tellOne(copiedLine{"copied", fmt.Sprintf("%x", base.Journal), fence, shard, it.Copies}, position, term)
-		}
+	for _, shard := range it.takeCopies(base.Journal, by, shards) {
+		it.with(shard, func(live *live) {
+			if live.term == terms[shard] {
+				live.told = &by.Settled
+			}
+		})
 	}
 }
 
-// tellOne tells of one shard, if enough servers have the writes up to a place while the term lasts.
-func (it *Server) tellOne(line copiedLine, position uint64, term int) {
-	if !it.replicate(line.Shard, position, term, nil) {
-		return
+// isToTell returns whether enough servers have a shard up to the place where its list ended when it was looked at first, and no controller is known to
+// know. The server's mutex is held.
+func (it *live) isToTell(position uint64, by counting) bool {
+	if it.noted == nil {
+		it.noted = &position
 	}
-	it.with(line.Shard, func(live *live) { live.isCopied = live.isCopied || live.term == term })
-	refused, isSaid := it.sayCopies(line)
-	if !isSaid {
-		return
-	}
-	if refused != nil {
-		log.Printf("%s: %d copies of %s are not counted: %s", it.Name, line.Copies, line.Shard, refused)
-	}
-	it.with(line.Shard, func(live *live) {
-		if live.term == term {
-			live.told = &line.Fence
-		}
-	})
+	return (it.told == nil || *it.told != by.Settled) && it.areEnough(*it.noted, by)
 }
 
-// sayCopies returns whether a controller has said something to the line, and what it refuses, if it does.
-func (it *Server) sayCopies(line copiedLine) (refused json.RawMessage, isSaid bool) {
+// takeCopies tells of shards, and returns those of which there is nothing more to be said under this reopening. One line asks what is known, of however
+// many shards, and one more tells of each of which fewer copies are known. While others remain, as during a reopening, it rests ever longer.
+func (it *Server) takeCopies(journal uint64, by counting, shards []string) (done []string) {
+	told := &it.recorded
+	if told.journal != journal || told.fence != by.Settled {
+		*told = recorded{journal: journal, fence: by.Settled}
+	}
+	if len(shards) == 0 || time.Now().Before(told.until) {
+		return nil
+	}
+	if known := it.known(journal, by.Settled); known != nil {
+		done = it.tellThem(journal, by, shards, known)
+	}
+	told.rest *= 2
+	switch {
+	case len(done) == len(shards):
+		told.rest = 0
+	case told.rest < shortest:
+		told.rest = shortest
+	case told.rest > longest:
+		told.rest = longest
+	}
+	told.until = time.Now().Add(told.rest)
+	return done
+}
+
+// known is by shard how many copies a controller knows of since this reopening; nil if nobody answers where it is the last one, and has ended.
+func (it *Server) known(journal, fence uint64) map[string]int {
 	for _, controller := range it.Controllers {
-		var said struct{ Copied, Ignored, Refused json.RawMessage }
-		err := it.caller.call(controller+"/do", line, &said, it.Limits.Peer)
+		var told stateLine
+		if it.caller.call(controller+"/ask", map[string]string{"do": "state"}, &told, silence) != nil {
+			continue
+		}
+		state := told.State
+		if its, err := hexadecimal(state.Journal); err != nil || state.Is != "open" || its != journal || state.Fence != fence {
+			continue
+		}
+		known := map[string]int{}
+		for _, row := range state.Shards {
+			known[row.Shard] = row.Copies
+		}
+		return known
+	}
+	return nil
+}
+
+// tellThem tells of those shards of which fewer copies are known, and returns which are known then, or refused. (The reopening decides that, too.)
+func (it *Server) tellThem(journal uint64, by counting, shards []string, known map[string]int) (done []string) {
+	for _, shard := range shards {
+		if number, ok := known[shard]; ok && number < by.Copies {
+			said, isSaid := it.sayCopies(copiedLine{"copied", fmt.Sprintf("%x", journal), by.Settled, shard, by.Copies})
+			if !isSaid {
+				return done
+			}
+			if said.Refused != nil {
+				log.Printf("%s: %d copies of %s are not counted: %s", it.Name, by.Copies, shard, said.Refused)
+			} else if said.Copied == nil {
+				continue
+			}
+		}
+		done = append(done, shard)
+	}
+	return done
+}
+
+// saidLine is what a controller replies to a line.
+type saidLine struct{ Copied, Ignored, Refused json.RawMessage }
+
+// sayCopies returns what the controller replies that leads, and whether one does.
+func (it *Server) sayCopies(line copiedLine) (said saidLine, isSaid bool) {
+	for _, controller := range it.Controllers {
+		said = saidLine{}
+		err := it.caller.call(controller+"/do", line, &said, silence)
 		if err == nil && (said.Copied != nil || said.Ignored != nil || said.Refused != nil) {
-			return said.Refused, true
+			return said, true
 		}
 	}
-	return nil, false
+	return said, false
 }
 
 // hasEnough returns whether enough servers that follow, and do not leave, have all that is acknowledged, and that was here when this one began to
 // lead.
-func (it *Server) hasEnough(shard string) (isSo bool) {
+func (it *Server) hasEnough(shard string, by counting) (isSo bool) {
 	it.with(shard, func(live *live) {
-		having := 1
-		for _, link := range live.links {
-			if link.counts() && link.has >= int64(live.acknowledged) {
-				having++
-			}
+		isSo = by.Copies < 2
+		if !isSo && live.noted != nil {
+			isSo = live.areEnough(*live.noted, by) && live.areEnough(live.acknowledged, by)
 		}
-		isSo = it.Copies < 2 || live.isCopied && having >= it.Copies
 	})
 	return isSo
 }

@@ -2,25 +2,46 @@ package server
 
 import (
 	"encoding/json"
+	"fmt"
 	"net/http"
 	"net/http/httptest"
+	"sync"
 	"testing"
 	"time"
 
 	"hammerecru.example/smplan"
 )
 
-// leader begins a controller that says this to each line, and keeps the lines.
-func leader(t *testing.T, said string) (string, chan copiedLine) {
-	lines := make(chan copiedLine, 9)
-	it := httptest.NewServer(http.HandlerFunc(func(answer http.ResponseWriter, request *http.Request) {
+// controller is one that knows of so many copies of s, and keeps the lines that it is told.
+type controller struct {
+	sync.Mutex
+	url    string
+	state  string
+	said   string
+	copies int
+	asked  int
+	lines  []copiedLine
+}
+
+// begin begins a controller, in a state.
+func begin(t *testing.T, state, said string) *controller {
+	it := &controller{state: state, said: said, copies: 1}
+	listens := httptest.NewServer(http.HandlerFunc(func(answer http.ResponseWriter, request *http.Request) {
+		it.Lock()
+		defer it.Unlock()
 		var line copiedLine
 		json.NewDecoder(request.Body).Decode(&line)
-		lines <- line
-		answer.Write([]byte(said))
+		if line.Do == "state" {
+			it.asked++
+			fmt.Fprintf(answer, `{"state":{%s,"shards":[{"shard":"s","copies":%d}]}}`, it.state, it.copies)
+			return
+		}
+		it.lines = append(it.lines, line)
+		fmt.Fprint(answer, it.said)
 	}))
-	t.Cleanup(it.Close)
-	return it.URL, lines
+	t.Cleanup(listens.Close)
+	it.url = listens.URL
+	return it
 }
 
 // leads makes the first of these servers the primary of s, which is to be at so many servers.
@@ -29,45 +50,111 @@ func leads(servers []*Server, copies int, controllers ...string) *Server {
 	it.Copies, it.Controllers = copies, controllers
 	it.transact(func(kept records) error {
 		kept.putSlot("s", smplan.Slot{Cell: smplan.Cell{Kind: smplan.Primary}})
+		kept.putCopies(copies)
 		return nil
 	})
 	return it
 }
 
-func TestCopiesAreToldOnceTheyAreThere(t *testing.T) {
-	url, lines := leader(t, `{"copied":{"shard":"s","copies":2}}`)
-	it := leads(beside(t, "12", "1"), 2, "http://127.0.0.1:1", url)
+// tellNow has followers have all, and tells of the copies, without a rest.
+func tellNow(it *Server) {
+	for turn := 0; turn < 40; turn++ {
+		it.pushAll()
+		time.Sleep(5 * time.Millisecond)
+	}
+	it.recorded.until = time.Time{}
 	it.tellCopies()
-	select {
-	case line := <-lines:
-		if line != (copiedLine{"copied", "7", 0, "s", 2}) {
-			t.Fatal(line)
-		}
-	case <-time.After(5 * time.Second):
-		t.Fatal("nothing is told")
+}
+
+const open = `"is":"open","journal":"7","fence":0`
+
+func TestCopiesAreToldUntilAControllerKnowsThem(t *testing.T) {
+	its := begin(t, `"is":"reopening","journal":"7","fence":0`, `{"ignored":"old"}`)
+	it := leads(beside(t, "12", "1"), 2, "http://127.0.0.1:1", its.url)
+	tellNow(it)
+	it.tellCopies() // (it rests)
+	wantSame(t, []any{its.asked, len(its.lines), it.live("s").told == nil}, "[1 0 true]")
+	for _, state := range []string{`"is":"open","journal":"8","fence":0`, `"is":"open","journal":"7","fence":9`, open} {
+		its.state = state
+		tellNow(it)
 	}
-	if !it.wait(5*time.Second, func() bool { return it.live("s").told != nil }) || !it.hasEnough("s") {
-		t.Fatal("it is not told")
+	wantSame(t, []any{its.asked, its.lines}, "[4 [{copied 7 0 s 2}]]")
+	its.said = `{"copied":{"shard":"s","copies":2}}`
+	for turn := 0; turn < 2; turn++ {
+		tellNow(it)
 	}
-	it.tellCopies()
-	select {
-	case line := <-lines:
-		t.Fatalf("told again: %v", line)
-	case <-time.After(200 * time.Millisecond):
+	wantSame(t, []any{its.asked, len(its.lines), *it.live("s").told, it.hasEnough("s", counting{0, 2})}, "[5 2 0 true]")
+}
+
+func TestCopiesThatAreKnownOrRefusedAreNotToldAgain(t *testing.T) {
+	its := begin(t, open, `{"refused":{"kind":"AboveWant"}}`)
+	it := leads(beside(t, "12", "1"), 2, its.url)
+	its.copies = 2
+	tellNow(it)
+	it.with("s", func(live *live) { live.told = nil })
+	its.copies = 1
+	for turn := 0; turn < 2; turn++ {
+		tellNow(it)
 	}
+	wantSame(t, []any{its.asked, len(its.lines)}, "[2 1]")
 }
 
 func TestCopiesThatAreNotThereAreNotTold(t *testing.T) {
-	url, lines := leader(t, `{"copied":{"shard":"s","copies":3}}`)
-	it := leads(beside(t, "12", "1"), 3, url)
+	its := begin(t, open, `{"copied":{"shard":"s","copies":3}}`)
+	it := leads(beside(t, "12", "1"), 3, its.url)
 	it.Limits.Waiting = 200 * time.Millisecond
-	if it.replicate("s", 2, 0, nil) || it.hasEnough("s") {
+	if it.replicate("s", 2, 0, nil) || it.hasEnough("s", counting{0, 3}) {
 		t.Fatal("two servers are taken for three")
 	}
-	it.tellCopies()
-	select {
-	case line := <-lines:
-		t.Fatal(line)
-	case <-time.After(500 * time.Millisecond):
+	tellNow(it)
+	wantSame(t, []any{its.asked, len(its.lines)}, "[0 0]")
+}
+
+func TestWhoWasNotSettledAtTheLastReopeningDoesNotCount(t *testing.T) {
+	servers := beside(t, "12", "1")
+	it := leads(servers, 2)
+	it.Limits.Waiting = 200 * time.Millisecond
+	it.transact(func(kept records) error { kept.putSettled(100, 2); return nil })
+	if it.replicate("s", 2, 0, nil) {
+		t.Fatal("one is counted that was given up")
+	}
+	servers[1].transact(func(kept records) error { kept.putSettled(100, 2); return nil })
+	it.with("s", func(live *live) { live.link(2).askAnew() })
+	if !it.replicate("s", 2, 0, nil) {
+		t.Fatal("nobody counts")
+	}
+}
+
+func TestCopiesGetFewerOnlyByALaterReopening(t *testing.T) {
+	it := beside(t, "1")[0]
+	it.transact(func(kept records) error {
+		found := []any{kept.putCopies(2), kept.putCopies(1)}
+		for _, number := range []uint64{0, 100, 100} {
+			kept.putSettled(number, 1)
+			found = append(found, kept.counting())
+		}
+		wantSame(t, found, "[2 2 {0 2} {100 1} {100 1}]")
+		return nil
+	})
+	if _, err := New(Settings{Name: "x", Copies: -1}, digits{}, opened(t, t.TempDir()+"/store")); err == nil {
+		t.Fatal("a write is at less than one server")
+	}
+}
+
+func TestWhoCountsByFewerCopiesIsNotToLeadNext(t *testing.T) {
+	servers := beside(t, "12", "12")
+	it := leads(servers, 2)
+	for _, kind := range []smplan.CallKind{smplan.PrepareDrop, smplan.Change, smplan.Drop} {
+		order := smplan.Order{Call: smplan.Call{Kind: kind, Party: 2, To: smplan.SecondaryRole}}
+		_, err := it.prepare(orderLine{Shard: "s", Replicas: []string{"a", "b"}}, order)
+		wantSame(t, []any{err}, "[b acknowledges what 1 servers have, and a only what 2 have: start b with -copies 2]")
+	}
+	servers[1].transact(func(kept records) error { kept.putSlot("s", smplan.Slot{}); return nil })
+	primary := "a"
+	_, err := servers[1].prepare(orderLine{Shard: "s", Primary: &primary}, smplan.Order{Call: smplan.Call{Kind: smplan.Add, To: smplan.SecondaryRole}})
+	wantSame(t, []any{err}, "[b acknowledges what 1 servers have, and a only what 2 have: start b with -copies 2]")
+	servers[1].transact(func(kept records) error { kept.putCopies(2); return nil })
+	if _, err := it.prepare(orderLine{Shard: "s"}, smplan.Order{Call: smplan.Call{Kind: smplan.PrepareDrop, Party: 2}}); err != nil {
+		t.Fatal(err)
 	}
 }

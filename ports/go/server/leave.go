@@ -56,8 +56,8 @@ func (it *Server) leaveGiven(line leaveLine) (any, error) {
 				link := live.link(line.From)
 				link.left, link.joined = line.Question, link.joined+1
 			})
-			if slot.Cell.Kind != smplan.Secondary && !it.hasEnough(line.Shard) {
-				answer = leftLine{Later: fmt.Sprintf("fewer than %d others have all", it.Copies)}
+			if slot.Cell.Kind != smplan.Secondary && !it.hasEnough(line.Shard, kept.counting()) {
+				answer = leftLine{Later: fmt.Sprintf("fewer than %d others have all", kept.counting().Copies)}
 			}
 		}
 		return nil
@@ -102,12 +102,17 @@ func (it *Server) takeLeave(line orderLine, others []uint32) error {
 // askLeave asks for leave until somebody gives it.
 func (it *Server) askLeave(shard, question string, isBeside bool, givers []uint32) error {
 	var line leaveLine
+	needed := 1
 	err := it.transact(func(kept records) error {
 		if isBeside && !kept.hasCopy(shard) {
 			return errors.New(lostCopy(shard))
 		}
-		if isBeside && it.Copies > 1 && kept.slot(shard).Cell.Kind != smplan.Primary && kept.mark(shard).View > kept.heard() {
+		by := kept.counting()
+		if isBeside && by.Copies > 1 && kept.slot(shard).Cell.Kind != smplan.Primary && kept.mark(shard).View > by.Settled {
 			return errors.New("nobody leads it, and this copy may have writes of a primary since the last reopening")
+		}
+		if isBeside {
+			needed = by.Copies
 		}
 		line = leaveLine{shard, it.number(), fmt.Sprintf("%x", kept.base().Journal), kept.heard(), kept.mark(shard), question, isBeside}
 		return nil
@@ -115,10 +120,7 @@ func (it *Server) askLeave(shard, question string, isBeside bool, givers []uint3
 	if err != nil {
 		return err
 	}
-	said, needed := []string{}, 1
-	if isBeside && it.Copies > 1 {
-		needed = it.Copies
-	}
+	said := []string{}
 	for _, number := range givers {
 		var told leftLine
 		if err := it.ask(number, "leave", line, &told, it.Limits.Peer); err != nil {
@@ -133,5 +135,5 @@ func (it *Server) askLeave(shard, question string, isBeside bool, givers []uint3
 			return nil
 		}
 	}
-	return fmt.Errorf("fewer than %d others give leave; %s", it.Copies, strings.Join(said, "; "))
+	return fmt.Errorf("%d more have to give leave; %s", needed, strings.Join(said, "; "))
 }

@@ -60,6 +60,7 @@ type offerLine struct {
 	From    uint32     `json:"from"`
 	Journal string     `json:"journal"`
 	Heard   uint64     `json:"heard"`
+	Copies  int        `json:"copies"`
 	Mark    mark       `json:"mark"`
 	After   mark       `json:"after"`
 	Views   views      `json:"views,omitempty"`
@@ -89,11 +90,12 @@ type askLine struct {
 
 // followLine is what a follower answers to an offer.
 type followLine struct {
-	Has       bool   `json:"has,omitempty"`
-	Lacks     *mark  `json:"lacks,omitempty"`
-	Nothing   bool   `json:"nothing,omitempty"`
-	Overtaken bool   `json:"overtaken,omitempty"`
-	Later     string `json:"later,omitempty"`
+	Has       bool    `json:"has,omitempty"`
+	Settled   *uint64 `json:"settled,omitempty"`
+	Lacks     *mark   `json:"lacks,omitempty"`
+	Nothing   bool    `json:"nothing,omitempty"`
+	Overtaken bool    `json:"overtaken,omitempty"`
+	Later     string  `json:"later,omitempty"`
 }
 
 // requestLine is a client's request, or one that is passed on.

@@ -36,8 +36,8 @@ func isSourceFor(slot smplan.Slot, position uint64, number uint32) bool {
 // offer is what a server lacks whose list ends at a mark: the writes behind it, or a whole copy if the mark is not this list's, or too far behind.
 func (it *Server) offer(kept records, shard string, after mark) (line offerLine, err error) {
 	slot, base := kept.slot(shard), kept.base()
-	line = offerLine{Shard: shard, From: it.number(), Journal: fmt.Sprintf("%x", base.Journal), Heard: kept.heard(), Mark: kept.mark(shard), After: after,
-		Views: kept.views(shard)}
+	line = offerLine{Shard: shard, From: it.number(), Journal: fmt.Sprintf("%x", base.Journal), Heard: kept.heard(), Copies: kept.counting().Copies,
+		Mark: kept.mark(shard), After: after, Views: kept.views(shard)}
 	if slot.Cell.Kind == smplan.Forwarding {
 		line.Cut = &[2]uint64{slot.Cell.Number, slot.Cut}
 	}
@@ -139,6 +139,13 @@ func (it *Server) taken(line offerLine) (any, error) {
 		if answer = refused(kept, line); answer == nil && it.isLeaving(line.Shard) {
 			answer = &followLine{Later: "it leaves"}
 		}
+		if err := it.fewer(kept, line); answer == nil && err != nil && !kept.hasCopy(line.Shard) {
+			answer = &followLine{Later: err.Error()}
+		}
+		settled := kept.counting().Settled
+		if answer != nil && answer.Has {
+			answer.Settled = &settled
+		}
 		if answer != nil {
 			return nil
 		}
@@ -151,7 +158,7 @@ func (it *Server) taken(line offerLine) (any, error) {
 		}
 		switch here := kept.mark(line.Shard); {
 		case has:
-			answer = &followLine{Has: true}
+			answer = &followLine{Has: true, Settled: &settled}
 		case here.hasMoreThan(line.Mark):
 			answer = &followLine{Later: "it has more"}
 		default:
@@ -161,6 +168,20 @@ func (it *Server) taken(line offerLine) (any, error) {
 	})
 	it.with(line.Shard, func(*live) {})
 	return answer, err
+}
+
+// fewer returns why nothing is copied from a source whose acknowledged writes are at more servers than this one's, if so: this one may lead the shard
+// next.
+func (it *Server) fewer(kept records, line offerLine) error {
+	return tellFewer(it.Name, kept.counting().Copies, it.nameOf(line.From), line.Copies)
+}
+
+// tellFewer is what is said of a server that is to lead after one whose acknowledged writes are at more servers.
+func tellFewer(name string, copies int, leader string, wanted int) error {
+	if copies >= wanted {
+		return nil
+	}
+	return fmt.Errorf("%s acknowledges what %d servers have, and %s only what %d have: start %s with -copies %d", name, copies, leader, wanted, name, wanted)
 }
 
 // isLeaving returns whether this server asks for leave to drop a shard: meanwhile it tells nobody what it has.

@@ -159,6 +159,9 @@ func (it *Server) prepare(line orderLine, order smplan.Order) (*offerLine, error
 			return nil, errors.New("nobody is named who has it")
 		}
 		offer, err := it.asked(line.Shard, source, false)
+		if err == nil {
+			err = it.transact(func(kept records) error { return it.fewer(kept, offer) })
+		}
 		return &offer, err
 	case call.Kind == smplan.Add && slot.Cell.Kind == smplan.Absent && len(others) > 0:
 		return nil, fmt.Errorf("others have %s: %v", line.Shard, line.Replicas)
@@ -167,6 +170,9 @@ func (it *Server) prepare(line orderLine, order smplan.Order) (*offerLine, error
 	case call.Kind == smplan.Change && call.To == smplan.PrimaryRole:
 		return nil, it.compare(line.Shard, others)
 	case needsRest(order, slot):
+		if err := it.lookAtNext(call, others); err != nil {
+			return nil, err
+		}
 		if err := it.rest(line.Shard, order, others); err != nil {
 			return nil, err
 		}
@@ -182,6 +188,23 @@ func needsRest(order smplan.Order, slot smplan.Slot) bool {
 	call := order.Call
 	return call.Kind == smplan.PrepareDrop || call.Kind == smplan.Change && call.To == smplan.SecondaryRole ||
 		call.Kind == smplan.Drop && slot.Cell.Kind == smplan.Primary
+}
+
+// lookAtNext returns an error unless those that may lead a shard next, before this server leads it no more, have each acknowledged write at as many
+// servers. Controllers count by that.
+func (it *Server) lookAtNext(call smplan.Call, others []uint32) (err error) {
+	var by counting
+	it.transact(func(kept records) error { by = kept.counting(); return nil })
+	if call.Kind == smplan.PrepareDrop {
+		others = []uint32{call.Party}
+	}
+	for at := 0; at < len(others) && err == nil && by.Copies > 1; at++ {
+		var told lifeLine
+		if err = it.ask(others[at], "life", struct{}{}, &told, it.Limits.Peer); err == nil {
+			err = tellFewer(it.nameOf(others[at]), told.Copies, it.Name, by.Copies)
+		}
+	}
+	return err
 }
 
 // rest waits until no request of a shard runs, and before a change of roles until each secondary has all writes.

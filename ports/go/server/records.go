@@ -135,6 +135,43 @@ func (it records) putBase(base smplan.Base, heard uint64) {
 	it.store("frame/heard", heard)
 }
 
+// counting is what a server counts by: the last reopening of which it has taken slots, at which who counts was settled, too; and how many servers,
+// itself among them, have each write that it acknowledges.
+type counting struct {
+	Settled uint64
+	Copies  int
+}
+
+// counting is what it counts by.
+func (it records) counting() (found counting) {
+	if it.read("frame/settled", &found) {
+		return found
+	}
+	if it.base().Fenced { // (a store of before this was kept)
+		return counting{0, 1}
+	}
+	return counting{it.heard(), 1}
+}
+
+// putCopies stores at a start how many servers are to have each write, and returns how many it is: no fewer than before, since a controller may
+// count by them.
+func (it records) putCopies(copies int) int {
+	found := it.counting()
+	if found.Copies < copies {
+		found.Copies = copies
+	}
+	it.store("frame/settled", found)
+	return found.Copies
+}
+
+// putSettled stores of which reopening it takes slots. By those of a later one its writes may be at fewer servers than before.
+func (it records) putSettled(number uint64, copies int) {
+	if before := it.counting(); before.Settled >= number && before.Copies > copies {
+		copies = before.Copies
+	}
+	it.store("frame/settled", counting{number, copies})
+}
+
 func (it records) slot(shard string) (slot smplan.Slot) {
 	it.read(place("slot", shard), &slot)
 	return slot

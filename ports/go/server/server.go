@@ -6,6 +6,7 @@ import (
 	"crypto/rand"
 	"encoding/binary"
 	"encoding/json"
+	"errors"
 	"fmt"
 	"log"
 	"sync"
@@ -39,7 +40,7 @@ var DefaultLimits = Limits{time.Second, 30 * time.Second, 3 * time.Second, 3 * t
 
 // Settings are what a server is begun with. IsNew: the service is new, so that no shard has data yet. Forgets: it was given up, and turns Unknown.
 // Token is the controller's, which all but clients have to show. Cert and Key are files: with them it serves by TLS. It acknowledges only what Copies
-// servers have, itself among them.
+// servers have, itself among them: 1 if that is 0.
 type Settings struct {
 	Name        string
 	Controllers []string
@@ -52,21 +53,23 @@ type Settings struct {
 }
 
 // link is what a source of writes knows of another server: whether it has to be asked, by which question it got leave to drop the shard, up to
-// which position it has this list, where its own one is said to end, and until when it is taken for dead.
+// which position it has this list, at which reopening it was settled as it said so, where its own list is said to end, and until when it is taken for
+// dead.
 type link struct {
 	mutex     sync.Mutex
 	isNothing bool
 	left      string
 	joined    int
 	has       int64
+	settled   *uint64
 	mark      *mark
 	failures  int
 	deadUntil time.Time
 }
 
 // live is a shard in memory. Requests that run belong to a term; if it ends, they are not acknowledged. Writes up to acknowledged are at all who
-// are alive. Once it isCopied, enough servers have all that was here when it began to lead; told is the last reopening since which a controller
-// knows. No order that holds requests back begins before restUntil. Who is leaving asks for leave under this number; leave is that of the
+// are alive. Up to the place noted goes all that was here when it began to lead; told is the last reopening since which a controller knows that enough
+// servers have that. No order that holds requests back begins before restUntil. Who is leaving asks for leave under this number; leave is that of the
 // question that was answered.
 type live struct {
 	running      int
@@ -79,14 +82,14 @@ type live struct {
 	said         string
 	restUntil    time.Time
 	acknowledged uint64
-	isCopied     bool
+	noted        *uint64
 	told         *uint64
 	links        map[uint32]*link
 }
 
 // beginAnew forgets what other servers have, since who executes is another one, or may be.
 func (it *live) beginAnew() {
-	it.acknowledged, it.isCopied, it.told, it.links = 0, false, nil, map[uint32]*link{}
+	it.acknowledged, it.noted, it.told, it.links = 0, nil, nil, map[uint32]*link{}
 	it.stay()
 }
 
@@ -114,6 +117,8 @@ type Server struct {
 	fleet   map[string]member
 	life    uint64
 	lives   map[uint32]string
+
+	recorded recorded
 }
 
 // New begins a server without work; an Unknown one under a new nonce.
@@ -121,10 +126,19 @@ func New(settings Settings, service Service, store Store) (*Server, error) {
 	if settings.Limits == (Limits{}) {
 		settings.Limits = DefaultLimits
 	}
+	if settings.Copies == 0 {
+		settings.Copies = 1
+	}
+	if settings.Copies < 1 {
+		return nil, errors.New(tooFew)
+	}
 	it := &Server{Settings: settings, service: service, store: store, caller: caller{token: settings.Token}, changed: make(chan struct{}),
 		shards: map[string]*live{}, fleet: map[string]member{}, life: nonce(), lives: map[uint32]string{}}
 	return it, store.Transact(func(tx Tx) error {
 		kept := records{tx}
+		if copies := kept.putCopies(settings.Copies); copies > settings.Copies {
+			log.Printf("%s: acknowledges only what %d servers have, as before, until it is settled at a reopening", it.Name, copies)
+		}
 		if _, ok := tx.Get("frame/base"); settings.IsNew && !ok {
 			tx.Put("frame/new", "1")
 		}

@@ -95,7 +95,7 @@ func (it *Server) pushOnce(shard string, number uint32, link *link) told {
 	switch {
 	case answer.Has:
 		if link.joined == joined {
-			link.has, link.mark = int64(offer.Mark.Position), &offer.Mark
+			link.has, link.mark, link.settled = int64(offer.Mark.Position), &offer.Mark, answer.Settled
 		}
 		return hasAll
 	case answer.Lacks != nil:
@@ -127,15 +127,17 @@ func (it *Server) round(shard string, position uint64, must map[uint32]bool) map
 	return said
 }
 
-// areEnough returns whether as many servers have the writes as each has to be at, this one among them.
-func (it *Server) areEnough(said map[uint32]told) bool {
+// areEnough returns whether as many servers have the writes up to a place as each has to be at, this one among them. Another one counts by what it
+// has said once it was settled at this one's last reopening: one that was given up may go on to follow. The server's mutex is held: nobody gets leave
+// meanwhile.
+func (it *live) areEnough(position uint64, by counting) bool {
 	having := 1
-	for _, one := range said {
-		if one == hasAll {
+	for _, link := range it.links {
+		if link.counts() && link.has >= int64(position) && link.settled != nil && *link.settled >= by.Settled {
 			having++
 		}
 	}
-	return having >= it.Copies
+	return having >= by.Copies
 }
 
 // replicate waits until each live server that follows has the writes up to a place, enough servers do, and those that must have them, live or not;
@@ -149,11 +151,11 @@ func (it *Server) replicate(shard string, position uint64, term int, others []ui
 		if isOver || isDone {
 			return !isOver
 		}
-		must, old := map[uint32]bool{}, uint32(0)
+		must, old, by := map[uint32]bool{}, uint32(0), counting{}
 		for _, number := range others {
 			must[number] = true
 		}
-		it.transact(func(kept records) error { old = kept.oldOwner(shard); return nil })
+		it.transact(func(kept records) error { old, by = kept.oldOwner(shard), kept.counting(); return nil })
 		if old != 0 {
 			must[old] = true
 		}
@@ -162,16 +164,15 @@ func (it *Server) replicate(shard string, position uint64, term int, others []ui
 			it.release(shard, old)
 			delete(must, old)
 		}
-		if all, isOvertaken := have(said, must); isOvertaken {
-			return false
-		} else if all && it.areEnough(said) {
-			it.with(shard, func(live *live) {
-				isOver = live.term != term
-				if !isOver && live.acknowledged < position {
-					live.acknowledged = position
-				}
-			})
-			return !isOver
+		all, isOvertaken := have(said, must)
+		it.with(shard, func(live *live) {
+			isDone = all && !isOvertaken && live.term == term && live.areEnough(position, by)
+			if isDone && live.acknowledged < position {
+				live.acknowledged = position
+			}
+		})
+		if isDone || isOvertaken {
+			return isDone
 		}
 	}
 	return false

@@ -144,7 +144,7 @@ func TestABeginningIsNotSetAside(t *testing.T) {
 		line.After = markOf(two[1])
 		answer, err := two[1].taken(line)
 		wantSaid(t, err, "")
-		wantSame(t, []any{*answer.(*followLine), asideOf(t, two[1])}, fmt.Sprint([]any{followLine{Has: true}, names}))
+		wantSame(t, []any{answer.(*followLine).Has, asideOf(t, two[1])}, fmt.Sprint([]any{true, names}))
 	}
 }
 

@@ -13,17 +13,21 @@ func isInHandover(slot smplan.Slot) bool {
 	return slot.Cell.Kind == smplan.Prepared || slot.Cell.Kind == smplan.Forwarding
 }
 
-// lifeLine is a number that is another one after each start, and whenever the slots were set or lost; and the shards that leave is asked for.
+// lifeLine is a number that is another one after each start, and whenever the slots were set or lost; the shards that leave is asked for; and how many
+// servers have what is acknowledged.
 type lifeLine struct {
 	Life    string            `json:"life"`
 	Leaving map[string]string `json:"leaving"`
+	Copies  int               `json:"copies"`
 }
 
 // tellLife tells its life.
 func (it *Server) tellLife(struct{}) (any, error) {
+	var by counting
+	it.transact(func(kept records) error { by = kept.counting(); return nil })
 	it.mutex.Lock()
 	defer it.mutex.Unlock()
-	told := lifeLine{fmt.Sprintf("%x", it.life), map[string]string{}}
+	told := lifeLine{fmt.Sprintf("%x", it.life), map[string]string{}, by.Copies}
 	for shard, live := range it.shards {
 		if live.leaving != "" {
 			told.Leaving[shard] = live.leaving
@@ -178,6 +182,7 @@ func (it *Server) take(line wholeLine) (reception smplan.Reception, err error) {
 			heard = told.Fence
 		}
 		kept.putBase(base, heard)
+		kept.putSettled(heard, it.Copies)
 		kept.Delete("frame/new")
 		for _, shard := range kept.copies() {
 			if _, ok := after[shard]; !ok {
