@@ -10,6 +10,8 @@ from unittest import mock
 from test_servers import Several, setUpModule, tearDownModule  # (one PostgreSQL for all)
 from smplan.agent import Base, Cell, Slot
 from smplan_pg import status, streams
+from smplan_pg.command_line import main
+from smplan_pg.copied import Copied
 from smplan_pg.database import value
 from smplan_pg.records import Records
 from smplan_pg.server import Limits
@@ -31,14 +33,17 @@ class CopiedTest(Several):
             it.database.do("UPDATE sm.state SET copies = 2, settled = 0, heard = 0")
             for table in ("slots", "connections", "leaving"):
                 it.database.do(f"DELETE FROM sm.{table}")
-        self.a, self.lines, self.answer = self.its["a"].database, [], {"copied": {}}
+        self.a, self.lines, self.answer, self.state, self.known = self.its["a"].database, [], {"copied": {}}, {}, 1
         self.its["a"].limits, self.its["a"].controllers, self.its["a"].call = self.limits, ["http://away", "http://leader"], self.say
-        self.its["a"].copied.noted = {}
+        self.its["a"].copied = Copied(self.its["a"])
 
     def say(self, url, line, _):
         """Controllers, of which one answers."""
-        if url != "http://leader/do" or self.answer is None:
+        if not url.startswith("http://leader/") or self.answer is None:
             raise OSError("it does not lead")
+        if url.endswith("/ask"):
+            state = {"is": "open", "journal": "9", "fence": value(self.a.row("SELECT settled FROM sm.state")), **self.state}
+            return {"state": {**state, "shards": [{"shard": self.shard, "copies": self.known}]}}
         self.lines.append((line["fence"], line["copies"]))
         return self.answer
 
@@ -288,6 +293,7 @@ class CopiedTest(Several):
     def tell(self):
         """What server a tells now."""
         before = len(self.lines)
+        self.its["a"].copied.recorded.until = 0.0
         self.its["a"].copied.tell()
         return self.lines[before:]
 
@@ -342,6 +348,20 @@ class CopiedTest(Several):
             self.assertEqual([self.tell(), self.tell()], [[(0, 2)], []])
         self.assertIn("AboveWant", said.getvalue())
 
+    def test_told_until_a_controller_knows(self):
+        self.lead()
+        self.state = {"is": "reopening"}
+        self.tell()
+        self.read("b")
+        for self.state in ({"is": "reopening"}, {"fence": 3}, {"journal": "8"}):
+            self.assertEqual(self.tell(), [])
+        self.state, self.answer = {}, {"ignored": "old"}
+        self.assertEqual([self.tell(), self.tell()], [[(0, 2)]] * 2)
+        self.known = 2
+        self.assertEqual(self.tell(), [])
+        self.known = 1
+        self.assertEqual(self.tell(), [])  # (it never falls under one reopening)
+
     def test_who_follows_or_has_one_copy_tells_nothing(self):
         self.lead()
         self.a.do("UPDATE sm.state SET copies = 1")
@@ -367,6 +387,29 @@ class CopiedTest(Several):
             it.put_settled(100, 3)
             found.append(it.copies())
         self.assertEqual((found, "only what 2 servers have" in str(said.call_args)), ([2, 2, 1, 3], True))
+
+    def test_who_counts_by_fewer_is_not_to_lead_next(self):
+        reason = "working: b acknowledges what 1 servers have, and a only what 2 have: start b with --copies 2"
+        for copies, wanted in ((1, reason), (2, None)):
+            for call, rest in (("prepare_drop", {"to": "b", "handover": 1}), ("change", {"role": "primary", "from": "primary", "to": "secondary"}), ("drop", {})):
+                self.shard += "x"
+                self.lead()
+                self.its["b"].database.do("UPDATE sm.state SET copies = %s", copies)
+                told = self.order("a", call, "ab", "a", **rest).get("said", "done")
+                self.assertEqual(told == reason, wanted is not None, (call, told))
+
+    def test_nothing_is_copied_from_one_that_counts_by_more(self):
+        self.lead("")
+        b = self.its["b"]
+        b.database.do("UPDATE sm.state SET copies = 1")
+        with self.assertRaisesRegex(streams.Stuck, "b acknowledges what 1 servers have, and a only what 2 have"):
+            b.copies.make(self.shard, 1, lambda: True, lambda _: None)
+
+    def test_a_write_is_at_one_server_at_least(self):
+        for words in ("0", "-1", "x"):
+            with mock.patch("sys.stderr", io.StringIO()) as said, self.assertRaises(SystemExit):
+                main(["serve", f"--copies={words}"])
+            self.assertIn(f"--copies: {words}: a write is at one server at least", said.getvalue())
 
     def test_said_in_the_log_and_by_status(self):
         self.lead()

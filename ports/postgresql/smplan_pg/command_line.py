@@ -9,6 +9,7 @@ from typing import List, Optional
 
 import psycopg
 from smplan.failure import Failure
+from smplan.server_copied import copies_of
 
 from .adopt import adopt, install, load_of, refuse_server
 from .bouncer import databases_of, servers_of
@@ -35,8 +36,6 @@ def run_adopt(told: argparse.Namespace) -> int:
 
 def run_serve(told: argparse.Namespace) -> int:
     """Serves a server's side for a controller."""
-    if told.copies < 1:
-        raise Failure("--copies: a write is at one server at least")
     token = Path(told.token).read_text(encoding="utf-8").strip() if told.token else None
     database = Database(told.dsn)
     limits = Limits(copies=told.copies, at_once=told.at_once, dead=told.dead, stalled=told.stalled, keeping=told.keeping, ending=told.ending)
@@ -106,7 +105,7 @@ def parser_of() -> argparse.ArgumentParser:
     it.add_argument("--controller", action="append", required=True, metavar="URL", help="may be given again")
     it.add_argument("--http", metavar="URL", help="where it listens, if not at its URL in fleet.json")
     it.add_argument("--token", metavar="FILE", help="the controller's token")
-    it.add_argument("--copies", type=int, default=1, metavar="N", help="acknowledge only what N servers have, the same at all servers of the service (1)")
+    it.add_argument("--copies", type=copies_of, default=1, metavar="N", help="acknowledge only what N servers have, the same at all servers of the service (1)")
     it.add_argument("--at-once", type=int, default=2, metavar="COPIES", help="how many copies are made from one server at once (2)")
     it.add_argument("--dead", type=float, default=5.0, metavar="SECONDS", help="a follower that reads nothing for so long counts no more, and copies anew (5)")
     it.add_argument("--stalled", type=float, default=60.0, metavar="SECONDS", help="so does one that reads and gets on with nothing for so long (60)")

@@ -4,7 +4,7 @@ from __future__ import annotations
 from dataclasses import dataclass
 from typing import TYPE_CHECKING, Any, Dict, Tuple
 
-from smplan.server_copied import is_told, line_of
+from smplan.server_copied import Recorded
 
 from .database import Row, unsigned, value
 
@@ -33,36 +33,33 @@ class Noted:
 
 
 class Copied:
-    """How many servers have each acknowledged write of the shards that this one leads, told once for each reopening, and once it leads or starts anew."""
+    """How many servers have each acknowledged write of the shards that this one leads, told until a controller knows it: anew behind each reopening, and once
+    it leads or starts anew."""
 
     def __init__(self, server: "Server") -> None:
-        self.server = server
+        self.server, self.recorded = server, Recorded(server)
         self.noted: Dict[str, Noted] = {}
         self.short: Dict[str, float] = {}
         self.seen = "0/0"
 
     def tell(self) -> None:
-        """Tells of each shard that is not told yet, as soon as enough servers have all up to the place that was noted."""
-        rows = self.server.database.rows(UNTOLD)
-        self.noted = {it["shard"]: self.note(it) for it in rows}
-        for it in rows:
-            place = self.noted[it["shard"]].place
-            if value(self.server.database.row("SELECT sm.has_copies(%s, %s::pg_lsn)", it["shard"], place)) and not self.tell_one(it):
-                return  # (no controller answers now)
+        """Tells of each shard of which no controller knows, as soon as enough servers have all up to the place that was noted."""
+        rows = {it["shard"]: it for it in self.server.database.rows(UNTOLD)}
+        self.noted = {shard: self.note(it) for shard, it in rows.items()}
+        copies = {shard: it["copies"] for shard, it in rows.items() if self.has_copies(shard)}
+        for it in [rows[shard] for shard in copies][:1]:  # (they are settled together)
+            for shard in self.recorded.take(unsigned(it["journal"]), it["settled"], copies):
+                told = "UPDATE sm.slots SET told = %s WHERE shard = %s AND sealed IS NOT DISTINCT FROM %s::pg_lsn"
+                self.server.database.do(told, it["settled"], shard, rows[shard]["sealed"])
+
+    def has_copies(self, shard: str) -> bool:
+        """Whether enough servers have a shard up to the place that was noted."""
+        return bool(value(self.server.database.row("SELECT sm.has_copies(%s, %s::pg_lsn)", shard, self.noted[shard].place)))
 
     def note(self, row: Row) -> Noted:
         """What is noted of a shard; anew if it is led anew."""
         since, before = (row["settled"], row["sealed"]), self.noted.get(row["shard"])
         return before if before is not None and before.since == since else Noted(since, row["place"])
-
-    def tell_one(self, row: Row) -> bool:
-        """Tells of one shard. Whether a controller has answered."""
-        line = line_of(unsigned(row["journal"]), row["settled"], row["shard"], row["copies"])
-        if not is_told(self.server, line, 3.0):
-            return False
-        told = "UPDATE sm.slots SET told = %s WHERE shard = %s AND sealed IS NOT DISTINCT FROM %s::pg_lsn"
-        self.server.database.do(told, row["settled"], row["shard"], row["sealed"])
-        return True
 
     def look(self) -> None:
         """Says of which shards writes wait, since too few servers have what was written until the last look."""

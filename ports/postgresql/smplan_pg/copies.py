@@ -84,6 +84,7 @@ class Copies:
         """Copies a shard from another server, and follows it. Whoever calls has the shard's hands. While its source makes enough copies, this waits, or is
         stuck: threads that look at shards may not all wait, as other shards are in a handover."""
         there = self.server.peer(number)
+        self.server.sources.check_copies(self.server.number, number)
         self.admit(there, shard, still, said_of, waits)
         since = time.monotonic()
         self.server.say("copies", shard, "from", self.server.names[number])

@@ -227,6 +227,9 @@ class Orders:
             slot = self.begin(tx, shard, order)
             mine = streams.name_of(tx, shard, self.server.number)
             words = leave.words(tx, slot) if leave is not None else ()
+        if needs_rest(order, slot):
+            for it in [order.party] if order.call == Call.PREPARE_DROP else others:
+                self.server.sources.check_copies(it, self.server.number)
         if leave is not None:
             if slot.cell == Cell.FORWARDING:
                 self.wait_for_followers(shard)

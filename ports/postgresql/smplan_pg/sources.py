@@ -5,6 +5,7 @@ from typing import TYPE_CHECKING, Any, Dict, Optional
 
 import psycopg
 from smplan.agent import Base, Cell
+from smplan.server_offers import fewer
 
 from .database import unsigned, value
 from .records import Mark, Records
@@ -55,6 +56,19 @@ class Sources:
                 it = Records(tx)
                 said = it.connection(shard) if it.copies() > 1 else ()
             return bool(value(there.execute(f"SELECT sm.join(%s, %s{', %s' * len(said)})", (shard, self.server.number, *said)).fetchone()))
+
+    def copies_at(self, number: int) -> int:
+        """How many servers have each write that one acknowledges."""
+        database = self.server.database if number == self.server.number else self.server.peer(number)
+        return int(value(database.row("SELECT copies FROM sm.state")))
+
+    def check_copies(self, number: int, leader: int) -> None:
+        """Stops what would let a server lead after another one whose acknowledged writes are at more servers: controllers count by that."""
+        wanted = self.copies_at(leader)
+        copies = self.copies_at(number) if wanted > 1 else wanted
+        if copies < wanted:
+            name, first = (self.server.names.get(it, str(it)) for it in (number, leader))
+            raise Stuck(fewer(name, copies, first, wanted))
 
     def check(self, shard: str, number: int) -> None:
         """Stops what copies from a server that sends nothing any more."""
