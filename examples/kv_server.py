@@ -19,13 +19,17 @@ class Server(Store):
     """One server; `peers` has all of them by number. `copies` replicas have each acknowledged write. If the service is new, no shard has data yet."""
 
     def __init__(self, number, peers, path=":memory:", copies=1, is_new=True):
+        if copies < 1:
+            raise ValueError("a write is at one server at least")
         super().__init__(path)
-        self.number, self.peers, self.copies, self.is_new = number, peers, copies, is_new
+        self.number, self.peers, self.given, self.is_new = number, peers, copies, is_new
         peers[number] = self
         self.start()
 
     def start(self):
-        """Begins without work. If it is Unknown, or there is no base, it asks under a new nonce."""
+        """Begins without work. If it is Unknown, or there is no base, it asks under a new nonce. It counts by no fewer copies than before."""
+        with self.db:
+            self.copies = self.store_copies(self.given)
         self.named = {}  # by shard, who is primary, and which others are replicas, as the newest order names them
         with self.db:
             if self.db.execute("SELECT 1 FROM base WHERE known").fetchone() is None:
@@ -143,12 +147,23 @@ class Server(Store):
 
     def is_ready(self, shard, order):
         """Whether all is done before the commit that asks others: leave to drop, and who becomes primary has the greatest copy, or nobody has one."""
+        if self.slot(shard).cell == Cell.PRIMARY and not self.count_by_as_many(self.replicas(shard)[1] if order.party == 0 else {order.party}):
+            return False
         if order.call == Call.DROP:
             return self.has_leave(shard)
         if order.call == Call.CHANGE:
             return self.has_greatest(shard) if order.new_role == Role.PRIMARY else self.replicate(shard, named=self.replicas(shard)[1])
         begins = order.call == Call.ADD and order.role == Role.PRIMARY and self.slot(shard).cell == Cell.ABSENT
         return not begins or not self.replicas(shard)[1]
+
+    def count_by(self):
+        """How many replicas have what it acknowledges."""
+        return self.copies
+
+    def count_by_as_many(self, others):
+        """Whether those that may lead next have what they acknowledge at as many replicas: controllers count by that."""
+        told = {self.ask(it, "count_by") for it in others if self.copies > 1}
+        return LOST not in told and all(it >= self.copies for it in told)
 
     def has_greatest(self, shard):
         """Whether each other replica has told a copy, and none has more. First it follows those that have."""
@@ -165,11 +180,13 @@ class Server(Store):
         if self.slot(shard).cell != Cell.ABSENT or order.call == Call.DROP or order.role == Role.PRIMARY:
             return None
         primary, others = self.replicas(shard)
-        if order.party or primary:
-            offer = self.peers[order.party or primary].offer(shard, None)
-            return offer and offer[0]
         marks = {it: self.ask(it, "mark", shard) for it in others}
-        best = max((it for it in marks if marks[it] not in (None, LOST)), key=marks.get, default=0)
+        best = order.party or primary or max((it for it in marks if marks[it] not in (None, LOST)), key=marks.get, default=0)
+        if best and self.peers[best].count_by() > self.copies:
+            return None  # (it might lead next)
+        if order.party or primary:
+            offer = self.peers[best].offer(shard, None)
+            return offer and offer[0]
         return self.peers[best].copy_of(shard) if best else None if others else ([(0, 0)], [])
 
     def seal(self, shard, handover, cut):
@@ -267,7 +284,9 @@ class Server(Store):
             if answer != Answer.TAKEN:
                 return answer
             self.store_base(base)
-            self.db.execute("REPLACE INTO reopened VALUES (1, ?)", (told.number if isinstance(told, Settlement) else told.fence,))
+            number = told.number if isinstance(told, Settlement) else told.fence
+            self.copies = self.store_copies(self.given, self.reopened() < number)
+            self.db.execute("REPLACE INTO reopened VALUES (1, ?)", (number,))
             self.questions, self.named = {}, {}
             for shard, slot in {**{it: agent.VACANT for it in self.copied()}, **slots}.items():
                 self.store_slot(shard, slot)

@@ -12,6 +12,7 @@ from smplan.agent import Answer, Base, Slot, ToldCopy, ViewStart
 TABLES = """
 CREATE TABLE IF NOT EXISTS base (one INTEGER PRIMARY KEY, journal, number, nonce, known, fenced);
 CREATE TABLE IF NOT EXISTS reopened (one INTEGER PRIMARY KEY, number);
+CREATE TABLE IF NOT EXISTS copies (one INTEGER PRIMARY KEY, number);
 CREATE TABLE IF NOT EXISTS slots (shard TEXT PRIMARY KEY, cell, party, handover, last, at_work, load, cut, has_cut);
 CREATE TABLE IF NOT EXISTS writes (shard, place, request, key, text, reply, PRIMARY KEY (shard, place));
 CREATE TABLE IF NOT EXISTS views (shard, view, began, PRIMARY KEY (shard, view));
@@ -42,6 +43,13 @@ class Store:
     def reopened(self):
         """The number of the last reopening at which it was settled."""
         return (self.db.execute("SELECT number FROM reopened").fetchone() or (0,))[0]
+
+    def store_copies(self, number, may_fall=False):
+        """Stores how many replicas have each acknowledged write, and returns how many: no fewer than before, unless they may fall."""
+        before = (self.db.execute("SELECT number FROM copies").fetchone() or (1,))[0]
+        number = number if may_fall else max(number, before)
+        self.db.execute("REPLACE INTO copies VALUES (1, ?)", (number,))
+        return number
 
     def slot(self, shard):
         row = self.db.execute("SELECT cell, party, handover, last, at_work, load, cut, has_cut FROM slots WHERE shard = ?", (shard,)).fetchone()

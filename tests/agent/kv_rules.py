@@ -688,6 +688,60 @@ def given_up_and_counted(kind):
     want_kept(answer, c)
 
 
+class CountsAnew(Server):
+    """Counts by what it is started with."""
+    def start(self):
+        super().start()
+        self.copies = self.given
+
+
+def started_with_fewer(kind):
+    a, b, c = three(kind, copies=2)
+    push(a, "r1", "x")
+    want(a.tell_copies(SHARD)["copies"], 2)
+    a.given = 1
+    a.start()
+    with lost(b, "pull"), lost(c, "pull"):
+        answer = push(a, "r2", "y")
+    want_kept(answer, b, c)
+
+
+class HandsToAnybody(Server):
+    """Lets one lead next that counts by fewer copies."""
+    def count_by_as_many(self, others):
+        return True
+
+
+def handed_to_fewer(kind):
+    a, b, c = three(kind, copies=2)
+    push(a, "r1", "x")
+    want(a.tell_copies(SHARD)["copies"], 2)
+    b.copies = 1
+    if answered(a, order(1, Call.CHANGE, role=Role.PRIMARY, new_role=Role.SECONDARY)):
+        answered(b, order(2, Call.CHANGE, role=Role.SECONDARY, new_role=Role.PRIMARY))
+    with lost(a, "pull"), lost(c, "pull"):
+        answer = push(b, "r2", "y")
+    want_kept(answer, a, c)
+
+
+class CopiesFromAnybody(Server):
+    """Copies from one that counts by more copies."""
+    def copy_for(self, shard, order):
+        copies, self.copies = self.copies, 9
+        copy = super().copy_for(shard, order)
+        self.copies = copies
+        return copy
+
+
+def copied_by_fewer(kind):
+    a, b, c = three(kind, Cell.ABSENT, copies=2)
+    push(a, "r1", "x")
+    b.copies = 1
+    want(answered(b, HANDOVER[0]), False)
+    b.copies = 2
+    want(b.work(SHARD, HANDOVER[0]), True)
+
+
 class SendsFirst(Server):
     """Sends a write to others before it is durable here."""
     def write(self, shard, request, command):
@@ -781,7 +835,9 @@ RULES = ((CommitsFirst, crash_amid_copy), (KeepsTheRest, late_after_settle), (Fo
          (BeginsBeside, first_primary_beside_a_secondary), (BeginsLater, first_primary_and_an_empty_secondary),
          (KeepsWork, crash_and_repeat), (DeletesAtDrop, late_order), (ComesBackEmpty, lost_state),
          (KeepsItsNonce, given_up), (TakesWhatItLost, lost_disk), (AcknowledgesAlone, lost_for_good), (AsksForOne, acknowledged_at_one),
-         (TellsAtOnce, copies_told_at_one), (CountsTheGivenUp, given_up_and_counted), (SendsFirst, crash_with_a_write_sent), (ShowsAtOnce, read_of_what_is_lost),
+         (TellsAtOnce, copies_told_at_one), (CountsTheGivenUp, given_up_and_counted), (CountsAnew, started_with_fewer),
+         (HandsToAnybody, handed_to_fewer), (CopiesFromAnybody, copied_by_fewer), (SendsFirst, crash_with_a_write_sent),
+         (ShowsAtOnce, read_of_what_is_lost),
          (ForgetsTheOldOwner, old_owner_is_down), (ForgetsAtLeave, killed_behind_leave))
 
 
