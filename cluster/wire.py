@@ -85,8 +85,10 @@ class Cluster:
             for name, it in told["servers"].items()
         }
         controllers = {name: Address.of(it) for name, it in told.get("controllers", {}).items()}
-        return Cluster(servers, controllers, tuple(told.get("etcd", ())), told.get("map_prefix", "/map/"), told.get("map_file"), told.get("lease", 0.0),
-                       told.get("copies", 1))
+        copies = told.get("copies", 1)
+        if not isinstance(copies, int) or copies < 1:
+            raise ValueError(f"{path}: copies: a write is at one server at least")
+        return Cluster(servers, controllers, tuple(told.get("etcd", ())), told.get("map_prefix", "/map/"), told.get("map_file"), told.get("lease", 0.0), copies)
 
 
 # Writes JSON as short as it goes.

@@ -43,8 +43,9 @@ class Copied:
         for channel in self.channels:
             try:
                 await channel.ask(limits.STEP, copied=line)
-            except Failed:
-                continue
+                self.store.note("copied", shard=shard.name, fence=fence)
+            except Failed as why:
+                if why.kind != "Refused":  # (more than the shard wants: a reopening decides that)
+                    continue
             lead.told = fence
-            self.store.note("copied", shard=shard.name, fence=fence)
             return

@@ -2,8 +2,11 @@
 from __future__ import annotations
 
 import asyncio
+import json
+import tempfile
 import unittest
 from types import SimpleNamespace
+from unittest.mock import AsyncMock, Mock
 
 from scripted import Scripted, ServersTest, until
 from test_leaves import CELLS, ROLES, said
@@ -11,8 +14,10 @@ from test_losses import has, push
 
 from smplan.agent import Base, Cell, Slot, ViewStart
 
+from cluster.servers.copied import Copied
 from cluster.servers.shard import Shard
 from cluster.servers.sources import Sources, Stream
+from cluster.wire import Cluster, Failed
 
 # How long a request is watched that is not to be acknowledged, in seconds: longer than others are waited for that are gone.
 WATCHING = 5.0
@@ -94,6 +99,35 @@ class CountedTest(ServersTest):
 
     def test_who_tells(self):
         self.finds(handed_over)
+
+
+class CopiedTest(unittest.IsolatedAsyncioTestCase):
+    """What a server tells controllers."""
+
+    async def test_it_is_told_until_whoever_leads_knows_or_refuses(self):
+        shard = Shard("s", Slot(cell=Cell.PRIMARY), 5, "c", True, (ViewStart(9, 0),))
+        store = SimpleNamespace(base=Base(journal=7, number=12, known=1), opened=9, note=Mock())
+        it, found = Copied(SimpleNamespace(store=store, cluster=SimpleNamespace(controllers={}, copies=2))), []
+        it.channels = [SimpleNamespace(ask=AsyncMock(side_effect=Failed("NotLeader"))), SimpleNamespace(ask=AsyncMock())]
+        for it.channels[1].ask.side_effect in (Failed("Lost"), Failed("NotYet"), Failed("Refused"), None):
+            shard.begin_to_lead(0)
+            await it.tell_one(shard)
+            found.append((shard.lead.told, store.note.call_count))
+        self.assertEqual(found, [(-1, 0), (-1, 0), (9, 0), (9, 1)])
+
+
+class ClusterTest(unittest.TestCase):
+    """The file that says where everybody is."""
+
+    def test_a_write_is_at_one_server_at_least(self):
+        with tempfile.NamedTemporaryFile("w+") as file:
+            for copies in (0, -1, "2"):
+                file.seek(0)
+                file.truncate()
+                json.dump({"servers": {}, "copies": copies}, file)
+                file.flush()
+                with self.assertRaisesRegex(ValueError, "a write is at one server at least"):
+                    Cluster.read(file.name)
 
 
 class SourcesTest(unittest.TestCase):
