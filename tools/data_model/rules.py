@@ -201,7 +201,7 @@ class SmallRules(Rules):
 # The rules of the small form that the built one has not.
 NOT_BUILT = frozenset({
     "kept_below_wanted", "goers_lower", "ordered_counted", "replaced_counted", "leave_of_present", "position_wins",
-    "doubt_told", "doubt_kept",
+    "doubt_told", "doubt_kept", "fence_bounded",
 })
 
 

@@ -397,7 +397,7 @@ class Schedule(base.Schedule):
             self.world.say("server", host.number, "is cut off from the controller")
             self.world.coverage["cut off"] += 1
             host.is_cut_off = True
-        elif draw > 0.97 and self.rules.journal_named:
+        elif draw > 0.97 and self.rules.journal_named and not (self.rules.is_built and host.server.is_known):
             stray = Fence(host.number, host.server.base + (1 << 21) * BASE_STEP, 77)
             self.world.deliver(stray if host.server.is_known else Fence(host.number, 1, 77))
 
