@@ -7,4 +7,7 @@ mod Opening
 mod Cuts
 mod Laws
 mod Epochs
+mod Choosing
+mod Reopened
 mod Plays
+mod ReopenedPlays

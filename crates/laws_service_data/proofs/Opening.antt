@@ -16,11 +16,11 @@ use Rattle.laws_service_data.specs.Laws.{JoinedOpens}
 use Rattle.laws_service_data.proofs.Rows.{primary_serves}
 
 -- a base that turns nothing away
-abbrev first_base : Base
+abbrev pub first_base : Base
 first_base = record { journal = 1; number = 0; fenced = false; nonce = None }
 
 -- the fleet before any event
-abbrev first_fleet : Setup → Place → ℕ → Fleet
+abbrev pub first_fleet : Setup → Place → ℕ → Fleet
 first_fleet setup p room = record {
   start = record { journal = 1; fence = 0; base = 0; w = opened (sizes_of setup) p room; permits = λ v. None; restores = [] };
   journal = [];
@@ -39,7 +39,7 @@ first_fleet setup p room = record {
   asks = [];
 }
 
-fleet_opening : (setup : Setup) (p : Place) (room : ℕ) → IsOpening setup p room → IsFleetOpening setup (first_fleet setup p room)
+pub fleet_opening : (setup : Setup) (p : Place) (room : ℕ) → IsOpening setup p room → IsFleetOpening setup (first_fleet setup p room)
 fleet_opening setup p room o = record {
   journal = refl;
   last = λ s v. 0;

@@ -1,8 +1,9 @@
 //! The laws.
 ghost use Rattle.laws_service_data.specs.Epochs.{ExecutesOverReopenings, OpensAnew};
+ghost use Rattle.laws_service_data.specs.Reopened.{ExecutesAsSettled, SettledLeads};
 ghost use Rattle.laws_service_data.specs.Laws.{CutEndsWrites, ExecutesWithAll, JoinedOpens, ReachedCutHasAll, ServingLeads};
 
-use laws_data::acknowledged_writes_stay;
+use laws_data::{acknowledged_writes_stay, enough_replicas_have_them};
 use sm_server::leads_where_led;
 
 /// States that whoever serves a shard leads its data, or is prepared to take over from the server that does.
@@ -54,4 +55,23 @@ pub fn opens_anew()
     ensures { OpensAnew }
 {
     leads_where_led();
+}
+
+/// States that if a reopening knows of a shard what is so, and what it settles is done with the data, whoever serves the
+/// shard in the fleet that opens leads its data: the primary that is left, or, if the shard is not named as lost, the
+/// one that is chosen.
+pub fn settled_server_leads()
+    ensures { SettledLeads }
+{
+    leads_where_led();
+    enough_replicas_have_them();
+}
+
+/// States that over such reopenings whoever executes a request of a shard has each write that was acknowledged before.
+pub fn executes_as_settled()
+    ensures { ExecutesAsSettled }
+{
+    leads_where_led();
+    acknowledged_writes_stay();
+    enough_replicas_have_them();
 }

@@ -1,5 +1,6 @@
 //! Worked plays, computed by the definitions.
 ghost use Rattle.laws_service_data.specs.Plays.{HandoverKeepsWrites, RestartKeepsWrites};
+ghost use Rattle.laws_service_data.specs.ReopenedPlays.{PrimaryServesOn, SecondaryIsChosen};
 
 /// Shows that the premises can be met: a shard moves, and a write before the cut and one behind it are with the new
 /// owner.
@@ -11,4 +12,15 @@ pub fn handover_keeps_writes()
 /// restored.
 pub fn restart_keeps_writes()
     ensures { RestartKeepsWrites }
+{}
+
+/// Shows that if a secondary is lost, the primary is left in a reopening, and serves with all that was acknowledged.
+pub fn primary_serves_on()
+    ensures { PrimaryServesOn }
+{}
+
+/// Shows that if the primary is lost, and the shard is not named, the secondary is chosen in a reopening, and serves
+/// with all that was acknowledged.
+pub fn secondary_is_chosen()
+    ensures { SecondaryIsChosen }
 {}
