@@ -1080,7 +1080,8 @@ def leave_behind_a_start(kind):
         for _ in range(2):
             a.streams.keep_up()
         a.copied.tell()
-        a.streams.link(a.live(kv_rules.SHARD), 2).has = 1
+        link = a.streams.link(a.live(kv_rules.SHARD), 2)
+        link.has, link.settled = 1, 0
         kv_rules.want(kv_rules.answered(c, kv_rules.order(1, Call.DROP)), False)
 
 
@@ -1149,6 +1150,16 @@ class RulesTest(unittest.TestCase):
         a.tell()
         self.assertEqual((found, len(a.lines), a.asked), ([0, 0, 0, 1, 2, 3], 3, 9))  # (both controllers are asked while none has the reopening in force)
 
+    def test_copies_are_told_though_writes_go_on(self):
+        a, b = kv_rules.pair(Twice, Cell.SECONDARY)
+        a.state = {"is": "reopening"}
+        a.tell()
+        with kv_rules.lost(b, "follow"):
+            kv_rules.push(a, "r1", "x")
+            a.state, a.copied.recorded.until = {}, 0.0
+            a.copied.tell()
+        self.assertEqual((len(a.lines), b.value("s", "k")), (1, ""))
+
     def test_copies_that_are_known_are_not_told(self):
         """As behind a start, or once a reply was lost."""
         a, _ = kv_rules.pair(Twice, Cell.SECONDARY)
@@ -1171,7 +1182,9 @@ class RulesTest(unittest.TestCase):
             self.assertEqual((times, server.asked), ([0, 1, 2, 4, 8, 16, 32, 62, 92, 122, 152, 182], 24))
             server.state, now = {}, 300
             self.assertEqual((len(recorded.take(7, 0, {it: 2 for it in server.known})), server.asked, len(server.lines)), (100, 25, 50))
-            server.known["s0"], server.state = 1, {"fence": 5}
+            server.known["s0"], server.state = 1, {"is": "reopening"}
+            self.assertEqual(recorded.take(7, 0, {"s0": 2}), [])
+            server.state = {"fence": 5}
             self.assertEqual(recorded.take(7, 5, {"s0": 2}), ["s0"])  # (at once under another reopening)
 
     def test_copies_that_are_refused_are_told_once(self):
@@ -1200,6 +1213,8 @@ class RulesTest(unittest.TestCase):
             self.assertEqual(server.kept(lambda it: it.counting()), (0, 2))
             server.settle(kv_rules.JOURNAL, 100, None, {"s": Slot(cell=cell, load=1)})
         self.assertEqual((again.kept(lambda it: it.counting()), b.kept(lambda it: it.counting())), ((100, 1), (100, 2)))
+        b.kept(lambda it: it.put_settled(100, 1))  # (as by a restore)
+        self.assertEqual(b.kept(lambda it: it.counting()), (100, 2))
         with kv_rules.lost(b, "follow"):
             self.assertEqual(kv_rules.push(again, "r2", "y"), "xy")
 
