@@ -99,6 +99,64 @@ func TestCopiesThatAreKnownOrRefusedAreNotToldAgain(t *testing.T) {
 	wantSame(t, []any{its.asked, len(its.lines)}, "[2 1]")
 }
 
+func TestCopiesAreToldThoughWritesGoOn(t *testing.T) {
+	its := begin(t, `"is":"reopening","journal":"7","fence":0`, `{"copied":{}}`)
+	it := leads(beside(t, "12", "1"), 2, its.url)
+	rests := []time.Duration{}
+	for turn := 0; turn < 9; turn++ {
+		tellNow(it)
+		rests = append(rests, it.recorded.rest)
+	}
+	wantSame(t, rests, "[500ms 1s 2s 4s 8s 16s 30s 30s 30s]")
+	its.state, it.recorded.until = open, time.Time{}
+	it.transact(func(kept records) error { kept.putLedger("s", ledger{End: end{3, "3"}}); return nil })
+	it.tellCopies()
+	wantSame(t, []any{len(its.lines), it.recorded.rest}, "[1 0s]")
+}
+
+func TestWhoHasLeaveOrLessDoesNotCount(t *testing.T) {
+	by, position, settled := counting{0, 2}, uint64(2), uint64(0)
+	it := leads(beside(t, "12", "12"), 2)
+	found := []any{}
+	for _, other := range []*link{{has: 2, settled: &settled}, {has: 1, settled: &settled}, {has: 2, settled: &settled, left: "q"}, {has: 2}} {
+		it.with("s", func(live *live) {
+			live.noted, live.links[2] = &position, other
+		})
+		found = append(found, it.hasEnough("s", by))
+	}
+	wantSame(t, found, "[true false false false]")
+}
+
+func TestWhoHasLostItsCopyTakesNoneFromOneThatCountsByMore(t *testing.T) {
+	servers := beside(t, "12", "-")
+	wantSame(t, []any{leads(servers, 2).push("s", 2, 2, false) == later, hasCopyOf(servers[1])}, "[true false]")
+	servers[1].transact(func(kept records) error { kept.putCopies(2); return nil })
+	wantSame(t, []any{servers[0].push("s", 2, 2, false) == hasAll, hasCopyOf(servers[1])}, "[true true]")
+}
+
+// hasCopyOf returns whether a server has a copy.
+func hasCopyOf(it *Server) bool {
+	_, has := listOf(it)
+	return has
+}
+
+func TestSlotsOfALaterReopeningAreCountedBy(t *testing.T) {
+	it := leads(beside(t, "12"), 2)
+	it.Copies = 1
+	line := wholeLine{Journal: "7", Base: 100, Slots: []slotLine{{Shard: "s", Cell: "primary"}}}
+	if _, err := it.fence(line); err != nil {
+		t.Fatal(err)
+	}
+	found := []any{}
+	for turn := 0; turn < 2; turn++ {
+		it.transact(func(kept records) error { found = append(found, kept.counting()); return nil })
+		if _, err := it.settle(line); err != nil {
+			t.Fatal(err)
+		}
+	}
+	wantSame(t, found, "[{0 2} {100 1}]")
+}
+
 func TestCopiesThatAreNotThereAreNotTold(t *testing.T) {
 	its := begin(t, open, `{"copied":{"shard":"s","copies":3}}`)
 	it := leads(beside(t, "12", "1"), 3, its.url)
@@ -144,9 +202,9 @@ func TestCopiesGetFewerOnlyByALaterReopening(t *testing.T) {
 func TestWhoCountsByFewerCopiesIsNotToLeadNext(t *testing.T) {
 	servers := beside(t, "12", "12")
 	it := leads(servers, 2)
-	for _, kind := range []smplan.CallKind{smplan.PrepareDrop, smplan.Change, smplan.Drop} {
+	for kind, replicas := range map[smplan.CallKind][]string{smplan.PrepareDrop: {"a"}, smplan.Change: {"a", "b"}, smplan.Drop: {"a", "b"}} {
 		order := smplan.Order{Call: smplan.Call{Kind: kind, Party: 2, To: smplan.SecondaryRole}}
-		_, err := it.prepare(orderLine{Shard: "s", Replicas: []string{"a", "b"}}, order)
+		_, err := it.prepare(orderLine{Shard: "s", Replicas: replicas}, order)
 		wantSame(t, []any{err}, "[b acknowledges what 1 servers have, and a only what 2 have: start b with -copies 2]")
 	}
 	servers[1].transact(func(kept records) error { kept.putSlot("s", smplan.Slot{}); return nil })
