@@ -11,7 +11,7 @@ use Rattle.sm_placement.specs.Place.{Place, live_at, load_at}
 use Rattle.sm_placement.specs.Layout.{PlacementModel, entries_of, grid_of}
 use Rattle.sm_placement.specs.Lead.{Describes, IsPlain, is_at_rest}
 use Rattle.sm_placement.specs.declared.lead.Lead.{Lead}
-use Rattle.sm_placement.specs.declared.lead.Lead.TheVariants.{At}
+use Rattle.sm_placement.specs.declared.lead.Lead.TheVariants.{At, Gone}
 use Rattle.sm_placement.specs.Opening.{is_handing}
 use Rattle.sm_placement.specs.Rows.{IsKnownCell}
 use Rattle.sm_placement.specs.SafePlace.{IsServing}
@@ -36,35 +36,36 @@ use Rattle.sm_reopening.specs.Proposal.{has_known_lead}
 use Rattle.sm_reopening.specs.States.{FitsShards, slot_in}
 use Rattle.sm_reopening.specs.Survivors.{stands_above, standing_of}
 use Rattle.laws_data.specs.Naming.{KnowsShard}
-use Rattle.laws_data.specs.Shard.{Chooses, IsShardReached, Loses, MayHappenInTurn, Removes, Shard, all_left, is_copy, list_of, new_shard}
+use Rattle.laws_data.specs.Shard.{Chooses, Ends, IsShardReached, Loses, MayHappenInTurn, Removes, Shard, Succeeds, all_left, is_copy, left_by, list_of, new_shard}
 use Rattle.laws_service_data.specs.Joined.{Joined, OfData, joined_comes}
 use Rattle.laws_service_data.specs.Duties.{IsLeading}
 use Rattle.laws_service_data.specs.Laws.{IsJoinedOpening, IsJoinedReached}
 use Rattle.laws_service_data.specs.Epochs.{Epoch}
 use Rattle.laws_service_data.specs.Plays.{list_with}
-use Rattle.laws_service_data.specs.Reopened.{ChoosesPrimary, IsUnnamed, KeepsPrimary, KnowsCells, choice_settled}
-use Rattle.laws_service_data.specs.ReopenedPlays.{PrimaryServesOn, SecondaryIsChosen, WRITE_OF_SEVEN, data_without}
+use Rattle.laws_service_data.specs.Reopened.{ChoosesPrimary, IsUnnamed, KeepsPrimary, KnowsCells, SucceedsFormer, choice_settled}
+use Rattle.laws_service_data.specs.ReopenedPlays.{FormerServesAgain, PrimaryServesOn, SecondaryIsChosen, WRITE_OF_SEVEN, data_after}
 use Rattle.laws_service_data.proofs.Opening.{first_fleet, fleet_opening}
+use Rattle.laws_service_data.proofs.Runs.{data_on}
 
 -- ---- placements
 
 abbrev sizes : Sizes
 sizes = sizes_of the_setup
 
--- the shard has these cells, and the map lists this server
-abbrev with_cells : List Cell → ℕ → Place
-with_cells row u = record {
+-- the shard has these cells, and the map lists this server, if any
+abbrev with_cells : List Cell → Option ℕ → Place
+with_cells row shown = record {
   cells = λ s v. slice_index_or (slice_index_or (row ∷ []) s []) v Absent;
   last = λ s v. 0;
   down = λ v. false;
-  listed = λ s. slice_index_or (Some u ∷ []) s None;
+  listed = λ s. slice_index_or (shown ∷ []) s None;
   version = λ s. 0;
   limit = 1;
 }
 
-module _ (a b c : Cell) (u : ℕ) (known : u < 3) (cells : IsKnownCell 3 a × IsKnownCell 3 b × IsKnownCell 3 c) where
+module _ (a b c : Cell) (shown : Option ℕ) where
   abbrev place : Place
-  place = with_cells (a ∷ b ∷ c ∷ []) u
+  place = with_cells (a ∷ b ∷ c ∷ []) shown
 
   no_server : (s v : ℕ) → 3 ≤ v → place.cells s v ≡ Absent
   no_server s zero l = absurd (omega arith)
@@ -81,29 +82,38 @@ module _ (a b c : Cell) (u : ℕ) (known : u < 3) (cells : IsKnownCell 3 a × Is
   no_entry zero l = absurd (omega arith)
   no_entry (suc s) l = refl
 
-  all_known : (s v : ℕ) → IsKnownCell 3 (place.cells s v)
-  all_known (suc s) v = tt
-  all_known zero zero = cells.0
-  all_known zero (suc zero) = cells.1
-  all_known zero (suc (suc zero)) = cells.2
-  all_known zero (suc (suc (suc v))) = tt
+  all_known : IsKnownCell 3 a → IsKnownCell 3 b → IsKnownCell 3 c → (s v : ℕ) → IsKnownCell 3 (place.cells s v)
+  all_known x y z (suc s) v = tt
+  all_known x y z zero zero = x
+  all_known x y z zero (suc zero) = y
+  all_known x y z zero (suc (suc zero)) = z
+  all_known x y z zero (suc (suc (suc v))) = tt
 
-  listed : (s v : ℕ) → place.listed s ≡ Some v → v < 3
-  listed zero v e = subst (λ n. n < 3) (cc) known
-  listed (suc s) v e = absurd (cc)
+  -- who is listed is the primary
+  abbrev ListsPrimary : Type 0
+  ListsPrimary = (v : ℕ) → shown ≡ Some v → (v < 3) × (place.cells 0 v ≡ Primary)
 
-  listed_primary : place.cells 0 u ≡ Primary → (s v : ℕ) → place.listed s ≡ Some v → place.cells s v ≡ Primary
-  listed_primary p zero v e = subst (λ n. place.cells 0 n ≡ Primary) (cc) p
-  listed_primary p (suc s) v e = absurd (cc)
+  listed : ListsPrimary → (s v : ℕ) → place.listed s ≡ Some v → (v < 3) × (place.cells s v ≡ Primary)
+  listed h zero v e = h v e
+  listed h (suc s) v e = absurd (cc)
 
   -- a machine opens on it, if it is settled and within rooms
-  opens : Describes (At u) 0 (place.cells 0) → ((v : ℕ) → v < 3 → load_at sizes place v ≤ sizes.room v) → sizes.floor 0 ≤ live_at sizes place 0 → IsOpening the_setup place 9
-  opens lead rooms floor = record {
+  opens : IsKnownCell 3 a → IsKnownCell 3 b → IsKnownCell 3 c → ListsPrimary → (lead : Lead) → is_at_rest lead ≡ true → Describes lead 0 (place.cells 0) → ((v : ℕ) → v < 3 → load_at sizes place v ≤ sizes.room v)
+      → sizes.floor 0 ≤ live_at sizes place 0 → IsOpening the_setup place 9
+  opens x y z lists lead rests describes rooms floor = record {
     rows = setup_from_tests the_setup refl refl refl refl;
-    placement = record { no_server = no_server; no_shard = no_shard; no_entry = no_entry; no_down = λ v h. refl; known = all_known; listed = listed; rooms = rooms };
+    placement = record {
+      no_server = no_server;
+      no_shard = no_shard;
+      no_entry = no_entry;
+      no_down = λ v h. refl;
+      known = all_known x y z;
+      listed = λ s v e. (listed lists s v e).0;
+      rooms = rooms;
+    };
     settled = record {
-      leads = λ s l. subst (λ k. (lead : Lead) × (is_at_rest lead ≡ true) × Describes lead 0 (place.cells k)) (let z : 0 ≡ s = omega arith in z) (At u, refl, lead);
-      listed = λ s v l. listed_primary lead.0 s v;
+      leads = λ s l. subst (λ k. (lead : Lead) × (is_at_rest lead ≡ true) × Describes lead 0 (place.cells k)) (let z : 0 ≡ s = omega arith in z) (lead, rests, describes);
+      listed = λ s v l e. (listed lists s v e).1;
       rooms = rooms;
       floors = λ s l. subst (λ k. sizes.floor k ≤ live_at sizes place k) (let z : 0 ≡ s = omega arith in z) floor;
       down = omega arith;
@@ -113,54 +123,98 @@ module _ (a b c : Cell) (u : ℕ) (known : u < 3) (cells : IsKnownCell 3 a × Is
     most = omega arith;
   }
 
--- a placement of which only the first server, and only the third, is a member; and one with both
-first_opens : IsOpening the_setup (with_cells (Primary ∷ Absent ∷ Absent ∷ []) 0) 9
-first_opens = opens Primary Absent Absent 0 (omega arith) (tt, tt, tt) (refl, plain) rooms (omega arith)
+-- Placements: the first server is the primary alone, or the third; and both have the shard, of which the first is the primary or has ceased to be.
+abbrev first_alone : Place
+first_alone = with_cells (Primary ∷ Absent ∷ Absent ∷ []) (Some 0)
+
+abbrev third_alone : Place
+third_alone = with_cells (Absent ∷ Absent ∷ Primary ∷ []) (Some 2)
+
+abbrev both : Bool → Place
+both true = with_cells (Secondary ∷ Absent ∷ Secondary ∷ []) None
+both false = with_cells (Primary ∷ Absent ∷ Secondary ∷ []) (Some 0)
+
+first_opens : IsOpening the_setup first_alone 9
+first_opens = opens Primary Absent Absent (Some 0) tt tt tt lists (At 0) refl (refl, plain) rooms (omega arith)
   where
-    plain : (v : ℕ) → v ≢ 0 → IsPlain ((with_cells (Primary ∷ Absent ∷ Absent ∷ []) 0).cells 0 v)
+    lists : (v : ℕ) → ◌≡◌ {A = Option ℕ} (Some 0) (Some v) → (v < 3) × (first_alone.cells 0 v ≡ Primary)
+    lists zero e = (omega arith, refl)
+    lists (suc zero) e = absurd (cc)
+    lists (suc (suc zero)) e = absurd (cc)
+    lists (suc (suc (suc v))) e = absurd (cc)
+
+    plain : (v : ℕ) → v ≢ 0 → IsPlain (first_alone.cells 0 v)
     plain zero n = absurd (n refl)
     plain (suc zero) n = tt
     plain (suc (suc zero)) n = tt
     plain (suc (suc (suc v))) n = tt
 
-    rooms : (v : ℕ) → v < 3 → load_at sizes (with_cells (Primary ∷ Absent ∷ Absent ∷ []) 0) v ≤ sizes.room v
+    rooms : (v : ℕ) → v < 3 → load_at sizes first_alone v ≤ sizes.room v
     rooms zero l = omega arith
     rooms (suc zero) l = omega arith
     rooms (suc (suc zero)) l = omega arith
     rooms (suc (suc (suc v))) l = absurd (omega arith)
 
-third_opens : IsOpening the_setup (with_cells (Absent ∷ Absent ∷ Primary ∷ []) 2) 9
-third_opens = opens Absent Absent Primary 2 (omega arith) (tt, tt, tt) (refl, plain) rooms (omega arith)
+third_opens : IsOpening the_setup third_alone 9
+third_opens = opens Absent Absent Primary (Some 2) tt tt tt lists (At 2) refl (refl, plain) rooms (omega arith)
   where
-    plain : (v : ℕ) → v ≢ 2 → IsPlain ((with_cells (Absent ∷ Absent ∷ Primary ∷ []) 2).cells 0 v)
+    lists : (v : ℕ) → ◌≡◌ {A = Option ℕ} (Some 2) (Some v) → (v < 3) × (third_alone.cells 0 v ≡ Primary)
+    lists zero e = absurd (cc)
+    lists (suc zero) e = absurd (cc)
+    lists (suc (suc zero)) e = (omega arith, refl)
+    lists (suc (suc (suc v))) e = absurd (cc)
+
+    plain : (v : ℕ) → v ≢ 2 → IsPlain (third_alone.cells 0 v)
     plain zero n = tt
     plain (suc zero) n = tt
     plain (suc (suc zero)) n = absurd (n refl)
     plain (suc (suc (suc v))) n = tt
 
-    rooms : (v : ℕ) → v < 3 → load_at sizes (with_cells (Absent ∷ Absent ∷ Primary ∷ []) 2) v ≤ sizes.room v
+    rooms : (v : ℕ) → v < 3 → load_at sizes third_alone v ≤ sizes.room v
     rooms zero l = omega arith
     rooms (suc zero) l = omega arith
     rooms (suc (suc zero)) l = omega arith
     rooms (suc (suc (suc v))) l = absurd (omega arith)
 
-abbrev both : Place
-both = with_cells (Primary ∷ Absent ∷ Secondary ∷ []) 0
-
-both_open : IsOpening the_setup both 9
-both_open = opens Primary Absent Secondary 0 (omega arith) (tt, tt, tt) (refl, plain) rooms (omega arith)
+led_opens : IsOpening the_setup (both false) 9
+led_opens = opens Primary Absent Secondary (Some 0) tt tt tt lists (At 0) refl (refl, plain) rooms (omega arith)
   where
-    plain : (v : ℕ) → v ≢ 0 → IsPlain (both.cells 0 v)
+    lists : (v : ℕ) → ◌≡◌ {A = Option ℕ} (Some 0) (Some v) → (v < 3) × ((both false).cells 0 v ≡ Primary)
+    lists zero e = (omega arith, refl)
+    lists (suc zero) e = absurd (cc)
+    lists (suc (suc zero)) e = absurd (cc)
+    lists (suc (suc (suc v))) e = absurd (cc)
+
+    plain : (v : ℕ) → v ≢ 0 → IsPlain ((both false).cells 0 v)
     plain zero n = absurd (n refl)
     plain (suc zero) n = tt
     plain (suc (suc zero)) n = tt
     plain (suc (suc (suc v))) n = tt
 
-    rooms : (v : ℕ) → v < 3 → load_at sizes both v ≤ sizes.room v
+    rooms : (v : ℕ) → v < 3 → load_at sizes (both false) v ≤ sizes.room v
     rooms zero l = omega arith
     rooms (suc zero) l = omega arith
     rooms (suc (suc zero)) l = omega arith
     rooms (suc (suc (suc v))) l = absurd (omega arith)
+
+unled_opens : IsOpening the_setup (both true) 9
+unled_opens = opens Secondary Absent Secondary None tt tt tt (λ v e. absurd (cc)) Gone refl plain rooms (omega arith)
+  where
+    plain : (v : ℕ) → IsPlain ((both true).cells 0 v)
+    plain zero = tt
+    plain (suc zero) = tt
+    plain (suc (suc zero)) = tt
+    plain (suc (suc (suc v))) = tt
+
+    rooms : (v : ℕ) → v < 3 → load_at sizes (both true) v ≤ sizes.room v
+    rooms zero l = omega arith
+    rooms (suc zero) l = omega arith
+    rooms (suc (suc zero)) l = omega arith
+    rooms (suc (suc (suc v))) l = absurd (omega arith)
+
+both_open : (x : Bool) → IsOpening the_setup (both x) 9
+both_open true = unled_opens
+both_open false = led_opens
 
 -- ---- the reopening
 
@@ -218,11 +272,21 @@ reopening_by x z fits = record {
   fits = fits;
 }
 
-without_third : FitsShards 1 (has_told Primary ∷ has_nothing ∷ is_lost ∷ [])
-without_third zero = refl
-without_third (suc zero) = refl
-without_third (suc (suc zero)) = refl
-without_third (suc (suc (suc v))) = refl
+-- The third server is lost, and the first remains; or the first is lost. If the first remains, it may have ceased to be the primary.
+data Fate : Type 0 where
+  Remains : (ended : Bool) → Fate
+  Vanishes : Fate
+
+-- what the first one has of the shard, if it remains
+abbrev cell_of : Bool → Cell
+cell_of true = Secondary
+cell_of false = Primary
+
+without_third : (x : Bool) → FitsShards 1 (has_told (cell_of x) ∷ has_nothing ∷ is_lost ∷ [])
+without_third x zero = refl
+without_third x (suc zero) = refl
+without_third x (suc (suc zero)) = refl
+without_third x (suc (suc (suc v))) = refl
 
 without_first : FitsShards 1 (is_lost ∷ has_nothing ∷ has_told Secondary ∷ [])
 without_first zero = refl
@@ -230,15 +294,15 @@ without_first (suc zero) = refl
 without_first (suc (suc zero)) = refl
 without_first (suc (suc (suc v))) = refl
 
--- the third server is lost, or the first
-abbrev r : Bool → OngoingReopening
-r true = reopening_by (has_told Primary) is_lost without_third
-r false = reopening_by is_lost (has_told Secondary) without_first
+-- the reopening
+abbrev r : Fate → OngoingReopening
+r (Remains x) = reopening_by (has_told (cell_of x)) is_lost (without_third x)
+r Vanishes = reopening_by is_lost (has_told Secondary) without_first
 
 -- what is settled then
-abbrev st : Bool → Settlement
-st true = record { setup = the_setup; place = with_cells (Primary ∷ Absent ∷ Absent ∷ []) 0; room = 9 }
-st false = record { setup = the_setup; place = with_cells (Absent ∷ Absent ∷ Primary ∷ []) 2; room = 9 }
+abbrev st : Fate → Settlement
+st (Remains x) = record { setup = the_setup; place = first_alone; room = 9 }
+st Vanishes = record { setup = the_setup; place = third_alone; room = 9 }
 
 -- ---- it may be confirmed
 
@@ -248,47 +312,49 @@ cell_in (Some (Slots cells reached)) k = cells k
 cell_in _ k = Absent
 
 -- the cell that a server has told
-abbrev cell_told : Bool → ℕ → ℕ → Cell
+abbrev cell_told : Fate → ℕ → ℕ → Cell
 cell_told b k v = cell_in ((net_reopening (r b)).told (Server v)) k
 
-told_as : (b : Bool) (k v : ℕ) (cells : ℕ → Cell) (reached : ℕ → Bool) → (net_reopening (r b)).told (Server v) ≡ Some (Slots cells reached) → cell_told b k v ≡ cells k
+told_as : (b : Fate) (k v : ℕ) (cells : ℕ → Cell) (reached : ℕ → Bool) → (net_reopening (r b)).told (Server v) ≡ Some (Slots cells reached) → cell_told b k v ≡ cells k
 told_as b k v cells reached e = ap (λ o. cell_in o k) e
 
-keeps : (b : Bool) (k v : ℕ) → Keeps (cell_told b k v) ((st b).place.cells k v)
-keeps true zero zero = refl
-keeps true zero (suc zero) = refl
-keeps true zero (suc (suc zero)) = refl
-keeps true zero (suc (suc (suc v))) = refl
-keeps false zero zero = refl
-keeps false zero (suc zero) = refl
-keeps false zero (suc (suc zero)) = inr refl
-keeps false zero (suc (suc (suc v))) = refl
-keeps true (suc k) zero = refl
-keeps true (suc k) (suc zero) = refl
-keeps true (suc k) (suc (suc zero)) = refl
-keeps true (suc k) (suc (suc (suc v))) = refl
-keeps false (suc k) zero = refl
-keeps false (suc k) (suc zero) = refl
-keeps false (suc k) (suc (suc zero)) = refl
-keeps false (suc k) (suc (suc (suc v))) = refl
+keeps : (b : Fate) (k v : ℕ) → Keeps (cell_told b k v) ((st b).place.cells k v)
+keeps (Remains true) zero zero = inr refl
+keeps (Remains false) zero zero = refl
+keeps (Remains x) zero (suc zero) = refl
+keeps (Remains x) zero (suc (suc zero)) = refl
+keeps (Remains x) zero (suc (suc (suc v))) = refl
+keeps Vanishes zero zero = refl
+keeps Vanishes zero (suc zero) = refl
+keeps Vanishes zero (suc (suc zero)) = inr refl
+keeps Vanishes zero (suc (suc (suc v))) = refl
+keeps (Remains x) (suc k) zero = refl
+keeps (Remains x) (suc k) (suc zero) = refl
+keeps (Remains x) (suc k) (suc (suc zero)) = refl
+keeps (Remains x) (suc k) (suc (suc (suc v))) = refl
+keeps Vanishes (suc k) zero = refl
+keeps Vanishes (suc k) (suc zero) = refl
+keeps Vanishes (suc k) (suc (suc zero)) = refl
+keeps Vanishes (suc k) (suc (suc (suc v))) = refl
 
-no_handing : (b : Bool) (k v : ℕ) → is_handing (cell_told b k v) ≡ false
-no_handing true zero zero = refl
-no_handing true zero (suc zero) = refl
-no_handing true zero (suc (suc zero)) = refl
-no_handing true zero (suc (suc (suc v))) = refl
-no_handing false zero zero = refl
-no_handing false zero (suc zero) = refl
-no_handing false zero (suc (suc zero)) = refl
-no_handing false zero (suc (suc (suc v))) = refl
-no_handing true (suc k) zero = refl
-no_handing true (suc k) (suc zero) = refl
-no_handing true (suc k) (suc (suc zero)) = refl
-no_handing true (suc k) (suc (suc (suc v))) = refl
-no_handing false (suc k) zero = refl
-no_handing false (suc k) (suc zero) = refl
-no_handing false (suc k) (suc (suc zero)) = refl
-no_handing false (suc k) (suc (suc (suc v))) = refl
+no_handing : (b : Fate) (k v : ℕ) → is_handing (cell_told b k v) ≡ false
+no_handing (Remains true) zero zero = refl
+no_handing (Remains false) zero zero = refl
+no_handing (Remains x) zero (suc zero) = refl
+no_handing (Remains x) zero (suc (suc zero)) = refl
+no_handing (Remains x) zero (suc (suc (suc v))) = refl
+no_handing Vanishes zero zero = refl
+no_handing Vanishes zero (suc zero) = refl
+no_handing Vanishes zero (suc (suc zero)) = refl
+no_handing Vanishes zero (suc (suc (suc v))) = refl
+no_handing (Remains x) (suc k) zero = refl
+no_handing (Remains x) (suc k) (suc zero) = refl
+no_handing (Remains x) (suc k) (suc (suc zero)) = refl
+no_handing (Remains x) (suc k) (suc (suc (suc v))) = refl
+no_handing Vanishes (suc k) zero = refl
+no_handing Vanishes (suc k) (suc zero) = refl
+no_handing Vanishes (suc k) (suc (suc zero)) = refl
+no_handing Vanishes (suc k) (suc (suc (suc v))) = refl
 
 neither : (a : Bool) → (a && false) ≡ false
 neither true = refl
@@ -297,110 +363,116 @@ neither false = refl
 no_more : (v : ℕ) → nat_lt (suc (suc (suc v))) 3 ≡ false
 no_more v = le-ltb (suc (suc (suc v))) 3 (omega arith)
 
-not_carried : (b : Bool) (v : ℕ) → is_carried (net_reopening (r b)) (past_state (r b)) v ≡ false
+not_carried : (b : Fate) (v : ℕ) → is_carried (net_reopening (r b)) (past_state (r b)) v ≡ false
 unfolding entries_of
-not_carried true zero = refl
-not_carried true (suc zero) = refl
-not_carried true (suc (suc zero)) = refl
-not_carried true (suc (suc (suc v))) = neither _
-not_carried false zero = refl
-not_carried false (suc zero) = refl
-not_carried false (suc (suc zero)) = refl
-not_carried false (suc (suc (suc v))) = neither _
+not_carried (Remains x) zero = refl
+not_carried (Remains x) (suc zero) = refl
+not_carried (Remains x) (suc (suc zero)) = refl
+not_carried (Remains x) (suc (suc (suc v))) = neither _
+not_carried Vanishes zero = refl
+not_carried Vanishes (suc zero) = refl
+not_carried Vanishes (suc (suc zero)) = refl
+not_carried Vanishes (suc (suc (suc v))) = neither _
 
-answered : (b : Bool) (v : ℕ) → is_asked (net_reopening (r b)) (Server v) ≡ true → is_some ((net_reopening (r b)).told (Server v)) ≡ true
-answered true zero e = refl
-answered true (suc zero) e = refl
-answered true (suc (suc zero)) e = absurd (cc)
-answered true (suc (suc (suc v))) e = absurd (let z = no_more v in let y = (and_parts (nat_lt (suc (suc (suc v))) 3) true e).0 in cc)
-answered false zero e = absurd (cc)
-answered false (suc zero) e = refl
-answered false (suc (suc zero)) e = refl
-answered false (suc (suc (suc v))) e = absurd (let z = no_more v in let y = (and_parts (nat_lt (suc (suc (suc v))) 3) true e).0 in cc)
+answered : (b : Fate) (v : ℕ) → is_asked (net_reopening (r b)) (Server v) ≡ true → is_some ((net_reopening (r b)).told (Server v)) ≡ true
+answered (Remains x) zero e = refl
+answered (Remains x) (suc zero) e = refl
+answered (Remains x) (suc (suc zero)) e = absurd (cc)
+answered (Remains x) (suc (suc (suc v))) e = absurd (let z = no_more v in let y = (and_parts (nat_lt (suc (suc (suc v))) 3) true e).0 in cc)
+answered Vanishes zero e = absurd (cc)
+answered Vanishes (suc zero) e = refl
+answered Vanishes (suc (suc zero)) e = refl
+answered Vanishes (suc (suc (suc v))) e = absurd (let z = no_more v in let y = (and_parts (nat_lt (suc (suc (suc v))) 3) true e).0 in cc)
 
-lost : (b : Bool) (k v : ℕ) → (net_reopening (r b)).lost v ≡ true → (st b).place.cells k v ≡ Absent
-lost true zero zero e = absurd (cc)
-lost true zero (suc zero) e = refl
-lost true zero (suc (suc zero)) e = refl
-lost true zero (suc (suc (suc v))) e = refl
-lost false zero zero e = refl
-lost false zero (suc zero) e = refl
-lost false zero (suc (suc zero)) e = absurd (cc)
-lost false zero (suc (suc (suc v))) e = refl
-lost true (suc k) v e = refl
-lost false (suc k) v e = refl
+lost : (b : Fate) (k v : ℕ) → (net_reopening (r b)).lost v ≡ true → (st b).place.cells k v ≡ Absent
+lost (Remains x) zero zero e = absurd (cc)
+lost (Remains x) zero (suc zero) e = refl
+lost (Remains x) zero (suc (suc zero)) e = refl
+lost (Remains x) zero (suc (suc (suc v))) e = refl
+lost Vanishes zero zero e = refl
+lost Vanishes zero (suc zero) e = refl
+lost Vanishes zero (suc (suc zero)) e = absurd (cc)
+lost Vanishes zero (suc (suc (suc v))) e = refl
+lost (Remains x) (suc k) v e = refl
+lost Vanishes (suc k) v e = refl
 
-claims : (b : Bool) (k u v : ℕ) → (st b).place.cells k v ≡ Primary → 0 < claim_of (net_reopening (r b)) (past_state (r b)) k v
-claims true zero u zero e = omega arith
-claims true zero u (suc zero) e = absurd (cc)
-claims true zero u (suc (suc zero)) e = absurd (cc)
-claims true zero u (suc (suc (suc v))) e = absurd (cc)
-claims false zero u zero e = absurd (cc)
-claims false zero u (suc zero) e = absurd (cc)
-claims false zero u (suc (suc zero)) e = omega arith
-claims false zero u (suc (suc (suc v))) e = absurd (cc)
-claims true (suc k) u v e = absurd (cc)
-claims false (suc k) u v e = absurd (cc)
+claims : (b : Fate) (k u v : ℕ) → (st b).place.cells k v ≡ Primary → 0 < claim_of (net_reopening (r b)) (past_state (r b)) k v
+claims (Remains true) zero u zero e = omega arith
+claims (Remains false) zero u zero e = omega arith
+claims (Remains x) zero u (suc zero) e = absurd (cc)
+claims (Remains x) zero u (suc (suc zero)) e = absurd (cc)
+claims (Remains x) zero u (suc (suc (suc v))) e = absurd (cc)
+claims Vanishes zero u zero e = absurd (cc)
+claims Vanishes zero u (suc zero) e = absurd (cc)
+claims Vanishes zero u (suc (suc zero)) e = omega arith
+claims Vanishes zero u (suc (suc (suc v))) e = absurd (cc)
+claims (Remains x) (suc k) u v e = absurd (cc)
+claims Vanishes (suc k) u v e = absurd (cc)
 
-handed : (b : Bool) (k v : ℕ) (cells : ℕ → Cell) (reached : ℕ → Bool) → (net_reopening (r b)).told (Server v) ≡ Some (Slots cells reached) → is_handing (cells k) ≡ true → ⊥
+handed : (b : Fate) (k v : ℕ) (cells : ℕ → Cell) (reached : ℕ → Bool) → (net_reopening (r b)).told (Server v) ≡ Some (Slots cells reached) → is_handing (cells k) ≡ true → ⊥
 handed b k v cells reached e h = let z = no_handing b k v in let y = ap is_handing (told_as b k v cells reached e) in absurd (cc)
 
-best : (b : Bool) (k u v : ℕ) → (st b).place.cells k v ≡ Primary → stands_above (standing_of (r b) k u) (standing_of (r b) k v) ≡ false
-best true zero zero zero e = refl
-best true zero (suc zero) zero e = refl
-best true zero (suc (suc zero)) zero e = refl
-best true zero (suc (suc (suc u))) zero e =
-    ap (λ c. stands_above (record { claim = if c then claim ((past_state (r true)).place.cells 0 (suc (suc (suc u)))) false else 0; copy = told_copies (r true) 0 (suc (suc (suc u))) }) (standing_of (r true) 0 0)) (not_carried true (suc (suc (suc u))))
-best true zero u (suc zero) e = absurd (cc)
-best true zero u (suc (suc zero)) e = absurd (cc)
-best true zero u (suc (suc (suc v))) e = absurd (cc)
-best false zero u zero e = absurd (cc)
-best false zero u (suc zero) e = absurd (cc)
-best false zero zero (suc (suc zero)) e = refl
-best false zero (suc zero) (suc (suc zero)) e = refl
-best false zero (suc (suc zero)) (suc (suc zero)) e = refl
-best false zero (suc (suc (suc u))) (suc (suc zero)) e =
-    ap (λ c. stands_above (record { claim = if c then claim ((past_state (r false)).place.cells 0 (suc (suc (suc u)))) false else 0; copy = told_copies (r false) 0 (suc (suc (suc u))) }) (standing_of (r false) 0 2)) (not_carried false (suc (suc (suc u))))
-best false zero u (suc (suc (suc v))) e = absurd (cc)
-best true (suc k) u v e = absurd (cc)
-best false (suc k) u v e = absurd (cc)
+best : (b : Fate) (k u v : ℕ) → (st b).place.cells k v ≡ Primary → stands_above (standing_of (r b) k u) (standing_of (r b) k v) ≡ false
+best (Remains true) zero zero zero e = refl
+best (Remains false) zero zero zero e = refl
+best (Remains true) zero (suc zero) zero e = refl
+best (Remains false) zero (suc zero) zero e = refl
+best (Remains true) zero (suc (suc zero)) zero e = refl
+best (Remains false) zero (suc (suc zero)) zero e = refl
+best (Remains true) zero (suc (suc (suc u))) zero e =
+    ap (λ c. stands_above (record { claim = if c then claim ((past_state (r (Remains true))).place.cells 0 (suc (suc (suc u)))) false else 0; copy = told_copies (r (Remains true)) 0 (suc (suc (suc u))) }) (standing_of (r (Remains true)) 0 0)) (not_carried (Remains true) (suc (suc (suc u))))
+best (Remains false) zero (suc (suc (suc u))) zero e =
+    ap (λ c. stands_above (record { claim = if c then claim ((past_state (r (Remains false))).place.cells 0 (suc (suc (suc u)))) false else 0; copy = told_copies (r (Remains false)) 0 (suc (suc (suc u))) }) (standing_of (r (Remains false)) 0 0)) (not_carried (Remains false) (suc (suc (suc u))))
+best (Remains x) zero u (suc zero) e = absurd (cc)
+best (Remains x) zero u (suc (suc zero)) e = absurd (cc)
+best (Remains x) zero u (suc (suc (suc v))) e = absurd (cc)
+best Vanishes zero u zero e = absurd (cc)
+best Vanishes zero u (suc zero) e = absurd (cc)
+best Vanishes zero zero (suc (suc zero)) e = refl
+best Vanishes zero (suc zero) (suc (suc zero)) e = refl
+best Vanishes zero (suc (suc zero)) (suc (suc zero)) e = refl
+best Vanishes zero (suc (suc (suc u))) (suc (suc zero)) e =
+    ap (λ c. stands_above (record { claim = if c then claim ((past_state (r Vanishes)).place.cells 0 (suc (suc (suc u)))) false else 0; copy = told_copies (r Vanishes) 0 (suc (suc (suc u))) }) (standing_of (r Vanishes) 0 2)) (not_carried Vanishes (suc (suc (suc u))))
+best Vanishes zero u (suc (suc (suc v))) e = absurd (cc)
+best (Remains x) (suc k) u v e = absurd (cc)
+best Vanishes (suc k) u v e = absurd (cc)
 
-in_document : (b : Bool) (v : ℕ) → left_out_of (r b) v ≡ false
-in_document true zero = refl
-in_document true (suc zero) = refl
-in_document true (suc (suc zero)) = refl
-in_document true (suc (suc (suc v))) = refl
-in_document false zero = refl
-in_document false (suc zero) = refl
-in_document false (suc (suc zero)) = refl
-in_document false (suc (suc (suc v))) = refl
+in_document : (b : Fate) (v : ℕ) → left_out_of (r b) v ≡ false
+in_document (Remains x) zero = refl
+in_document (Remains x) (suc zero) = refl
+in_document (Remains x) (suc (suc zero)) = refl
+in_document (Remains x) (suc (suc (suc v))) = refl
+in_document Vanishes zero = refl
+in_document Vanishes (suc zero) = refl
+in_document Vanishes (suc (suc zero)) = refl
+in_document Vanishes (suc (suc (suc v))) = refl
 
-left : (b : Bool) (k v : ℕ) (slot : FoundSlot) → is_barred (r b) v ≡ true → told_slot (r b) k v ≡ Some slot → slot.cell ≡ Absent
-left true k zero slot e h = absurd (cc)
-left true k (suc zero) slot e h = absurd (cc)
-left true k (suc (suc zero)) slot e h = absurd (cc)
-left true k (suc (suc (suc v))) slot e h = absurd (cc)
-left false k zero slot e h = absurd (cc)
-left false k (suc zero) slot e h = absurd (cc)
-left false k (suc (suc zero)) slot e h = absurd (cc)
-left false k (suc (suc (suc v))) slot e h = absurd (cc)
+left : (b : Fate) (k v : ℕ) (slot : FoundSlot) → is_barred (r b) v ≡ true → told_slot (r b) k v ≡ Some slot → slot.cell ≡ Absent
+left (Remains x) k zero slot e h = absurd (cc)
+left (Remains x) k (suc zero) slot e h = absurd (cc)
+left (Remains x) k (suc (suc zero)) slot e h = absurd (cc)
+left (Remains x) k (suc (suc (suc v))) slot e h = absurd (cc)
+left Vanishes k zero slot e h = absurd (cc)
+left Vanishes k (suc zero) slot e h = absurd (cc)
+left Vanishes k (suc (suc zero)) slot e h = absurd (cc)
+left Vanishes k (suc (suc (suc v))) slot e h = absurd (cc)
 
-has_lead : (b : Bool) → has_known_lead (r b) 0 ≡ true
+has_lead : (b : Fate) → has_known_lead (r b) 0 ≡ true
 unfolding grid_of
-has_lead true = refl
-has_lead false = refl
+has_lead (Remains x) = refl
+has_lead Vanishes = refl
 
-appointed : (b : Bool) (k v : ℕ) (slot : FoundSlot) → is_appointed slot.cell ((st b).place.cells k v) ≡ true → has_known_lead (r b) k ≡ true
+appointed : (b : Fate) (k v : ℕ) (slot : FoundSlot) → is_appointed slot.cell ((st b).place.cells k v) ≡ true → has_known_lead (r b) k ≡ true
 appointed b zero v slot e = has_lead b
-appointed true (suc k) v slot e = absurd (let z = (and_parts _ false e).1 in cc)
-appointed false (suc k) v slot e = absurd (let z = (and_parts _ false e).1 in cc)
+appointed (Remains x) (suc k) v slot e = absurd (let z = (and_parts _ false e).1 in cc)
+appointed Vanishes (suc k) v slot e = absurd (let z = (and_parts _ false e).1 in cc)
 
-open_is : (b : Bool) → IsOpening (st b).setup (st b).place (st b).room
-open_is true = first_opens
-open_is false = third_opens
+open_is : (b : Fate) → IsOpening (st b).setup (st b).place (st b).room
+open_is (Remains x) = first_opens
+open_is Vanishes = third_opens
 
 -- it may be
-may : (b : Bool) → MayConfirm (r b) (st b)
+may : (b : Fate) → MayConfirm (r b) (st b)
 may b = record {
   allowed = record {
     first = first b;
@@ -421,17 +493,17 @@ may b = record {
   appointed = λ k v slot e h. appointed b k v slot h;
 }
   where
-    first : (b : Bool) → (net_reopening (r b)).settlement ≡ None
-    first true = refl
-    first false = refl
+    first : (b : Fate) → (net_reopening (r b)).settlement ≡ None
+    first (Remains x) = refl
+    first Vanishes = refl
 
-    servers : (b : Bool) → length (st b).setup.servers ≤ (net_reopening (r b)).servers
-    servers true = omega arith
-    servers false = omega arith
+    servers : (b : Fate) → length (st b).setup.servers ≤ (net_reopening (r b)).servers
+    servers (Remains x) = omega arith
+    servers Vanishes = omega arith
 
-    map : (b : Bool) → is_some ((net_reopening (r b)).told MapOwner) ≡ true
-    map true = refl
-    map false = refl
+    map : (b : Fate) → is_some ((net_reopening (r b)).told MapOwner) ≡ true
+    map (Remains x) = refl
+    map Vanishes = refl
 
 -- ---- the data
 
@@ -485,50 +557,73 @@ written = (
   ),
 )
 
-written_data : IsShardReached (all_left WRITE_OF_SEVEN new_data)
-written_data = record { servers = 3; replicas = members; primary = 0; needed = 2; events = WRITE_OF_SEVEN; enough = omega arith; allowed = written; is = refl }
+abbrev written_data : Shard
+written_data = all_left WRITE_OF_SEVEN new_data
+
+-- the first server may have ceased to be the primary, by the order 1
+abbrev first_data : Bool → Shard
+first_data true = left_by written_data (Ends 1)
+first_data false = written_data
+
+written_reached : IsShardReached written_data
+written_reached = record { servers = 3; replicas = members; primary = 0; needed = 2; events = WRITE_OF_SEVEN; enough = omega arith; allowed = written; is = refl }
+
+data_reached : (x : Bool) → IsShardReached (first_data x)
+data_reached false = written_reached
+data_reached true = data_on written_data (Ends 1 ∷ []) written_reached ((refl, (omega arith, omega arith), omega arith), tt)
 
 -- ---- the fleet
 
-abbrev first_joined : Joined
-first_joined = record { fleet = first_fleet the_setup both 9; shard = all_left WRITE_OF_SEVEN new_data }
+abbrev first_joined : Bool → Joined
+first_joined x = record { fleet = first_fleet the_setup (both x) 9; shard = first_data x }
 
-first_serves : (v : ℕ) → IsServing (held_place first_joined.fleet) 0 v → IsLeading first_joined.shard v
-first_serves zero h = (refl, omega arith)
-first_serves (suc zero) h = absurd (cc)
-first_serves (suc (suc zero)) h = absurd (cc)
-first_serves (suc (suc (suc v))) h = absurd (cc)
+first_serves : (x : Bool) (v : ℕ) → IsServing (held_place (first_joined x).fleet) 0 v → IsLeading (first_joined x).shard v
+first_serves true zero h = absurd (cc)
+first_serves false zero h = (refl, omega arith)
+first_serves true (suc zero) h = absurd (cc)
+first_serves false (suc zero) h = absurd (cc)
+first_serves true (suc (suc zero)) h = absurd (cc)
+first_serves false (suc (suc zero)) h = absurd (cc)
+first_serves true (suc (suc (suc v))) h = absurd (cc)
+first_serves false (suc (suc (suc v))) h = absurd (cc)
 
-joined_opening : IsJoinedOpening the_setup 0 first_joined
-joined_opening = record { fleet = fleet_opening the_setup both 9 both_open; shard = written_data; leading = first_serves }
+joined_opening : (x : Bool) → IsJoinedOpening the_setup 0 (first_joined x)
+joined_opening x = record { fleet = fleet_opening the_setup (both x) 9 (both_open x); shard = data_reached x; leading = first_serves x }
 
 -- a server has lost its copy
-abbrev epoch_without : ℕ → Epoch
-epoch_without v = record { setup = the_setup; number = 0; joined = joined_comes first_joined (OfData (Loses v)) }
+abbrev epoch_without : Bool → ℕ → Epoch
+epoch_without x v = record { setup = the_setup; number = 0; joined = joined_comes (first_joined x) (OfData (Loses v)) }
 
-epoch_reached : (v : ℕ) → IsJoinedReached the_setup 0 (epoch_without v).joined
-epoch_reached v = record { first = first_joined; opening = joined_opening; events = OfData (Loses v) ∷ []; fit = tt; kept = ((refl, tt), tt); state = refl }
+epoch_reached : (x : Bool) (v : ℕ) → IsJoinedReached the_setup 0 (epoch_without x v).joined
+epoch_reached x v = record { first = first_joined x; opening = joined_opening x; events = OfData (Loses v) ∷ []; fit = tt; kept = ((refl, tt), tt); state = refl }
 
-told_is_held : (b : Bool) (v : ℕ) (cells : ℕ → Cell) (reached : ℕ → Bool) → (net_reopening (r b)).told (Server v) ≡ Some (Slots cells reached) → held_cells first_joined.fleet 0 v ≡ cell_told b 0 v
-told_is_held true zero cells reached e = refl
-told_is_held true (suc zero) cells reached e = refl
-told_is_held true (suc (suc zero)) cells reached e = absurd (cc)
-told_is_held true (suc (suc (suc v))) cells reached e = absurd (cc)
-told_is_held false zero cells reached e = absurd (cc)
-told_is_held false (suc zero) cells reached e = refl
-told_is_held false (suc (suc zero)) cells reached e = refl
-told_is_held false (suc (suc (suc v))) cells reached e = absurd (cc)
+-- the first server may have ceased to be the primary
+abbrev has_ended : Fate → Bool
+has_ended (Remains x) = x
+has_ended Vanishes = false
 
-knows_cells : (b : Bool) → KnowsCells (r b) 0 first_joined.fleet
+told_is_held : (b : Fate) (v : ℕ) (cells : ℕ → Cell) (reached : ℕ → Bool) → (net_reopening (r b)).told (Server v) ≡ Some (Slots cells reached) → held_cells (first_joined (has_ended b)).fleet 0 v ≡ cell_told b 0 v
+told_is_held (Remains true) zero cells reached e = refl
+told_is_held (Remains false) zero cells reached e = refl
+told_is_held (Remains true) (suc zero) cells reached e = refl
+told_is_held (Remains false) (suc zero) cells reached e = refl
+told_is_held (Remains x) (suc (suc zero)) cells reached e = absurd (cc)
+told_is_held (Remains x) (suc (suc (suc v))) cells reached e = absurd (cc)
+told_is_held Vanishes zero cells reached e = absurd (cc)
+told_is_held Vanishes (suc zero) cells reached e = refl
+told_is_held Vanishes (suc (suc zero)) cells reached e = refl
+told_is_held Vanishes (suc (suc (suc v))) cells reached e = absurd (cc)
+
+knows_cells : (b : Fate) → KnowsCells (r b) 0 (first_joined (has_ended b)).fleet
 knows_cells b v c (inl t) = told_is_held b v t.0 t.1 t.2 ∙ told_as b 0 v t.0 t.1 t.2 ∙ t.3
 knows_cells b v c (inr q) = absurd (let z = not_carried b v in let y = q.0 in cc)
 
 -- ---- the secondary is lost
 
-takes_away : KeepsPrimary (r true) 0 (data_without 2) (Removes (λ v. v == 2) 1 ∷ [])
+takes_away : KeepsPrimary (r (Remains false)) 0 (data_after (Loses 2 ∷ [])) (Removes (λ v. v == 2) 1 ∷ [])
 takes_away = record {
   primary = 0;
-  left = inl ((λ s. cell_told true s 0), (λ s. (slot_in (slot_told Primary ∷ []) s).reached), refl, refl);
+  left = inl ((λ s. cell_told (Remains false) s 0), (λ s. (slot_in (slot_told Primary ∷ []) s).reached), refl, refl);
   gone = λ v. v == 2;
   needed = 1;
   may = omega arith;
@@ -537,17 +632,17 @@ takes_away = record {
 
 pub primary_serves_on : PrimaryServesOn
 primary_serves_on = record {
-  epoch = epoch_without 2;
-  reached = epoch_reached 2;
+  epoch = epoch_without false 2;
+  reached = epoch_reached false 2;
   is = refl;
-  fleet = first_fleet the_setup (st true).place 9;
+  fleet = first_fleet the_setup first_alone 9;
   acts = Removes (λ v. v == 2) 1 ∷ [];
   reopened = record {
-    reopening = r true;
-    settlement = st true;
-    knows = knows_cells true;
-    may = may true;
-    opening = fleet_opening the_setup (st true).place 9 first_opens;
+    reopening = r (Remains false);
+    settlement = st (Remains false);
+    knows = knows_cells (Remains false);
+    may = may (Remains false);
+    opening = fleet_opening the_setup first_alone 9 first_opens;
     cells = λ v. refl;
     follows = inl takes_away;
   };
@@ -557,65 +652,135 @@ primary_serves_on = record {
 
 -- ---- the primary is lost
 
-knows_shard : KnowsShard (r false) 0 (data_without 0)
+abbrev data_lost : Shard
+data_lost = data_after (Loses 0 ∷ [])
+
+knows_shard : KnowsShard (r Vanishes) 0 data_lost
 unfolding grid_of
 knows_shard = record { servers = refl; replicas = replicas; copies = copies; lost = lost_told; secondaries = secondaries }
   where
-    replicas : (v : ℕ) → members v ≡ not (is_absent ((recorded_place (r false)).cells 0 v))
+    replicas : (v : ℕ) → members v ≡ not (is_absent ((recorded_place (r Vanishes)).cells 0 v))
     replicas zero = refl
     replicas (suc zero) = refl
     replicas (suc (suc zero)) = refl
     replicas (suc (suc (suc v))) = sym (ap (λ b. not (is_absent (if b then slice_index_or past.cells (0 * 3 + suc (suc (suc v))) Absent else Absent))) (no_more v))
 
-    copies : (v : ℕ) → tells_whole (r false) 0 v ≡ true → (copy : List ListEntry) × ((data_without 0).copies v ≡ Some copy) × (told_copies (r false) 0 v ≡ told_of copy)
+    copies : (v : ℕ) → tells_whole (r Vanishes) 0 v ≡ true → (copy : List ListEntry) × (data_lost.copies v ≡ Some copy) × (told_copies (r Vanishes) 0 v ≡ told_of copy)
     copies zero e = absurd (cc)
     copies (suc zero) e = absurd (cc)
     copies (suc (suc zero)) e = (seven, refl, refl)
     copies (suc (suc (suc v))) e = absurd (cc)
 
-    lost_told : (v : ℕ) → (net_reopening (r false)).lost v ≡ true → is_some ((net_reopening (r false)).told (Server v)) ≡ false
+    lost_told : (v : ℕ) → (net_reopening (r Vanishes)).lost v ≡ true → is_some ((net_reopening (r Vanishes)).told (Server v)) ≡ false
     lost_told zero e = refl
     lost_told (suc zero) e = absurd (cc)
     lost_told (suc (suc zero)) e = absurd (cc)
     lost_told (suc (suc (suc v))) e = refl
 
-    secondaries : (v : ℕ) → ((standing_of (r false) 0 v).claim ≡ 0) ⊎ ((standing_of (r false) 0 v).claim ≡ 2)
+    secondaries : (v : ℕ) → ((standing_of (r Vanishes) 0 v).claim ≡ 0) ⊎ ((standing_of (r Vanishes) 0 v).claim ≡ 2)
     secondaries zero = inl refl
     secondaries (suc zero) = inl refl
     secondaries (suc (suc zero)) = inr refl
-    secondaries (suc (suc (suc v))) = inl (ap (λ c. if c then claim ((past_state (r false)).place.cells 0 (suc (suc (suc v)))) false else 0) (not_carried false (suc (suc (suc v)))))
+    secondaries (suc (suc (suc v))) = inl (ap (λ c. if c then claim ((past_state (r Vanishes)).place.cells 0 (suc (suc (suc v)))) false else 0) (not_carried Vanishes (suc (suc (suc v)))))
 
-unnamed : IsUnnamed (r false) 0 (data_without 0)
+unnamed : IsUnnamed (r Vanishes) 0 data_lost
 unfolding grid_of entries_of
 unnamed = record { knows = knows_shard; gone = refl; document = λ s v. None; kept = 2; two = omega arith; most = omega arith; unnamed = refl }
 
-chosen : ChoosesPrimary (r false) (st false).place 0 (data_without 0) (Chooses (choice_settled (r false) (st false).place 0 2 1 1) ∷ [])
+chosen : ChoosesPrimary (r Vanishes) third_alone 0 data_lost (Chooses (choice_settled (r Vanishes) third_alone 0 2 2 1) ∷ [])
 chosen = record {
   primary = 2;
   settled = refl;
   unnamed = unnamed;
-  view = 1;
+  view = 2;
   later = (omega arith, omega arith);
   needed = 1;
-  enough = λ copy e. subst (λ (c : List ListEntry). 1 ≤ count_below 3 (λ v. not (is_absent ((st false).place.cells 0 v)) && is_copy c ((data_without 0).copies v))) (ap list_of e) (omega arith);
+  enough = λ copy e. subst (λ (c : List ListEntry). 1 ≤ count_below 3 (λ v. not (is_absent (third_alone.cells 0 v)) && is_copy c (data_lost.copies v))) (ap list_of e) (omega arith);
   is = refl;
 }
 
 pub secondary_is_chosen : SecondaryIsChosen
 secondary_is_chosen = record {
-  epoch = epoch_without 0;
-  reached = epoch_reached 0;
+  epoch = epoch_without false 0;
+  reached = epoch_reached false 0;
   is = refl;
-  fleet = first_fleet the_setup (st false).place 9;
-  acts = Chooses (choice_settled (r false) (st false).place 0 2 1 1) ∷ [];
+  fleet = first_fleet the_setup third_alone 9;
+  acts = Chooses (choice_settled (r Vanishes) third_alone 0 2 2 1) ∷ [];
   reopened = record {
-    reopening = r false;
-    settlement = st false;
-    knows = knows_cells false;
-    may = may false;
-    opening = fleet_opening the_setup (st false).place 9 third_opens;
+    reopening = r Vanishes;
+    settlement = st Vanishes;
+    knows = knows_cells Vanishes;
+    may = may Vanishes;
+    opening = fleet_opening the_setup third_alone 9 third_opens;
     cells = λ v. refl;
     follows = inr (inl chosen);
+  };
+  executes = refl;
+  copy = refl;
+}
+
+-- ---- the primary has ended, and the other one is lost
+
+abbrev data_ended : Shard
+data_ended = data_after (Ends 1 ∷ Loses 2 ∷ [])
+
+knows_ended : KnowsShard (r (Remains true)) 0 data_ended
+unfolding grid_of
+knows_ended = record { servers = refl; replicas = replicas; copies = copies; lost = lost_told; secondaries = secondaries }
+  where
+    replicas : (v : ℕ) → members v ≡ not (is_absent ((recorded_place (r (Remains true))).cells 0 v))
+    replicas zero = refl
+    replicas (suc zero) = refl
+    replicas (suc (suc zero)) = refl
+    replicas (suc (suc (suc v))) = sym (ap (λ b. not (is_absent (if b then slice_index_or past.cells (0 * 3 + suc (suc (suc v))) Absent else Absent))) (no_more v))
+
+    copies : (v : ℕ) → tells_whole (r (Remains true)) 0 v ≡ true → (copy : List ListEntry) × (data_ended.copies v ≡ Some copy) × (told_copies (r (Remains true)) 0 v ≡ told_of copy)
+    copies zero e = (seven, refl, refl)
+    copies (suc zero) e = absurd (cc)
+    copies (suc (suc zero)) e = absurd (cc)
+    copies (suc (suc (suc v))) e = absurd (cc)
+
+    lost_told : (v : ℕ) → (net_reopening (r (Remains true))).lost v ≡ true → is_some ((net_reopening (r (Remains true))).told (Server v)) ≡ false
+    lost_told zero e = absurd (cc)
+    lost_told (suc zero) e = absurd (cc)
+    lost_told (suc (suc zero)) e = refl
+    lost_told (suc (suc (suc v))) e = refl
+
+    secondaries : (v : ℕ) → ((standing_of (r (Remains true)) 0 v).claim ≡ 0) ⊎ ((standing_of (r (Remains true)) 0 v).claim ≡ 2)
+    secondaries zero = inr refl
+    secondaries (suc zero) = inl refl
+    secondaries (suc (suc zero)) = inl refl
+    secondaries (suc (suc (suc v))) = inl (ap (λ c. if c then claim ((past_state (r (Remains true))).place.cells 0 (suc (suc (suc v)))) false else 0) (not_carried (Remains true) (suc (suc (suc v)))))
+
+succeeds : SucceedsFormer (r (Remains true)) first_alone 0 data_ended (Succeeds 0 2 0 ∷ [])
+succeeds = record {
+  primary = 0;
+  settled = refl;
+  knows = knows_ended;
+  without = omega arith;
+  former = 0;
+  ended = refl;
+  tells = refl;
+  view = 2;
+  later = (omega arith, omega arith);
+  is = refl;
+}
+
+pub former_serves_again : FormerServesAgain
+former_serves_again = record {
+  epoch = epoch_without true 2;
+  reached = epoch_reached true 2;
+  is = refl;
+  fleet = first_fleet the_setup first_alone 9;
+  acts = Succeeds 0 2 0 ∷ [];
+  reopened = record {
+    reopening = r (Remains true);
+    settlement = st (Remains true);
+    knows = knows_cells (Remains true);
+    may = may (Remains true);
+    opening = fleet_opening the_setup first_alone 9 first_opens;
+    cells = λ v. refl;
+    follows = inr (inr (inl succeeds));
   };
   executes = refl;
   copy = refl;

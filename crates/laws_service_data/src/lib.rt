@@ -9,5 +9,5 @@ pub use law::{
     joined_opens, opens_anew, reached_cut_has_all, serving_server_leads, settled_server_leads,
 };
 pub use play::{
-    handover_keeps_writes, primary_serves_on, restart_keeps_writes, secondary_is_chosen,
+    former_serves_again, handover_keeps_writes, primary_serves_on, restart_keeps_writes, secondary_is_chosen,
 };

@@ -1,6 +1,6 @@
 //! Worked plays, computed by the definitions.
 ghost use Rattle.laws_service_data.specs.Plays.{HandoverKeepsWrites, RestartKeepsWrites};
-ghost use Rattle.laws_service_data.specs.ReopenedPlays.{PrimaryServesOn, SecondaryIsChosen};
+ghost use Rattle.laws_service_data.specs.ReopenedPlays.{FormerServesAgain, PrimaryServesOn, SecondaryIsChosen};
 
 /// Shows that the premises can be met: a shard moves, and a write before the cut and one behind it are with the new
 /// owner.
@@ -23,4 +23,10 @@ pub fn primary_serves_on()
 /// with all that was acknowledged.
 pub fn secondary_is_chosen()
     ensures { SecondaryIsChosen }
+{}
+
+/// Shows that if the primary has become a secondary, and the other one is lost, a reopening can make it the primary
+/// again, with all that was acknowledged.
+pub fn former_serves_again()
+    ensures { FormerServesAgain }
 {}
