@@ -302,17 +302,16 @@ module _ (r : OngoingReopening) (s : ℕ) (w : Shard) (knows : KnowsShard r s w)
 -- who is settled as the primary may be chosen
 pub may_choose : EnoughHaveThem → (r : OngoingReopening) (st : Settlement) (s : ℕ) (w : Shard) (acts : List Event) → IsShardReached w → MayConfirm r st
     → (c : ChoosesPrimary r st.place s w acts) → MayHappen w (Chooses (choice_settled r st.place s c.primary c.view c.needed))
-may_choose have r st s w acts reached may c =
-    (
-      copy.0,
-      record {
-        copy_is = copy.1;
-        greatest = greatest r s w knows c.primary copy.0 claims best told copy.1;
-        later = c.later;
-        needed = c.enough copy.0 copy.1;
-        named = λ e. few;
-      },
-    )
+may_choose have r st s w acts reached may c = (
+  copy.0,
+  record {
+    copy_is = copy.1;
+    greatest = greatest r s w knows c.primary copy.0 claims best told copy.1;
+    later = c.later;
+    needed = c.enough copy.0 copy.1;
+    named = λ e. few;
+  },
+)
   where
     knows : KnowsShard r s w
     knows = c.unnamed.knows
@@ -354,8 +353,7 @@ may_succeed r st s w acts may c =
     let claims : 0 < (standing_of r s c.primary).claim = may.allowed.claims s c.former c.primary c.settled (omega arith) in
     let best = may.best s c.former c.primary c.settled in
     let k = c.knows.copies c.primary (heir_tells r s w c.knows c.primary c.former claims best c.tells) in
-    let f = c.knows.copies c.former c.tells in
-    (
+    let f = c.knows.copies c.former c.tells in (
       k.0,
       f.0,
       k.1,

@@ -9,5 +9,6 @@ mod Laws
 mod Epochs
 mod Choosing
 mod Reopened
+mod InForce
 mod Plays
 mod ReopenedPlays

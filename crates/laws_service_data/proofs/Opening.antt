@@ -39,6 +39,7 @@ first_fleet setup p room = record {
   asks = [];
 }
 
+-- a fleet opens before any event
 pub fleet_opening : (setup : Setup) (p : Place) (room : ℕ) → IsOpening setup p room → IsFleetOpening setup (first_fleet setup p room)
 fleet_opening setup p room o = record {
   journal = refl;

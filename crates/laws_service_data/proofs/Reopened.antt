@@ -10,10 +10,10 @@ use Rattle.sm_placement.specs.Setup.{Setup, sizes_of}
 use Rattle.sm_placement.specs.Place.{Place}
 use Rattle.sm_placement.specs.Rows.{serves, serves_as}
 use Rattle.sm_placement.specs.SafePlace.{IsServing}
-use Rattle.sm_placement.specs.Lead.{Describes, is_at_rest}
+use Rattle.sm_placement.specs.Lead.{Describes, IsPlain, is_at_rest}
 use Rattle.sm_placement.specs.declared.lead.Lead.{Lead}
 use Rattle.sm_placement.specs.declared.lead.Lead.TheVariants.{Gone, At, Ready, Handing, Handed}
-use Rattle.sm_placement.proofs.Leads.{by_plain, one_serves}
+use Rattle.sm_placement.proofs.Leads.{one_serves}
 use Rattle.sm_protocol.specs.Laws.{IsOpening}
 use Rattle.laws_network.specs.Fleet.{Fleet, held_cells}
 use Rattle.laws_network.specs.FleetLaws.{IsFleetOpening, IsFleetReached, held_place}
@@ -30,14 +30,18 @@ use Rattle.laws_service_data.specs.Epochs.{Anew, Epoch, EpochEvent, KeepRules, K
 use Rattle.laws_service_data.specs.Reopened.{ChoosesPrimary, ExecutesAsSettled, FollowsSettlement, IsReopened, KeepSettled, KeepsPrimary, SettledLeads, StaysWithout, SucceedsFormer}
 use Rattle.laws_service_data.proofs.Choosing.{may_choose, may_succeed}
 use Rattle.laws_service_data.proofs.Epochs.{executes_over_reopenings}
-use Rattle.laws_service_data.proofs.Rows.{primary_serves}
+use Rattle.laws_service_data.proofs.Rows.{AsNewOwner, AsPrimary, IsServingAs, primary_serves, serving_as}
 use Rattle.laws_service_data.proofs.Runs.{IsJoint, data_on, joint, joint_opening, joint_run}
 
 -- ---- who serves in a fleet that opens
 
 -- where no handover is under way, who serves is the primary
 serves_at_rest : (lead : Lead) (row : ℕ → Cell) → is_at_rest lead ≡ true → Describes lead 0 row → (v : ℕ) → serves row v ≡ true → row v ≡ Primary
-serves_at_rest Gone row r d v s = absurd (false≢true (sym (by_plain row v (d v)) ∙ s))
+serves_at_rest Gone row r d v s = by_serving (serving_as row v s)
+  where
+    by_serving : IsServingAs row v → row v ≡ Primary
+    by_serving (AsPrimary h) = h
+    by_serving (AsNewOwner a n h f) = absurd (subst IsPlain h (d v))
 serves_at_rest (At u) row r d v s = ap row (one_serves (At u) 0 row d v u s (primary_serves row u d.0)) ∙ d.0
 serves_at_rest (Ready u w) row r d v s = absurd (cc)
 serves_at_rest (Handing u w) row r d v s = absurd (cc)

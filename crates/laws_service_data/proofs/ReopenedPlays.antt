@@ -630,6 +630,7 @@ takes_away = record {
   is = refl;
 }
 
+-- the primary that is left serves on
 pub primary_serves_on : PrimaryServesOn
 primary_serves_on = record {
   epoch = epoch_without false 2;
@@ -699,6 +700,7 @@ chosen = record {
   is = refl;
 }
 
+-- the secondary that is chosen serves
 pub secondary_is_chosen : SecondaryIsChosen
 secondary_is_chosen = record {
   epoch = epoch_without false 0;
@@ -766,6 +768,7 @@ succeeds = record {
   is = refl;
 }
 
+-- the former primary serves again
 pub former_serves_again : FormerServesAgain
 former_serves_again = record {
   epoch = epoch_without true 2;

@@ -12,8 +12,9 @@ use Rattle.sm_agent.specs.declared.request.Routing.TheVariants.{Execute}
 use Rattle.sm_copies.specs.Lists.{ListEntry}
 use Rattle.laws_network.specs.Fleet.{Fleet, FleetEvent, Routed, fleet_comes, held_cells}
 use Rattle.laws_network.specs.FleetLaws.{IsFleetOpening}
-use Rattle.laws_network.specs.Reopening.{Settlement}
-use Rattle.laws_network.specs.ReopeningLaws.{IsKnownAs}
+use Rattle.laws_network.specs.FleetReopening.{IsFleetInForce}
+use Rattle.laws_network.specs.Reopening.{Settlement, Settling}
+use Rattle.laws_network.specs.ReopeningLaws.{AllTook, IsKnownAs, IsSettlingReached}
 use Rattle.sm_reopening.specs.declared.ongoing.OngoingReopening.{OngoingReopening}
 use Rattle.sm_reopening.specs.Faults.{MayConfirm}
 use Rattle.sm_reopening.specs.Losses.{has_gone, is_named_lost, tells_whole}
@@ -107,6 +108,13 @@ pub record IsReopened (x : Epoch) (setup : Setup) (number : ℕ) (fleet : Fleet)
   pub opening : IsFleetOpening setup fleet
   pub cells : (v : ℕ) → held_cells fleet number v ≡ settlement.place.cells x.number v
   pub follows : FollowsSettlement reopening settlement.place x.number x.joined.shard acts
+
+-- So it opens once a settlement is in force: its servers have the cells that are settled, or had them before they lost
+-- their slots.
+abbrev pub InForceIsSettled : Type 0
+InForceIsSettled = (setup : Setup) (x : Settling) (s : Settlement) (f : Fleet) →
+    IsSettlingReached setup x → x.reopening.settlement ≡ Some s → AllTook x.reopening → IsFleetInForce x s f
+    → IsFleetOpening s.setup f × ((k v : ℕ) → held_cells f k v ≡ s.place.cells k v)
 
 -- So the rules are kept: whoever serves the shard in the fleet that opens leads its data.
 abbrev pub SettledLeads : Type 0

@@ -1,9 +1,10 @@
 //! The laws.
 ghost use Rattle.laws_service_data.specs.Epochs.{ExecutesOverReopenings, OpensAnew};
-ghost use Rattle.laws_service_data.specs.Reopened.{ExecutesAsSettled, SettledLeads};
+ghost use Rattle.laws_service_data.specs.Reopened.{ExecutesAsSettled, InForceIsSettled, SettledLeads};
 ghost use Rattle.laws_service_data.specs.Laws.{CutEndsWrites, ExecutesWithAll, JoinedOpens, ReachedCutHasAll, ServingLeads};
 
 use laws_data::{acknowledged_writes_stay, enough_replicas_have_them};
+use laws_network::{fleet_opens_in_force, opens_with_past};
 use sm_server::leads_where_led;
 
 /// States that whoever serves a shard leads its data, or is prepared to take over from the server that does.
@@ -74,4 +75,12 @@ pub fn executes_as_settled()
     leads_where_led();
     acknowledged_writes_stay();
     enough_replicas_have_them();
+}
+
+/// States that once a settlement is in force, a fleet opens whose servers have the cells that are settled.
+pub fn in_force_is_settled()
+    ensures { InForceIsSettled }
+{
+    fleet_opens_in_force();
+    opens_with_past();
 }

@@ -6,8 +6,10 @@ mod play;
 
 pub use law::{
     cut_ends_writes, executes_as_settled, executes_over_reopenings, executes_with_all,
-    joined_opens, opens_anew, reached_cut_has_all, serving_server_leads, settled_server_leads,
+    in_force_is_settled, joined_opens, opens_anew, reached_cut_has_all, serving_server_leads,
+    settled_server_leads,
 };
 pub use play::{
-    former_serves_again, handover_keeps_writes, primary_serves_on, restart_keeps_writes, secondary_is_chosen,
+    former_serves_again, handover_keeps_writes, primary_serves_on, restart_keeps_writes,
+    secondary_is_chosen,
 };
