@@ -8,7 +8,8 @@ each rule.
 With `--built` the form of a shard's number of copies that is built stands in place of the full one, and with `--small`
 one that has more: SMALL.md has their rules, `plays_built` and `plays_small` plays, `built` the former's reopening.
 
-smpland has one of the lines that these rules need (docs/DATA.md): `driving_model` is what it does today, but for that.
+smpland and its servers keep the built form (docs/DECISIONS.md says why no more): `driving_model` is the same without
+data.
 
 What it leaves out: more than five servers; a disk that goes back and does not know it; a server that was given up and
 comes back with its slots; a controller that goes on from an older copy of its journal; forged messages. Whom a follower
