@@ -18,10 +18,13 @@ Line = Dict[str, Any]
 TOO_FEW = "--copies: a write is at one server at least"
 
 # For how long a controller may be silent, in seconds.
-PATIENCE = 10.0
+PATIENCE = 30.0
 
 # For how long it rests while a controller does not take all, in seconds: twice as long each time.
 SHORTEST, LONGEST = 0.5, 30.0
+
+# It rests so many times as long as the controller needed to say what it knows, too: 4,096 shards are a MB.
+SPARING = 100
 
 
 def copies_of(text: str) -> int:
@@ -49,14 +52,16 @@ class Recorded:
     def take(self, journal: int, fence: int, copies: Dict[str, int]) -> List[str]:
         """Tells of shards, each with its number of copies, under the last reopening at which the server was settled. Returns those of which there is
         nothing more to be said under it. While others remain, as during a reopening, it rests ever longer."""
+        begun = time.monotonic()
         if self.when != (journal, fence):
             self.when, self.rest, self.until = (journal, fence), 0.0, 0.0
-        if not copies or time.monotonic() < self.until:
+        if not copies or begun < self.until:
             return []
         known = self.known(journal, fence)
+        took = time.monotonic() - begun
         done = [] if known is None else self.tell(journal, fence, copies, known)
         self.rest = 0.0 if len(done) == len(copies) else min(max(2 * self.rest, SHORTEST), LONGEST)
-        self.until = time.monotonic() + self.rest
+        self.until = time.monotonic() + max(self.rest, SPARING * took)
         return done
 
     def known(self, journal: int, fence: int) -> Optional[Dict[str, int]]:

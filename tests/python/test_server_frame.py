@@ -1187,6 +1187,20 @@ class RulesTest(unittest.TestCase):
             server.state = {"fence": 5}
             self.assertEqual(recorded.take(7, 5, {"s0": 2}), ["s0"])  # (at once under another reopening)
 
+    def test_a_controller_that_needs_long_is_asked_seldom(self):
+        server, clock, asked = Twice(1, {}), [0.0], []
+        known = server.copied.recorded.known
+
+        def slow(*words):
+            clock[0] += 0.2
+            asked.append(int(clock[0]))
+            return known(*words)
+
+        with mock.patch("smplan.server_copied.time.monotonic", lambda: clock[0]), mock.patch.object(server.copied.recorded, "known", slow):
+            for clock[0] in range(70):
+                server.copied.recorded.take(7, 0, {"s": 2})
+        self.assertEqual(asked, [0, 21, 42, 63])
+
     def test_copies_that_are_refused_are_told_once(self):
         a, _ = kv_rules.pair(Twice, Cell.SECONDARY)
         a.said = {"refused": {"kind": "AboveWant", "shard": "s", "want": 1}}

@@ -12,11 +12,13 @@ import (
 // tooFew is what is said where a write would be at fewer servers.
 const tooFew = "-copies: a write is at one server at least"
 
-// For how long a controller may be silent; and for how long it rests while one does not take all, twice as long each time.
+// For how long a controller may be silent; for how long it rests while one does not take all, twice as long each time; and how many times as long as
+// one needed to say what it knows (4,096 shards are a MB).
 const (
-	silence  = 10 * time.Second
+	silence  = 30 * time.Second
 	shortest = time.Second / 2
 	longest  = 30 * time.Second
+	sparing  = 100
 )
 
 // copiedLine tells a controller how many servers have each acknowledged write of a shard: a reopening counts by it, and names fewer shards as lost.
@@ -93,10 +95,13 @@ func (it *Server) takeCopies(journal uint64, by counting, shards []string) (done
 	if told.journal != journal || told.fence != by.Settled {
 		*told = recorded{journal: journal, fence: by.Settled}
 	}
-	if len(shards) == 0 || time.Now().Before(told.until) {
+	begun := time.Now()
+	if len(shards) == 0 || begun.Before(told.until) {
 		return nil
 	}
-	if known := it.known(journal, by.Settled); known != nil {
+	known := it.known(journal, by.Settled)
+	took := time.Since(begun)
+	if known != nil {
 		done = it.tellThem(journal, by, shards, known)
 	}
 	told.rest *= 2
@@ -109,6 +114,9 @@ func (it *Server) takeCopies(journal uint64, by counting, shards []string) (done
 		told.rest = longest
 	}
 	told.until = time.Now().Add(told.rest)
+	if told.rest < sparing*took {
+		told.until = time.Now().Add(sparing * took)
+	}
 	return done
 }
 
