@@ -228,6 +228,13 @@ class GoTest(unittest.TestCase):
         go("vet", "./...")
         go("test", "./...")
 
+    def test_a_write_is_at_one_server_at_least(self):
+        with tempfile.TemporaryDirectory(prefix="server-frame-") as folder:
+            go("build", "-o", f"{folder}/kv", "./examples/kv")
+            for words in ("0", "-1"):
+                told = subprocess.run([f"{folder}/kv", f"-copies={words}", "a", "http://127.0.0.1:1", f"{folder}/store"], capture_output=True, text=True, check=False, timeout=60)
+                self.assertEqual((told.returncode, "-copies: a write is at one server at least" in told.stderr), (2, True), told.stderr)
+
 
 class FleetTest(unittest.TestCase):
     """Processes over HTTP."""
