@@ -68,6 +68,8 @@ class Orders:
         order = self.read(told)
         await self.server.heed(order.journal, order.fence)
         shard = self.store.shard(told["shard"])
+        if self.judge(shard, order) == Answer.AGAIN:  # (not behind all requests that wait for the lock: what is seen is stored)
+            return self.answered(shard, told)
         async with shard.lock:
             verdict = self.judge(shard, order)
             if verdict == Answer.BEGIN:
@@ -81,12 +83,16 @@ class Orders:
             if work is None:
                 raise Failed("GivenUp", "nobody works")
             await self.wait_until_done(work)
-        elif verdict != Answer.AGAIN:
+            return {"answered": {it: told[it] for it in ("plan", "stream", "number")}}
+        if verdict != Answer.AGAIN:
             self.store.note("order-" + verdict.name.lower().replace("_", "-"), shard=shard.name, number=order.number, last=shard.slot.last)
             raise Failed(TURNED_AWAY.get(verdict, "Refused"), REFUSALS.get(verdict, ""))
-        else:
-            self.store.note("order-again", shard=shard.name, number=order.number)
-        return {"answered": {"plan": told["plan"], "stream": told["stream"], "number": told["number"]}}
+        return self.answered(shard, told)
+
+    def answered(self, shard: Shard, told: Message) -> Message:
+        """Answers an order that was done before."""
+        self.store.note("order-again", shard=shard.name, number=told["number"])
+        return {"answered": {it: told[it] for it in ("plan", "stream", "number")}}
 
     async def wait_until_done(self, work: Work) -> None:
         """Waits for the end of work; raises Failed if it is given up."""

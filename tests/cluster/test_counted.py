@@ -17,6 +17,7 @@ from smplan.agent import Base, Cell, Slot, ViewStart
 from cluster.servers.copied import Copied
 from cluster.servers.shard import Shard
 from cluster.servers.sources import Sources, Stream
+from cluster.servers.work import Orders
 from cluster.wire import Cluster, Failed
 
 # How long a request is watched that is not to be acknowledged, in seconds: longer than others are waited for that are gone.
@@ -114,6 +115,18 @@ class CopiedTest(unittest.IsolatedAsyncioTestCase):
             await it.tell_one(shard)
             found.append((shard.lead.told, store.note.call_count))
         self.assertEqual(found, [(-1, 0), (-1, 0), (9, 0), (9, 1)])
+
+
+class OrdersTest(unittest.IsolatedAsyncioTestCase):
+    """What a server does with orders."""
+
+    async def test_an_order_that_was_done_is_answered_while_requests_wait_for_the_shard(self):
+        shard = Shard("s", Slot(cell=Cell.SECONDARY, last=12), 5, "c", True, (ViewStart(9, 0),))
+        store = SimpleNamespace(base=Base(journal=7, number=9, known=1), shard=lambda _: shard, used=lambda: 0, note=Mock())
+        it = Orders(SimpleNamespace(store=store, heed=AsyncMock()))
+        told = {"call": "add", "shard": "s", "role": "secondary", "journal": "7", "fence": 9, "number": 12, "load": 1, "room": 9, "plan": 3, "stream": 0}
+        async with shard.lock, asyncio.timeout(5):
+            self.assertEqual(await it.take(told), {"answered": {"plan": 3, "stream": 0, "number": 12}})
 
 
 class ClusterTest(unittest.TestCase):
