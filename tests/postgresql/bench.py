@@ -1,9 +1,11 @@
-"""bench.py FOLDER [--shards 12] [--rows 20000] [--at-once 1] [--rest 0.03] [--databases]: one of four PostgreSQL servers is drained while clients write; tells how
-long that takes, for how long shards' writes pause at their handover and beside those of others, and what pg_dump | psql of one such schema takes. With
---databases each shard has a database of its own at each server.
+"""bench.py FOLDER [--shards 12] [--rows 20000] [--at-once 1] [--rest 0.1] [--databases]: one of four PostgreSQL servers
+is drained while clients write; tells how long that takes, for how long shards' writes pause at their handover and beside
+those of others, what takes the processors, and what pg_dump | psql of one such schema takes. With --databases each shard
+has a database of its own at each server.
 
-A pause is the longest time without an acknowledged write of a shard, with the rests of its client; it also tells for how long of that the client waited. Exit
-status 1: something was lost, or the drain did not end.
+A shard has one client, which rests equally long between two writes. A pause is the longest time without an acknowledged
+write of a shard, so with such a rest; it also tells for how long of that somebody waited. What a client would see that
+never rests lies between. Exit status 1: something was lost, or the drain did not end.
 """
 import argparse
 import os
@@ -17,19 +19,33 @@ import checker
 import run as runs
 from servers import BIN
 from story import handovers
+from usage import Usage
 
 # How far around its handover a shard's pause is looked for, in seconds.
 AROUND = (1.0, 5.0)
+
+# The rest of a client whose shard is not watched, in seconds.
+SELDOM = 0.5
 
 
 class Bench(runs.Run):
     """One drain."""
 
     def moves(self, _):
-        self.before, begun = os.getloadavg()[0], time.time()
+        self.before, begun, usage = os.getloadavg()[0], time.time(), Usage()
+        usage.start()
         self.say("drain a")
         self.status = self.command("drain", "region:a" if self.told.databases else "a", "--batch", "2", "--pause", "0.2", seconds=7200.0)
-        self.drain, self.after = (begun, time.time()), os.getloadavg()[0]
+        self.drain, self.after, self.used = (begun, time.time()), os.getloadavg()[0], usage.end()
+
+    def setup(self):
+        """Shards that move are watched, and so many others, first those that have nothing at a. Clients of the rest
+        write seldom."""
+        moves = {it: self.cells[it][0][0] == "a" for it in self.fleet.shards}
+        is_at_a = {it: any(name[0] == "a" for name in self.cells[it]) for it in self.fleet.shards}
+        order = sorted(self.fleet.shards, key=lambda it: (not moves[it], is_at_a[it]))
+        self.watched = set(order[:max(self.watch, sum(moves.values()))])
+        return {**super().setup(), "rests": {it: SELDOM for it in self.fleet.shards if it not in self.watched}}
 
     def cuts(self):
         """When shards were cut, from the servers' logs."""
@@ -42,19 +58,26 @@ class Bench(runs.Run):
         return found
 
     def report(self, by_shard):
-        """What the drain took, and how long writes paused."""
+        """What the drain took, and how long writes of shards that are watched paused."""
         begun, ended = self.drain
         cuts = self.cuts()
         print(machine(self.fleet.folder), f"; load {self.before:.1f} before, {self.after:.1f} after", sep="")
         size = self.fleet.posts[self.fleet.names[1]].query("SELECT pg_database_size(current_database()) >> 20")[0][0]
         kind = ", each a database of its own" if self.told.databases else ""
         print(f"{len(by_shard)} shards of {self.size} MB{kind}, {len(self.fleet.machines)} servers, {self.told.option}; a database has {size} MB in the end")
-        print(f"drain: {ended - begun:.1f} s, status {self.status}; {sum(map(len, by_shard.values()))} acknowledged writes")
+        writes, seconds = sum(map(len, by_shard.values())), ended - begun
+        print(f"drain: {seconds:.1f} s, status {self.status}; {writes} acknowledged writes, {len(self.watched)} shards watched")
+        used = [f"{it / seconds:.2f} {kind}" for kind, it in self.used if it > 0.01 * seconds]
+        print("processors:", ", ".join(used))
         moved = {it for it in by_shard if it in cuts or any(name[0] == "a" for name in self.cells[it])}
+        by_shard = {it: rows for it, rows in by_shard.items() if it in self.watched}
         for title, look in (("without an acknowledged write", checker.gaps_of), ("while somebody waited for one", checker.waits_of)):
             print(told(f"{title}, at rest", [look(rows, *self.spans["rest"][0]) for rows in by_shard.values()]))
-            print(told(f"{title}, at a shard's handover", [max(look(by_shard[it], at - AROUND[0], at + AROUND[1]) for at in ats) for it, ats in cuts.items()]))
-            print(told(f"{title}, of shards that do not move", [look(rows, begun, ended) for it, rows in by_shard.items() if it not in moved]))
+            moves = [max(look(by_shard[it], at - AROUND[0], at + AROUND[1]) for at in ats)
+                     for it, ats in cuts.items() if it in by_shard]
+            print(told(f"{title}, at a shard's handover", moves))
+            stays = [look(rows, begun, ended) for it, rows in by_shard.items() if it not in moved]
+            print(told(f"{title}, of shards that do not move", stays))
         for title, times in handovers(self.fleet.folder).items():
             print(told(title, times))
         print(f"pg_dump | psql of one schema: {self.dump():.1f} s")
@@ -96,15 +119,19 @@ def main():
     signal.signal(signal.SIGTERM, lambda *_: sys.exit(143))
     parser = argparse.ArgumentParser()
     parser.add_argument("folder")
-    for name, value in (("--shards", "12"), ("--rows", "20000"), ("--at-once", "1"), ("--rest", "0.03"), ("--writers", "1"), ("--patience", "1200")):
+    for name, value in (("--shards", "12"), ("--rows", "20000"), ("--at-once", "1"), ("--rest", "0.1"),
+                        ("--writers", "1"), ("--patience", "1200")):
         parser.add_argument(name, default=value)
+    parser.add_argument("--watch", type=int, default=20, help="so many shards are watched, at least all that move")
     parser.add_argument("--databases", action="store_true")
     given = parser.parse_args()
-    sys.argv = ["run.py", given.folder, "--harm", "--seconds", "40", "--seed", "1", "--copies", "1", f"--option=--at-once={given.at_once}"]
+    sys.argv = ["run.py", given.folder, "--harm", "--seconds", "40", "--seed", "1", "--copies", "1", "--steady",
+                f"--option=--at-once={given.at_once}"]
     for name in ("shards", "rows", "rest", "writers", "patience"):
         sys.argv += [f"--{name}", getattr(given, name)]
     sys.argv += ["--databases", given.shards] if given.databases else []
     bench = Bench(runs.arguments())
+    bench.watch = given.watch
     try:
         wrong = bench.run()
         wrong += [] if bench.status == 0 else [f"the drain ended with {bench.status}"]

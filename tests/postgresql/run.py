@@ -91,11 +91,16 @@ class Run:
 
     def start_writers(self):
         """Clients in processes of their own."""
-        (self.fleet.folder / "setup.json").write_text(json.dumps({
-            "patience": 60.0 * self.told.copies,  # (where a second copy is lost, who writes waits until there is another one)
-            "servers": {it: post.reach for it, post in self.fleet.posts.items()}, "maps": [str(it) for it in self.fleet.map_files], "shards": self.fleet.shards, "rows": self.told.rows}))
+        (self.fleet.folder / "setup.json").write_text(json.dumps(self.setup()))
         self.writers = [subprocess.Popen(["/usr/bin/python3", "writers.py", str(self.fleet.folder), str(n), "1", str(self.told.rest), str(self.told.plain)], cwd=HERE,
                                          stdout=(self.fleet.folder / f"writers-{n}.log").open("w"), stderr=subprocess.STDOUT) for n in range(self.told.writers)]
+
+    def setup(self):
+        """What clients have to know."""
+        return {"patience": 60.0 * self.told.copies,  # (where a second copy is lost, who writes waits for another one)
+                "servers": {it: post.reach for it, post in self.fleet.posts.items()},
+                "maps": [str(it) for it in self.fleet.map_files], "shards": self.fleet.shards, "rows": self.told.rows,
+                "steady": self.told.steady, "rests": {}}
 
     def written(self):
         """How many writes are acknowledged so far."""
@@ -292,6 +297,7 @@ def arguments():
     parser.add_argument("--rows", type=int, default=5000)
     parser.add_argument("--writers", type=int, default=2, help="processes, each with a client a shard")
     parser.add_argument("--rest", type=float, default=0.02)
+    parser.add_argument("--steady", action="store_true", help="clients rest equally long, and do nothing on purpose twice")
     parser.add_argument("--harm", nargs="*", default=list(KINDS))
     parser.add_argument("--messages", type=float, default=0.0, help="the share of messages that are lost, late or doubled")
     parser.add_argument("--every", type=float, default=2.0, help="the longest rest between two harms, in seconds")

@@ -2,8 +2,10 @@
 
     python3 writers.py FOLDER NUMBER THREADS_PER_SHARD REST_SECONDS PLAIN_SECONDS    (until FOLDER/stop is there)
 
-One request of fifty is sent again after its acknowledgement, and one of a hundred loses its connection while COMMIT is under way. With PLAIN_SECONDS above 0
-each shard has a client, too, that knows nothing of shards, and leaves each transaction open for up to so long; what it has committed stands in plain-N.jsonl.
+One request of fifty is sent again after its acknowledgement, and one of a hundred loses its connection while COMMIT is
+under way. Not so if clients are to be steady: then each rests equally long between two requests, and a time without an
+acknowledgement is known to the length of that rest. With PLAIN_SECONDS above 0 each shard has a client, too, that knows
+nothing of shards, and leaves each transaction open for up to so long; what it has committed stands in plain-N.jsonl.
 """
 import json
 import random
@@ -59,6 +61,9 @@ class Writer:
                 log([self.shard, request, account, delta, f"fault {type(why).__name__} {why}", begun, time.time()])
                 continue
             log([self.shard, request, account, delta, reply, begun, time.time()])
+            if self.setup["steady"]:
+                time.sleep(self.rest)
+                continue
             if dice.random() < 0.02:
                 try:
                     if self.router.run(self.shard, request, transfer(request, account, delta)) != reply:
@@ -114,9 +119,11 @@ class Log:
 
 def main(folder, number, threads, rest, longest):
     setup = json.loads((folder / "setup.json").read_text())
-    routers = [RoughRouter(setup["servers"], setup["maps"][it % len(setup["maps"])], patience=setup["patience"]) for it in range(2)]
+    kind, maps, rests = Router if setup["steady"] else RoughRouter, setup["maps"], setup["rests"]
+    routers = [kind(setup["servers"], maps[it % len(maps)], patience=setup["patience"]) for it in range(2)]
     told, plain = Log(folder / f"acknowledged-{number}.jsonl"), Log(folder / f"plain-{number}.jsonl")
-    work = [(Writer(folder, routers[it % 2], setup, shard, f"{shard}-{number}-{it}", rest), told) for shard in setup["shards"] for it in range(threads)]
+    work = [(Writer(folder, routers[it % 2], setup, shard, f"{shard}-{number}-{it}", rests.get(shard, rest)), told)
+            for shard in setup["shards"] for it in range(threads)]
     work += [(PlainWriter(folder, setup, shard, f"{shard}-{number}", rest, longest), plain) for shard in setup["shards"] if longest]
     running = [threading.Thread(target=it.run, args=(log,)) for it, log in work]
     for step in (threading.Thread.start, threading.Thread.join):
