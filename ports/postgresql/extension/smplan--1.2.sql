@@ -248,25 +248,30 @@ END $$;
 
 -- Called behind the commit of a request, or of a read: true once all members have what it saw, and enough have. False: send the request again, under its
 -- identity.
--- (Members and slot are read together: one transaction changes both. synchronous_standby_names would make all shards of a server wait for the
--- slowest follower of any. Meanwhile only those are looked at that lacked it, by a plan that is kept.)
+-- (Members and slot are read together: one transaction changes both. Streams are read before: who copies anew by then
+-- counts no more, and its new stream, which has all, is not looked at. synchronous_standby_names would make all shards of
+-- a server wait for the slowest follower of any. Meanwhile only those are looked at that lacked it, by a plan that is
+-- kept; and members again soon: an old owner that leaves confirms nothing more.)
 CREATE OR REPLACE FUNCTION sm.acknowledged(in_shard text, patience interval DEFAULT '10 s') RETURNS bool LANGUAGE plpgsql AS $$
 DECLARE
   until pg_lsn := pg_current_wal_flush_lsn(); ends timestamptz := clock_timestamp() + patience; steps int := 0;
-  served bool; lacking text[];
+  have text[]; members int[]; served bool; lacking text[];
 BEGIN
   LOOP
     IF NOT sm.is_adopted(in_shard) THEN RETURN false; END IF;
+    have := ARRAY(SELECT slot_name FROM pg_get_replication_slots()
+      WHERE confirmed_flush_lsn >= until AND datoid = (SELECT oid FROM pg_database WHERE datname = current_database()));
     EXECUTE format('SELECT EXISTS (SELECT FROM sm.slots WHERE shard = $1 AND (cell = 4 OR (cell = 2 AND has_cut = 1))),
-      ARRAY(SELECT stream FROM (SELECT sm.stream($1, server) AS stream FROM %I.sm_members OFFSET 0) m
-        LEFT JOIN pg_get_replication_slots() r ON r.slot_name = m.stream AND r.datoid = (SELECT oid FROM pg_database WHERE datname = current_database())
-        WHERE r.confirmed_flush_lsn IS NULL OR r.confirmed_flush_lsn < $2)', in_shard) INTO served, lacking USING in_shard, until;
+      ARRAY(SELECT server FROM %I.sm_members)', in_shard) INTO served, members USING in_shard;
+    lacking := ARRAY(SELECT stream FROM (SELECT sm.stream(in_shard, server) AS stream FROM unnest(members) server OFFSET 0) m
+      WHERE stream <> ALL (have));
     IF NOT served OR (lacking = '{}' AND sm.has_copies(in_shard, until)) THEN RETURN served; END IF;
     LOOP
       IF clock_timestamp() > ends THEN RETURN false; END IF;
       steps := steps + 1;
       PERFORM pg_sleep(CASE WHEN steps < 40 THEN 0.001 ELSE 0.01 END);
-      EXIT WHEN steps % 20 = 0 OR lacking <> '{}' AND NOT EXISTS (SELECT FROM sm.slots, pg_get_replication_slots()
+      EXIT WHEN steps % 10 = 0 OR steps > 40 OR lacking <> '{}' AND NOT EXISTS (
+        SELECT FROM sm.slots, pg_get_replication_slots()
         WHERE shard = in_shard AND cell IN (2, 4) AND slot_name = ANY (lacking) AND confirmed_flush_lsn < until);
     END LOOP;
   END LOOP;

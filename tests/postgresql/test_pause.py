@@ -1,0 +1,81 @@
+"""What writes wait for in a handover, over several PostgreSQL servers, each a database: nobody waits for work that can be done before, beside or later."""
+import threading
+import time
+import unittest
+from concurrent.futures import ThreadPoolExecutor
+from unittest import mock
+
+from test_servers import Several, setUpModule, tearDownModule  # (one PostgreSQL for all)
+from smplan.agent import Cell, Slot
+from smplan_pg import copies, following, streams
+from smplan_pg.database import value
+from smplan_pg.records import Cut, Records
+
+
+class PauseTest(Several):
+    """Server a hands over to b, c follows."""
+
+    def setUp(self):
+        super().setUp()
+        self.a, self.b, self.c = (self.its[it] for it in "abc")
+        self.addCleanup(self.tidy)
+
+    def tidy(self):
+        for it in self.its.values():
+            with it.database.connection() as c:
+                mine = streams.name_of(c, self.shard, it.number)
+            streams.halt(it.database, mine, 30.0)
+            with it.database.transaction() as tx:
+                streams.drop_subscription(tx, mine)
+        for it in self.its.values():
+            streams.drop_streams(it.database, self.shard)
+            it.database.do("DELETE FROM sm.slots")
+
+    def handed(self):
+        """Behind the cut: it has come to all, and b has not sealed yet."""
+        self.cut = Cut(handover=7, position=5, party=2, sequences={})
+        for name, slot in (("a", Slot(cell=Cell.FORWARDING, party=2, handover=7, cut=5, has_cut=1)), ("b", Slot(cell=Cell.PREPARED, party=1, handover=7)),
+                           ("c", Slot(cell=Cell.SECONDARY))):
+            self.put(name, slot.cell, 5)
+            with self.its[name].database.transaction() as tx:
+                it = Records(tx)
+                it.put_slot(self.shard, slot)
+                it.put_cut(self.shard, self.cut)
+        with self.b.database.transaction() as tx:
+            Records(tx).put_members(self.shard, {2: False, 3: False})
+        with self.c.database.transaction() as tx:
+            Records(tx).put_source(self.shard, 1, True)
+
+    def subscription(self):
+        """Where c's stream comes from, and whether it has begun."""
+        row = self.c.database.row("SELECT subconninfo, subenabled FROM pg_subscription WHERE subname = sm.stream(%s, 3)", self.shard)
+        return row and ("_b" in row["subconninfo"], row["subenabled"])
+
+    def source(self):
+        return value(self.c.database.row("SELECT source FROM sm.slots WHERE shard = %s", self.shard))
+
+    def until(self, what, condition, seconds=60.0):
+        until = time.monotonic() + seconds
+        while not condition():
+            self.assertLess(time.monotonic(), until, what)
+            time.sleep(0.01)
+
+    def test_a_member_that_leaves_is_waited_for_no_more(self):
+        self.put("b", Cell.PRIMARY, 5)
+        streams.make_stream(self.b.database, self.shard, 3, 60.0)
+        with self.b.database.transaction() as tx:
+            it = Records(tx)
+            it.put_members(self.shard, {3: True})
+            it.count(self.shard)
+        with ThreadPoolExecutor() as pool:
+            told = pool.submit(self.b.database.row, "SELECT sm.acknowledged(%s, '60 s')", self.shard)
+            time.sleep(0.5)  # (by then it looks seldom)
+            self.assertFalse(told.done())
+            self.b.database.row("SELECT sm.left(%s, 3)", self.shard)
+            begun = time.monotonic()
+            self.assertTrue(value(told.result(60)))
+        self.assertLess(time.monotonic() - begun, 0.1)
+
+
+if __name__ == "__main__":
+    unittest.main()
