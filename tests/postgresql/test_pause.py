@@ -60,6 +60,32 @@ class PauseTest(Several):
             self.assertLess(time.monotonic(), until, what)
             time.sleep(0.01)
 
+    def test_who_is_woken_amid_a_look_looks_again(self):
+        looks, first, goes_on = [], threading.Event(), threading.Event()
+
+        def look(shard):
+            looks.append(shard)
+            first.set()
+            goes_on.wait(60)
+
+        with mock.patch.object(self.c.following, "look", look):
+            self.c.following.wake("it")
+            self.assertTrue(first.wait(60))
+            self.c.following.look_beside("it")
+            self.assertEqual(self.c.following.busy, {"it": False})
+            self.c.following.wake("it")
+            self.c.following.wake("it")
+            goes_on.set()
+            self.until("it has looked", lambda: not self.c.following.busy)
+        self.assertEqual(looks, ["it", "it"])
+
+    def test_streams_that_were_just_made_are_not_moved(self):
+        with mock.patch.object(streams, "advance") as advance:
+            for handover, seconds, times in ((7, 5.0, 0), (7, 5.0, 0), (7, 0.0, 1), (8, 0.0, 1), (8, 0.0, 2)):
+                with mock.patch.object(following, "ADVANCING", seconds):
+                    self.b.following.advance(self.shard, handover)
+                self.assertEqual(advance.call_count, times)
+
     def test_a_member_that_leaves_is_waited_for_no_more(self):
         self.put("b", Cell.PRIMARY, 5)
         streams.make_stream(self.b.database, self.shard, 3, 60.0)

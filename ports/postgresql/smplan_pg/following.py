@@ -5,7 +5,7 @@ import select
 import time
 from contextlib import suppress
 from dataclasses import dataclass
-from typing import TYPE_CHECKING, Any, Dict, Optional
+from typing import TYPE_CHECKING, Any, Dict, Optional, Tuple
 
 import psycopg
 from smplan.agent import Base, Cell, Slot
@@ -30,6 +30,9 @@ HASTE = 1.0
 
 # How often it is looked whether a source still serves, in seconds. (A cut tells itself.)
 AT_REST = 3.0
+
+# How often streams that nobody reads yet are moved up to now, in seconds.
+ADVANCING = 5.0
 
 
 # What a follower has, and how often what came to it could not be applied.
@@ -66,17 +69,18 @@ class Following:
     def __init__(self, server: "Server") -> None:
         self.server = server
         self.next_look: Dict[str, float] = {}
-        self.busy: Dict[str, bool] = {}
+        self.busy: Dict[str, bool] = {}  # (the shards that are looked at, and whether once more behind it)
         self.unserved: Dict[str, float] = {}
         self.applied: Dict[str, Applied] = {}
         self.refused: Dict[str, int] = {}
+        self.advanced: Dict[str, Tuple[int, float]] = {}
 
     # -- when to look
 
     def wake(self, shard: str) -> None:
         """Looks at a shard at once."""
         self.next_look.pop(shard, None)
-        self.look_beside(shard)
+        self.look_beside(shard, True)
 
     def watch(self) -> None:
         """Looks at each shard that follows, in turn; at those in a handover more often."""
@@ -100,13 +104,25 @@ class Following:
                 while (it := c.pgconn.notifies()) is not None:
                     self.wake(it.extra.decode())
 
-    def look_beside(self, shard: str) -> None:
-        """Looks at a shard in a thread of its own, unless one does already."""
+    def look_beside(self, shard: str, again: bool = False) -> None:
+        """Looks at a shard in a thread of its own. If one does already, it looks once more if there is something new:
+        it may have seen what was before."""
         with self.server.lock:
-            if self.busy.get(shard):
+            if shard in self.busy:
+                self.busy[shard] |= again
                 return
-            self.busy[shard] = True
-        self.server.beside.submit(self.look_once, shard)
+            self.busy[shard] = False
+        self.server.beside.submit(self.look_until_still, shard)
+
+    def look_until_still(self, shard: str) -> None:
+        """Looks at a shard, again and again if somebody asks for it meanwhile."""
+        while True:
+            self.look_once(shard)
+            with self.server.lock:
+                if not self.busy[shard]:
+                    del self.busy[shard]
+                    return
+                self.busy[shard] = False
 
     def look_once(self, shard: str) -> None:
         """Looks at a shard, if nobody changes its streams."""
@@ -122,8 +138,6 @@ class Following:
             self.tell(shard, str(why).strip())
         except Exception as why:  # pylint: disable=broad-exception-caught  (the next look comes)
             self.server.say("look at", shard, type(why).__name__, why)
-        finally:
-            self.busy[shard] = False
 
     def tell(self, shard: str, words: str) -> None:
         """Notes why a look came to nothing; tells it once."""
@@ -187,10 +201,20 @@ class Following:
         if told.cut is not None and (told.cut.handover, told.cut.party) == (told.slot.handover, self.server.number):
             return self.seal(shard, told.cut)
         self.make_streams(shard)
-        streams.advance(self.server.database, shard)
+        self.advance(shard, told.slot.handover)
         return None
 
     def make_streams(self, shard: str) -> None:
+    def advance(self, shard: str, handover: int) -> None:
+        """Moves its streams up to now from time to time. (They read all the log for that, and a cut that comes
+        meanwhile waits: so not as they are made.)"""
+        number, since = self.advanced.get(shard, (0, 0.0))
+        if number != handover:
+            self.advanced[shard] = (handover, time.monotonic())
+        elif time.monotonic() > since + ADVANCING:
+            streams.advance(self.server.database, shard)
+            self.advanced[shard] = (handover, time.monotonic())
+
         """Makes streams for all who count, also who began to since it was prepared. It waits shortly for transactions that are open here, since a cut may come."""
         with self.server.database.transaction() as tx:
             present = streams.streams_of(tx, shard)
