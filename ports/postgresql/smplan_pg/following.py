@@ -152,9 +152,10 @@ class Following:
         """What the server has of a shard."""
         with self.server.database.transaction() as tx:
             it = Records(tx)
-            base = it.base()
-            return State(base, it.slot(shard, base), it.source(shard), it.is_whole(shard), self.server.copies.is_copying(tx, shard), it.cut(shard),
-                         it.settled(), it.copies())
+            base, settled, copies = it.state()
+            slot, source, is_whole = it.entry(shard, base)
+            is_leftover = self.server.copies.is_copying(tx, shard)
+            return State(base, slot, source, is_whole, is_leftover, it.cut(shard), settled, copies)
 
     def look(self, shard: str) -> None:
         """Does what a shard needs now."""

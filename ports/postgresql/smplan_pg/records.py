@@ -50,9 +50,15 @@ class Records:
 
     def base(self, lock: str = "") -> Base:
         """The base. Who changes it, or slots, takes it FOR UPDATE first; who works on one shard alone FOR SHARE."""
+        return self.state(lock)[0]
+
+    def state(self, lock: str = "") -> Tuple[Base, int, int]:
+        """The base, the last reopening at which it was settled, and how many replicas have each write that it
+        acknowledges."""
         row = self.tx.execute(f"SELECT * FROM sm.state {lock}").fetchone()
         assert row is not None
-        return Base(unsigned(row["journal"]), row["number"], unsigned(row["nonce"]), row["known"], row["fenced"])
+        base = Base(unsigned(row["journal"]), row["number"], unsigned(row["nonce"]), row["known"], row["fenced"])
+        return base, row["settled"], row["copies"]
 
     def heard(self) -> int:
         """The number of the last reopening of its journal that it has heard of."""
@@ -93,10 +99,14 @@ class Records:
 
     def slot(self, shard: str, base: Optional[Base] = None) -> Slot:
         """The slot of a shard."""
+        return self.entry(shard, base)[0]
+
+    def entry(self, shard: str, base: Optional[Base] = None) -> Tuple[Slot, Optional[int], bool]:
+        """The slot of a shard, whom it is followed from, and whether the copy is whole."""
         row = self.tx.execute("SELECT * FROM sm.slots WHERE shard = %s", (shard,)).fetchone()
         if row is not None:
-            return Slot(**{name: row[name] for name in SLOT})
-        return VACANT if (base or self.base()).known else Slot()
+            return Slot(**{name: row[name] for name in SLOT}), row["source"], row["is_whole"]
+        return (VACANT if (base or self.base()).known else Slot()), None, False
 
     def put_slot(self, shard: str, slot: Slot) -> None:
         """Stores a slot."""

@@ -4,7 +4,7 @@ from __future__ import annotations
 
 import time
 from contextlib import contextmanager
-from typing import Iterable, Iterator, List, Optional
+from typing import Dict, Iterable, Iterator, List, Optional, Tuple
 
 import psycopg
 from psycopg import sql
@@ -25,9 +25,15 @@ class Stuck(Exception):
     """Something can't be done now; it is tried again."""
 
 
+# Names that were asked for, by shard and follower.
+NAMES: Dict[Tuple[str, Optional[int]], str] = {}
+
+
 def name_of(tx: Connection, shard: str, server: Optional[int] = None) -> str:
     """The name of a publication, or with a follower's number of a stream."""
-    return value(tx.execute("SELECT sm.stream(%s, %s)", (shard, server)).fetchone())
+    if (shard, server) not in NAMES:
+        NAMES[shard, server] = value(tx.execute("SELECT sm.stream(%s, %s)", (shard, server)).fetchone())
+    return NAMES[shard, server]
 
 
 def said(text: str, *names: str, **literals: str) -> sql.Composed:
