@@ -60,6 +60,37 @@ class PauseTest(Several):
             self.assertLess(time.monotonic(), until, what)
             time.sleep(0.01)
 
+    def test_a_follower_gets_ready_while_the_new_owner_seals(self):
+        self.handed()
+        with ThreadPoolExecutor() as pool:
+            told = pool.submit(self.c.following.go_over, self.shard, 2, 60.0)
+            self.until("it is ready", lambda: self.subscription() == (True, False))
+            self.assertEqual((told.done(), self.source()), (False, None))
+            self.b.following.seal(self.shard, self.cut)
+            self.assertTrue(told.result(60))
+        self.assertEqual((self.subscription(), self.source()), ((True, True), 2))
+        with self.b.database.transaction() as tx:
+            Records(tx).count(self.shard)
+            tx.execute(f"INSERT INTO {self.shard}.things (word) VALUES ('new')")
+        self.until("the new owner's write is there", lambda: self.c.database.rows(f"SELECT word FROM {self.shard}.things") == [{"word": "new"}])
+        place = "SELECT sm.view(%s) AS view, sm.position(%s) AS position"
+        self.assertEqual(*(it.database.row(place, self.shard, self.shard) for it in (self.b, self.c)))
+
+    def test_a_follower_stays_where_nobody_takes_over(self):
+        self.handed()
+        self.b.database.do("UPDATE sm.slots SET cell = 1 WHERE shard = %s", self.shard)
+        self.assertFalse(self.c.following.go_over(self.shard, 2, 0.2))
+        self.assertEqual((self.subscription(), self.source()), (None, 1))
+        with mock.patch.object(self.c.sources, "offer", side_effect=OSError("it is gone")):
+            self.assertFalse(self.c.following.go_over(self.shard, 2, 60.0))
+
+    def test_a_follower_with_other_writes_does_not_begin(self):
+        self.handed()
+        self.write("c", 4)
+        self.b.following.seal(self.shard, self.cut)
+        self.assertFalse(self.c.following.go_over(self.shard, 2, 0.2))
+        self.assertEqual((self.subscription(), self.source()), (None, 1))
+
     def test_who_is_woken_amid_a_look_looks_again(self):
         looks, first, goes_on = [], threading.Event(), threading.Event()
 

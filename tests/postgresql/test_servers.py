@@ -443,7 +443,7 @@ class StreamTest(Case):
             with self.assertRaises(psycopg.errors.QueryCanceled), DATABASE.connection() as c:
                 streams.follow(c, "sm_mute", "p", far)
             with self.assertRaises(psycopg.errors.QueryCanceled):
-                streams.follow_behind(DATABASE, "sm_mute", "p", far, "0/1")
+                streams.subscribe(DATABASE, "sm_mute", "p", far)
         self.assertEqual(POST.query("SELECT subname FROM pg_subscription"), [])
 
     def test_a_copy_tells_its_source_that_it_goes_on_while_the_schema_is_made(self):

@@ -42,13 +42,7 @@ def identities():
 def no_place():
     """A follower joins a new owner without the place at which its own writes begin."""
     from smplan_pg import streams
-
-    def follow_behind(database, name, publication, reach, _):
-        with database.transaction() as tx:
-            streams.drop_subscription(tx, name)
-            tx.execute(streams.said("CREATE SUBSCRIPTION {} CONNECTION {reach} PUBLICATION {} WITH (slot_name = {name}, create_slot = false, "
-                                    "copy_data = false, enabled = false, synchronous_commit = 'local')", name, publication, reach=reach, name=name))
-    streams.follow_behind = follow_behind
+    streams.begin_behind = lambda tx, name, _: streams.enable(tx, name)
 
 
 def no_followers():

@@ -11,7 +11,7 @@ import psycopg
 from smplan.agent import Base, Cell, Slot
 
 from . import streams
-from .copies import GivenUp, remove
+from .copies import GivenUp, begun, remove
 from .database import value
 from .records import Cut, Mark, Records
 from .sources import is_of, serves
@@ -205,7 +205,6 @@ class Following:
         self.advance(shard, told.slot.handover)
         return None
 
-    def make_streams(self, shard: str) -> None:
     def advance(self, shard: str, handover: int) -> None:
         """Moves its streams up to now from time to time. (They read all the log for that, and a cut that comes
         meanwhile waits: so not as they are made.)"""
@@ -216,6 +215,7 @@ class Following:
             streams.advance(self.server.database, shard)
             self.advanced[shard] = (handover, time.monotonic())
 
+    def make_streams(self, shard: str) -> None:
         """Makes streams for all who count, also who began to since it was prepared. It waits shortly for transactions that are open here, since a cut may come."""
         with self.server.database.transaction() as tx:
             present = streams.streams_of(tx, shard)
@@ -224,13 +224,14 @@ class Following:
 
     def seal(self, shard: str, cut: Cut) -> None:
         """The new owner has all writes. It takes nothing more from the old one, begins the streams of its followers here, and then may execute."""
-        database, begun = self.server.database, time.monotonic()
+        database, begins = self.server.database, time.monotonic()
+        made = begun(self.make_streams, shard)
         with database.connection() as c:
             mine = streams.name_of(c, shard, self.server.number)
         streams.halt(database, mine)
         halted = time.monotonic()
-        with suppress(psycopg.Error):
-            self.make_streams(shard)
+        with suppress(psycopg.Error):  # (who has no stream copies anew)
+            made.result()
         with database.transaction() as tx:
             it = Records(tx)
             base = it.base("FOR SHARE")
@@ -242,7 +243,6 @@ class Following:
             mark = it.mark(shard)
             streams.publish(tx, shard, streams.ALL)  # (first: what a transaction has written before is not told)
             it.put_begun(shard, mark)
-            streams.drop_subscription(tx, mine)
             tx.execute(it.own("SELECT sm.set_sequences(%s, sequences) FROM {}.sm_cut", shard), (shard,))
             members = {number: False for number in it.members(shard) if number != self.server.number}
             it.put_members(shard, {**members, slot.party: True})
@@ -250,7 +250,8 @@ class Following:
             it.put_seal(shard, row["place"], mark)
             it.put_source(shard, None, True)
             it.count(shard)
-        self.server.say("sealed", shard, f"halt {halted - begun:.3f} store {time.monotonic() - halted:.3f}")
+            streams.drop_subscription(tx, mine)  # (last: until it is committed no other stream begins here)
+        self.server.say("sealed", shard, f"halt {halted - begins:.3f} store {time.monotonic() - halted:.3f}")
 
     # -- everybody else
 
@@ -282,14 +283,25 @@ class Following:
         return told.is_whole and told.cut is None and told.source not in (None, primary) and now - since < CUT_COMES
 
     def go_over(self, shard: str, owner: int, seconds: float = 3.0) -> bool:
-        """Follows the new owner as soon as it has sealed. Whether it does."""
-        until = time.monotonic() + seconds
+        """Follows the new owner as soon as it has sealed. Whether it does. Behind the cut nothing comes from the old
+        one: so the subscription is made anew while the new owner seals."""
+        until, is_ready = time.monotonic() + seconds, False
         while time.monotonic() < until:
-            if self.join(shard, owner):
+            try:
+                it = self.server.sources.offer(owner, shard)
+            except (Stuck, OSError, psycopg.Error):
+                return False  # (it may be gone, and another one the primary)
+            if it["cell"] not in (Cell.PREPARED, Cell.PRIMARY):
+                return False
+            if not is_ready and (self.may_join(shard, it) if serves(it) else it["cell"] == Cell.PREPARED):
+                self.get_ready(shard, owner)
+                is_ready = True
+            if is_ready and self.begin(shard, owner, it):
                 return True
             time.sleep(0.004)
-            told = self.state(shard)
-            if told.slot.at_work or told.slot.cell not in (Cell.SECONDARY, Cell.FORWARDING) or self.server.live(shard).worker:
+            told = self.server.database.row("SELECT FROM sm.slots WHERE shard = %s AND at_work = 0 AND cell IN (%s, %s)",
+                                            shard, int(Cell.SECONDARY), int(Cell.FORWARDING))
+            if told is None or self.server.live(shard).worker:
                 return False
         return False
 
@@ -348,26 +360,46 @@ class Following:
 
     def join(self, shard: str, owner: int) -> bool:
         """Follows another server from the place on where its own writes began, if the copy here is the same as its was there. Whether it does."""
-        it = self.server.sources.offer(owner, shard)
-        if not serves(it) or not it["is_joinable"] or self.server.sources.mark_at(self.server.number, shard) != Mark(it["view"], it["position"]):
+        if not self.may_join(shard, self.server.sources.offer(owner, shard)):
             return False
+        with self.server.database.connection() as c:
+            mine = streams.name_of(c, shard, self.server.number)
+        streams.halt(self.server.database, mine)
+        it = self.server.sources.offer(owner, shard)
+        if not self.may_join(shard, it):
+            return False
+        self.get_ready(shard, owner)
+        return self.begin(shard, owner, it)
+
+    def may_join(self, shard: str, offer: Dict[str, Any]) -> bool:
+        """Whether who offers serves, and this server may go on from where its writes began."""
+        if not serves(offer) or not offer["is_joinable"]:
+            return False
+        return self.server.sources.mark_at(self.server.number, shard) == mark_of(offer)
+
+    def get_ready(self, shard: str, owner: int) -> None:
+        """Follows nobody any more, and has a subscription that follows another server once it begins."""
         database = self.server.database
         with database.connection() as c:
             mine, publication = streams.name_of(c, shard, self.server.number), streams.name_of(c, shard)
         streams.halt(database, mine)
-        it = self.server.sources.offer(owner, shard)
-        if not serves(it) or not it["is_joinable"]:
+        with database.transaction() as tx:
+            tx.execute("SET LOCAL synchronous_commit = off")  # (what follows is durable, and this before it)
+            Records(tx).put_source(shard, None, True)
+            streams.drop_subscription(tx, mine)
+        streams.subscribe(database, mine, publication, self.server.peers[owner].reach or "")
+
+    def begin(self, shard: str, owner: int, offer: Dict[str, Any]) -> bool:
+        """Lets the subscription that is ready begin from the place on where its source's own writes began. Whether it
+        does."""
+        if not serves(offer) or not offer["is_joinable"]:
             return False
-        with database.transaction() as tx:
-            slot = Records(tx).slot(shard)
-            if slot.cell not in (Cell.SECONDARY, Cell.FORWARDING) or Records(tx).mark(shard) != Mark(it["view"], it["position"]):
-                return False
-        streams.follow_behind(database, mine, publication, self.server.peers[owner].reach or "", it["place"])
-        with database.transaction() as tx:
+        with self.server.database.transaction() as tx:
             records = Records(tx)
-            if records.slot(shard).cell not in (Cell.SECONDARY, Cell.FORWARDING):
+            follows = records.slot(shard).cell in (Cell.SECONDARY, Cell.FORWARDING)
+            if not follows or records.mark(shard) != mark_of(offer):
                 return False
-            streams.enable(tx, mine)
+            streams.begin_behind(tx, streams.name_of(tx, shard, self.server.number), offer["place"])
             records.put_source(shard, owner, True)
         self.server.say("follows", self.server.names[owner], "for", shard)
         self.server.sources.join(shard, owner)
@@ -396,3 +428,8 @@ class Following:
             it.put_source(shard, source, True)
         if told.slot.cell == Cell.SECONDARY:
             self.server.sources.join(shard, source)
+
+
+def mark_of(offer: Dict[str, Any]) -> Mark:
+    """What the copy of who offers was as its own writes began."""
+    return Mark(offer["view"], offer["position"])

@@ -235,6 +235,8 @@ class Orders:
                 self.wait_for_followers(shard)
             leave.get(words)
             streams.halt(self.server.database, mine)
+        elif order.call == Call.ADD and slot.cell == Cell.PREPARED and not slot.has_cut:
+            raise Stuck("the cut is not reached")  # (at once: who seals waits for the hands)
         elif order.call == Call.ADD and slot.cell == Cell.ABSENT and others:
             raise Stuck(f"others have {shard}: {line['replicas']}")
         elif is_demotion(order):

@@ -61,7 +61,9 @@ def halt(database: Database, name: str, seconds: float = 3.0) -> None:
     with database.connection() as c:
         if not has_subscription(c, name):
             return
-        c.execute(said("ALTER SUBSCRIPTION {} DISABLE", name))
+        with c.transaction():
+            c.execute("SET LOCAL synchronous_commit = off")  # (what is done behind it is durable, and this before that)
+            c.execute(said("ALTER SUBSCRIPTION {} DISABLE", name))
         until = time.monotonic() + seconds
         at_work = "SELECT pid FROM pg_stat_subscription WHERE subname = %s AND pid IS NOT NULL"
         while rows := c.execute(at_work, (name,)).fetchall():
@@ -105,14 +107,22 @@ def follow(c: Connection, name: str, publication: str, reach: str) -> None:
         c.execute(said("CREATE SUBSCRIPTION {} CONNECTION {reach} PUBLICATION {} WITH (" + STREAM + ")", name, publication, reach=reach, name=name))
 
 
-def follow_behind(database: Database, name: str, publication: str, reach: str, place: str) -> None:
-    """Makes a subscription that copies nothing, and begins behind a place of the source's log. It is not enabled yet.
-    (Its place is stored here: what pg_replication_slot_advance says at the source is forgotten by a crash.)"""
+def subscribe(database: Database, name: str, publication: str, reach: str) -> None:
+    """Makes a subscription that copies nothing, by a stream that is there already. It is not enabled yet. (One of before
+    is dropped in another transaction: that locks the subscriptions of all databases, so that no stream begins, and a
+    source may take long to answer.)"""
     with database.connection() as c, asking(c) as tx:
-        drop_subscription(tx, name)
         tx.execute(said("CREATE SUBSCRIPTION {} CONNECTION {reach} PUBLICATION {} WITH (" + STREAM + ", copy_data = false, enabled = false)",
                         name, publication, reach=reach, name=name))
-    database.do("SELECT pg_replication_origin_advance('pg_' || (SELECT oid FROM pg_subscription WHERE subname = %s), %s::pg_lsn)", name, place)
+
+
+def begin_behind(tx: Connection, name: str, place: str) -> None:
+    """Lets such a subscription begin behind a place of its source's log. (The place is stored here: what
+    pg_replication_slot_advance says at the source is forgotten by a crash. And it is there before the subscription is
+    enabled, whether the transaction is committed or not.)"""
+    origin = "'pg_' || (SELECT oid FROM pg_subscription WHERE subname = %s)"
+    tx.execute(f"SELECT pg_replication_origin_advance({origin}, %s::pg_lsn)", (name, place))
+    enable(tx, name)
 
 
 def enable(tx: Connection, name: str) -> None:
