@@ -133,6 +133,20 @@ class PauseTest(Several):
             self.assertTrue(value(told.result(60)))
         self.assertLess(time.monotonic() - begun, 0.1)
 
+    def test_a_copy_that_somebody_reads_is_dropped_at_once(self):
+        for name, cell in (("a", Cell.PRIMARY), ("b", Cell.SECONDARY)):
+            self.put(name, cell, 5)
+        schema = "SELECT to_regnamespace(%s) IS NOT NULL"
+        with self.b.database.connection() as reader:
+            with reader.transaction():
+                reader.execute(f"SELECT FROM {self.shard}.things")
+                self.assertEqual(self.order("b", "drop", "ab", primary="a"), {"done": True})
+                aside = self.b.database.rows("SELECT schema, why FROM sm.asides WHERE shard = %s", self.shard)
+                self.assertEqual((self.has("b"), [it["why"] for it in aside]), (False, [copies.DELETED]))
+            self.assertTrue(value(self.b.database.row(schema, aside[0]["schema"])))
+        self.b.keeping.tidy()
+        self.assertFalse(value(self.b.database.row(schema, aside[0]["schema"])))
+
 
 if __name__ == "__main__":
     unittest.main()

@@ -641,7 +641,8 @@ class WholeTest(Case):
             self.fence(100)
             self.settle(100, None, {"shard": self.shard, "cell": "absent", "load": 1})
             self.assertEqual((self.has(), self.slot()), (False, [(1,)]))
-            self.assertEqual(POST.query("SELECT why FROM sm.asides WHERE shard = %s", (self.shard,)), [("a reopening has left it to other servers",)] * is_whole)
+            why = "a reopening has left it to other servers" if is_whole else copies.DELETED
+            self.assertEqual(POST.query("SELECT why FROM sm.asides WHERE shard = %s", (self.shard,)), [(why,)])
         status.drop(DATABASE, [], True, False)
 
     def test_an_old_owner_counts_no_more_once_the_new_one_is_settled(self):

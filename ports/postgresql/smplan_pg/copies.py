@@ -26,6 +26,9 @@ Still = Callable[[], bool]
 REPLACED = "a whole copy has taken its place"
 LACKING = "a whole copy has taken its place, and lacks writes of this one"
 
+# Why data is set aside that nobody needs any more: it is deleted by itself.
+DELETED = "nobody needs it"
+
 # How often a copy tells its source that it goes on, in seconds.
 TELLING = 1.0
 
@@ -245,12 +248,17 @@ def keep(tx: Connection, shard: str, number: int) -> str:
 
 
 def delete(tx: Connection, shard: str, number: int) -> None:
-    """Deletes a shard's data, publication and subscription. What the copying of tables has left at the source is dropped later."""
+    """Deletes a shard's data, publication and subscription. The schema gets another name, and is dropped soon: that may
+    wait for who reads it, or gathers its statistics, and no stream would begin at this server meanwhile. What the
+    copying of tables has left at the source is dropped later, too."""
     tx.execute("INSERT INTO sm.left_behind SELECT source, format('pg_%%s_sync_', s.oid) FROM sm.copying, pg_subscription s WHERE shard = %s AND subname = sm.stream(%s, %s) "
                "ON CONFLICT DO NOTHING", (shard, shard, number))
-    streams.drop_subscription(tx, streams.name_of(tx, shard, number))
-    tx.execute(said("DROP PUBLICATION IF EXISTS {}", streams.name_of(tx, shard)))
-    tx.execute(said("DROP SCHEMA IF EXISTS {} CASCADE", shard))
+    if has_schema(tx, shard):
+        kept = keep(tx, shard, number)
+        tx.execute("INSERT INTO sm.asides (schema, shard, why) VALUES (%s, %s, %s)", (kept, shard, DELETED))
+    else:
+        streams.drop_subscription(tx, streams.name_of(tx, shard, number))
+        tx.execute(said("DROP PUBLICATION IF EXISTS {}", streams.name_of(tx, shard)))
 
 
 def remove(tx: Connection, shard: str, number: int) -> None:

@@ -10,7 +10,7 @@ import psycopg
 from smplan.agent import Base, Cell
 
 from . import streams
-from .copies import REPLACED
+from .copies import DELETED, REPLACED
 from .database import Row, value
 from .records import Records
 from .sources import is_of
@@ -117,11 +117,12 @@ class Keeping:
             pass  # (it comes again)
 
     def tidy(self) -> None:
-        """Forgets identities that are old enough, guards tables that have come to a shard, and deletes copies that were replaced by what has all of them."""
+        """Forgets identities that are old enough, guards tables that have come to a shard, and deletes copies that
+        nobody needs, or that were replaced by what has all of them."""
         for shard in self.served():
             self.server.database.row("SELECT sm.forget_requests(%s, make_interval(secs => %s))", shard, self.server.limits.keeping)
             self.server.database.row("SELECT sm.guard_tables(%s)", shard)
-        for row in self.server.database.rows("SELECT schema FROM sm.asides WHERE why = %s", REPLACED):
+        for row in self.server.database.rows("SELECT schema FROM sm.asides WHERE why IN (%s, %s)", REPLACED, DELETED):
             with self.server.database.transaction() as tx:
                 tx.execute("SET LOCAL lock_timeout = '1s'")
                 tx.execute(said("DROP SCHEMA IF EXISTS {} CASCADE", row["schema"]))

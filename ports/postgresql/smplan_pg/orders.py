@@ -259,7 +259,6 @@ class Orders:
         elif order.call == Call.DROP and slot.cell == Cell.FORWARDING:  # (it counts until it commits: so it waits for nobody who reads its copy)
             set_aside(tx, shard, self.server.number, REPLACED)
         elif order.call == Call.DROP:
-            tx.execute("SET LOCAL lock_timeout = '2s'")
             remove(tx, shard, self.server.number)
         elif slot.cell == Cell.PREPARED:
             it.end_cut(shard)

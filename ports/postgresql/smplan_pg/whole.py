@@ -182,7 +182,6 @@ class Whole:
             elif it.is_whole(shard):
                 set_aside(tx, shard, self.server.number, "a reopening has left it to other servers")
             else:
-                tx.execute("SET LOCAL lock_timeout = '3s'")
                 remove(tx, shard, self.server.number)
         elif after.cell == Cell.PRIMARY and before.cell != Cell.PRIMARY:
             self.server.copies.put_back(tx, shard)
