@@ -133,6 +133,33 @@ class PauseTest(Several):
             self.assertTrue(value(told.result(60)))
         self.assertLess(time.monotonic() - begun, 0.1)
 
+    def test_an_old_owner_has_what_waits_for_it_before_it_leaves(self):
+        self.handed()
+        streams.make_stream(self.b.database, self.shard, 1, 60.0)
+        self.b.following.seal(self.shard, self.cut)
+        self.assertTrue(self.a.following.go_over(self.shard, 2, 60.0))
+        self.b.database.do("UPDATE sm.slots SET cell = 4 WHERE shard = %s", self.shard)
+        has = "SELECT confirmed_flush_lsn >= %s::pg_lsn AS it FROM pg_replication_slots WHERE slot_name = sm.stream(%s, 1)"
+        sound, places = streams.halt, []
+
+        def halt(*words):
+            places.append(value(self.b.database.row(has, place, self.shard)))
+            sound(*words)
+
+        with self.b.database.transaction() as tx:
+            Records(tx).count(self.shard)
+        place = value(self.b.database.row("SELECT pg_current_wal_flush_lsn()::text"))
+        with mock.patch.object(streams, "halt", halt):
+            self.assertEqual(self.order("a", "drop", "ab", primary="b"), {"done": True})
+        self.assertEqual((places, self.has("a")), ([True], False))
+
+    def test_an_old_owner_that_gets_nothing_leaves_all_the_same(self):
+        self.handed()
+        streams.make_stream(self.b.database, self.shard, 1, 60.0)  # (nobody reads it)
+        self.b.following.seal(self.shard, self.cut)
+        self.b.database.do("UPDATE sm.slots SET cell = 4 WHERE shard = %s", self.shard)
+        self.assertEqual(self.order("a", "drop", "ab", primary="b"), {"done": True})
+
     def test_a_copy_that_somebody_reads_is_dropped_at_once(self):
         for name, cell in (("a", Cell.PRIMARY), ("b", Cell.SECONDARY)):
             self.put(name, cell, 5)

@@ -240,7 +240,6 @@ def has_schema(tx: Connection, shard: str) -> bool:
 
 def keep(tx: Connection, shard: str, number: int) -> str:
     """Renames an old copy, which then stands beside the new one."""
-    streams.drop_subscription(tx, streams.name_of(tx, shard, number))
     tx.execute(said("DROP PUBLICATION IF EXISTS {}", streams.name_of(tx, shard)))
     kept = value(tx.execute("SELECT 'sm_aside_' || to_char(clock_timestamp(), 'YYYYMMDDHH24MISSUS_') || left(md5(%s), 8)", (shard,)).fetchone())
     tx.execute(said("ALTER SCHEMA {} RENAME TO {}", shard, kept))
@@ -264,6 +263,7 @@ def delete(tx: Connection, shard: str, number: int) -> None:
 def remove(tx: Connection, shard: str, number: int) -> None:
     """Deletes a shard's data, publication and subscription, and what stands beside its slot."""
     delete(tx, shard, number)
+    streams.drop_subscription(tx, streams.name_of(tx, shard, number))  # (last, as no stream begins here behind it)
     forget_copy(tx, shard)
 
 

@@ -234,7 +234,10 @@ class Orders:
             if slot.cell == Cell.FORWARDING:
                 self.wait_for_followers(shard)
             leave.get(words)
-            streams.halt(self.server.database, mine)
+            if slot.cell == Cell.FORWARDING and not leave.is_beside:
+                self.catch_up(shard, leave.givers[0])
+            else:
+                streams.halt(self.server.database, mine)
         elif order.call == Call.ADD and slot.cell == Cell.PREPARED and not slot.has_cut:
             raise Stuck("the cut is not reached")  # (at once: who seals waits for the hands)
         elif order.call == Call.ADD and slot.cell == Cell.ABSENT and others:
@@ -256,7 +259,10 @@ class Orders:
             it.put_cut(shard, Cut(after.handover if is_handover else order.number, it.mark(shard).position, after.party if is_handover else 0, {}))
             streams.publish(tx, shard, "")
             it.put_source(shard, None, True)
-        elif order.call == Call.DROP and slot.cell == Cell.FORWARDING:  # (it counts until it commits: so it waits for nobody who reads its copy)
+        elif order.call == Call.DROP and slot.cell == Cell.FORWARDING:
+            # (It counts until it commits, and writes wait for it: so it waits for nobody who reads its copy, and follows
+            # for as long as it can.)
+            streams.halt(self.server.database, streams.name_of(tx, shard, self.server.number))
             set_aside(tx, shard, self.server.number, REPLACED)
         elif order.call == Call.DROP:
             remove(tx, shard, self.server.number)
@@ -295,6 +301,16 @@ class Orders:
         if value(self.server.database.row(head, shard)) and now < first + seconds:
             raise Stuck("followers have not left yet")
         self.server.live(shard).first_try.pop(-1, None)
+
+    def catch_up(self, shard: str, primary: int, seconds: float = 0.3) -> None:
+        """Waits until an old owner has what the primary has now, but not for long: those writes wait for it, and would
+        until it has dropped its copy."""
+        there, until = self.server.peer(primary), time.monotonic() + seconds
+        place = value(there.row("SELECT pg_current_wal_flush_lsn()::text"))
+        lacks = ("SELECT FROM pg_replication_slots WHERE slot_name = sm.stream(%s, %s) AND database = current_database() "
+                 "AND confirmed_flush_lsn < %s::pg_lsn")
+        while there.row(lacks, shard, self.server.number, place) is not None and time.monotonic() < until:
+            time.sleep(0.003)
 
     def compare(self, shard: str, others: List[int]) -> None:
         """A secondary that becomes primary waits until it has what each other replica has, and for one whose copy is not whole, which may have lost it."""
