@@ -174,6 +174,25 @@ class PauseTest(Several):
         self.b.keeping.tidy()
         self.assertFalse(value(self.b.database.row(schema, aside[0]["schema"])))
 
+    def test_a_copy_waits_for_the_handover_behind_the_one_before(self):
+        self.put("a", Cell.FORWARDING, 5)
+        words = []
+        with mock.patch.object(copies, "ABOUT", 0.05), ThreadPoolExecutor() as pool:
+            self.a.database.do("DELETE FROM sm.copied")
+            self.a.database.do("INSERT INTO sm.copied VALUES ('x', 2), ('y', 2)")
+            told = pool.submit(self.c.copies.admit, self.a.database, "it", lambda: True, words.append, True)
+            self.until("it waits for other copies", lambda: "waits for other copies" in words)
+            self.a.database.do("DELETE FROM sm.copied")
+            self.until("it waits for the handover", lambda: "waits for a handover" in words)
+            time.sleep(0.5)
+            self.assertFalse(told.done())
+            self.a.database.do("UPDATE sm.slots SET cell = 1 WHERE shard = %s", self.shard)
+            told.result(60)
+            self.a.database.do("UPDATE sm.slots SET cell = 5 WHERE shard = %s", self.shard)
+            with mock.patch.object(copies, "PATIENCE", 0.2):
+                self.c.copies.wait_for_handovers(self.a.database, lambda: True, words.append)  # (not for ever)
+        self.a.database.do("DELETE FROM sm.copied")
+
 
 if __name__ == "__main__":
     unittest.main()

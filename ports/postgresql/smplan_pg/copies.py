@@ -32,6 +32,9 @@ DELETED = "nobody needs it"
 # How often a copy tells its source that it goes on, in seconds.
 TELLING = 1.0
 
+# How soon behind the end of its copy a shard is handed over, and for how long another copy waits for that, in seconds.
+ABOUT, PATIENCE = 0.3, 3.0
+
 
 class GivenUp(Exception):
     """Whoever wanted a copy wants it no more."""
@@ -108,13 +111,30 @@ class Copies:
         self.server.say("copied", shard, "from", self.server.names[number], f"in {time.monotonic() - since:.2f} s")
 
     def admit(self, there: Database, shard: str, still: Still, said_of: Callable[[str], None], waits: bool) -> None:
-        """Waits until its source makes few enough copies."""
+        """Waits until its source makes few enough copies; and behind another one, whose shard is about to be handed
+        over, until that is done: a copy would slow it down."""
+        is_behind = False
         while not value(there.row("SELECT sm.copy(%s, %s, %s)", shard, self.server.number, self.server.limits.at_once)):
             if not waits:
                 raise Stuck("waits for other copies")
             said_of("waits for other copies")
             check(still)
+            is_behind = True
             time.sleep(0.2)
+        if is_behind:
+            self.wait_for_handovers(there, still, said_of)
+
+    def wait_for_handovers(self, there: Database, still: Still, said_of: Callable[[str], None]) -> None:
+        """Waits until a source hands nothing over, nor is about to: not for long."""
+        until = time.monotonic() + PATIENCE
+        rest = ABOUT
+        while time.monotonic() < until:
+            said_of("waits for a handover")
+            time.sleep(rest)
+            check(still)
+            if not value(there.row("SELECT EXISTS (SELECT FROM sm.slots WHERE cell = %s)", int(Cell.FORWARDING))):
+                return
+            rest = 0.05
 
     @contextmanager
     def telling(self, there: Database, shard: str) -> Iterator[None]:
@@ -243,6 +263,7 @@ def keep(tx: Connection, shard: str, number: int) -> str:
     tx.execute(said("DROP PUBLICATION IF EXISTS {}", streams.name_of(tx, shard)))
     kept = value(tx.execute("SELECT 'sm_aside_' || to_char(clock_timestamp(), 'YYYYMMDDHH24MISSUS_') || left(md5(%s), 8)", (shard,)).fetchone())
     tx.execute(said("ALTER SCHEMA {} RENAME TO {}", shard, kept))
+    streams.drop_subscription(tx, streams.name_of(tx, shard, number))  # (last, as no stream begins here behind it)
     return kept
 
 
@@ -263,7 +284,6 @@ def delete(tx: Connection, shard: str, number: int) -> None:
 def remove(tx: Connection, shard: str, number: int) -> None:
     """Deletes a shard's data, publication and subscription, and what stands beside its slot."""
     delete(tx, shard, number)
-    streams.drop_subscription(tx, streams.name_of(tx, shard, number))  # (last, as no stream begins here behind it)
     forget_copy(tx, shard)
 
 
