@@ -124,7 +124,8 @@ def settings(shards: int, servers: int) -> str:
         "wal_level = logical", f"max_replication_slots = {most + 20}", f"max_wal_senders = {most + 20}",
         f"max_logical_replication_workers = {2 * shards + 8}", f"max_worker_processes = {2 * shards + 16}", "max_sync_workers_per_subscription = 4",
         "wal_retrieve_retry_interval = 20ms    # bounds how often the launcher starts a follower: a pause at each handover",
-        "logical_decoding_work_mem = 4MB       # copies that come to a server pass its streams in such pieces: what a write may wait for",
+        "logical_decoding_work_mem = 1MB       # copies that come to a server pass its streams in such pieces: "
+        "what a write may wait for",
         "wal_sender_timeout = 10s               # a server that is cut off counts no more then, and a few seconds later",
         "max_slot_wal_keep_size = 32GB         # a follower that was away for more than this copies anew"])
 
