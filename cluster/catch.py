@@ -103,7 +103,8 @@ async def first_violation(bug: str, seed: int, told: argparse.Namespace) -> str 
     settings = Settings(directory, shape, program_of(told.program), told.seconds, RATES_OF.get(recipe, ROUGH), parts, () if told.sound else (bug,),
                         WORKERS_OF.get(recipe, 3), MOVES_OF.get(recipe, 4), pause=told.pause, is_quiet=True, swaps=SWAPS_OF.get(recipe, 0.2),
                         is_busy=told.busy,
-                        ending=25.0, patience=40.0, lease=told.lease or LEASE_OF.get(bug, 0.0), store=told.store, is_slow=told.recipe)
+                        ending=75.0 if told.busy else 25.0, patience=120.0 if told.busy else 40.0,
+                        lease=told.lease or LEASE_OF.get(bug, 0.0), store=told.store, is_slow=told.recipe)
     try:
         result = await Run(settings).run()
         found = most_telling(result.verdict.faults)
