@@ -16,7 +16,7 @@ use Rattle.laws_network.proofs.FleetSafety.{executes_at_one_server}
 use Rattle.laws_data.specs.Shard.{Acknowledges, Changes, Chooses, Copies, Ends, Event, Executes, Follows, Goes, Hands, Hears, Joins, Leave, Loses, Lowers, MayHappen, MayHappenInTurn, Raises, Releases, Removes, Restarts, Shard, Stays, Succeeds, Takes, Tells, Word, all_left, left_by, with_heard}
 use Rattle.sm_placement.specs.Sums.{put}
 use Rattle.sm_placement.proofs.Sums.{put-apart, put-here}
-use Rattle.sm_copies.specs.Lists.{ListEntry}
+use Rattle.sm_copies.specs.Lists.{ListEntry, begins}
 use Rattle.sm_copies.proofs.Lists.{begins-length, begins-whole}
 use Rattle.laws_network.specs.FleetLaws.{AllFleetFit}
 use Rattle.laws_service_data.specs.Joined.{Joined, JoinedEvent, OfData, OfFleet, fleet_events, joined_comes, joined_run}
@@ -262,11 +262,18 @@ had_all_along led setup s u x (OfData event ∷ js) k fit kept along =
     (λ copy q. had_before led setup s u along.0 along.1 x (OfData event) k kept.0 along.2 along.3 (leads_first s u (joined_comes x (OfData event)) js along.4) copy (rest.0 copy q), rest.1)
 
 -- whoever has reached the cut may take over
-pub reached_cut_has_all : LeadsWhereLed → ReachedCutHasAll
-reached_cut_has_all led setup s u v x js list source copy r fit kept along at_cut there here begun long =
-    let h = had_all_along led setup s u x js (joint led setup s x r) fit kept along in
+pub reached_cut : LeadsWhereLed → (setup : Setup) (s u v : ℕ) (x : Joined) (js : List JoinedEvent) (list source copy : List ListEntry) → IsJoint setup s x → AllFleetFit setup x.fleet (fleet_events js) → KeepDuties s x js
+    → ForwardsAlong s u x js → x.shard.copies u ≡ Some list → (joined_run js x).shard.copies u ≡ Some source → (joined_run js x).shard.copies v ≡ Some copy → begins copy source ≡ true → length list ≤ length copy
+    → MayHappen (joined_run js x).shard (Hands v)
+reached_cut led setup s u v x js list source copy k fit kept along at_cut there here begun long =
+    let h = had_all_along led setup s u x js k fit kept along in
     let same : list ≡ source = (let z : Some list ≡ Some source = sym at_cut ∙ h.0 source there in cc) in
     let short : length copy ≤ length source = begins-length copy source begun in
     let reached : length source ≤ length copy = subst (λ (c : List ListEntry). length c ≤ length copy) same long in
     let whole : copy ≡ source = begins-whole copy source begun (omega arith) in
     (source, ap (joined_run js x).shard.copies h.1.0 ∙ there, here ∙ ap (λ (c : List ListEntry). let z : Option (List ListEntry) = Some c in z) whole, h.1.1)
+
+-- so it may wherever events lead
+pub reached_cut_has_all : LeadsWhereLed → ReachedCutHasAll
+reached_cut_has_all led setup s u v x js list source copy r fit kept along at_cut there here begun long =
+    reached_cut led setup s u v x js list source copy (joint led setup s x r) fit kept along at_cut there here begun long

@@ -10,5 +10,10 @@ mod Epochs
 mod Choosing
 mod Reopened
 mod InForce
+mod Fresh
+mod Told
+mod CutsTold
+mod TakingOver
 mod Plays
 mod ReopenedPlays
+mod CutPlays

@@ -11,7 +11,7 @@ use Rattle.laws_service_data.specs.Duties.{IsLeading, KeepDuties}
 use Rattle.laws_service_data.specs.Plays.{FIRST, FIRST_WRITE, HANDED, HandoverKeepsWrites, OLD_OWNER_GOES, RESTORED, RestartKeepsWrites, TAKEN_OVER, list_with}
 
 -- duties that are kept, and more behind them
-kept_append : (s : ℕ) (js ks : List JoinedEvent) (x : Joined) → KeepDuties s x js → KeepDuties s (joined_run js x) ks → KeepDuties s x (js ++ ks)
+pub kept_append : (s : ℕ) (js ks : List JoinedEvent) (x : Joined) → KeepDuties s x js → KeepDuties s (joined_run js x) ks → KeepDuties s x (js ++ ks)
 kept_append s [] ks x a b = b
 kept_append s (j ∷ js) ks x a b = (a.0, kept_append s js ks (joined_comes x j) a.1 b)
 
@@ -23,7 +23,7 @@ opens (suc (suc zero)) h = absurd (cc)
 opens (suc (suc (suc u))) h = absurd (cc)
 
 -- the write is executed, followed and acknowledged
-first_write : KeepDuties 0 FIRST FIRST_WRITE
+pub first_write : KeepDuties 0 FIRST FIRST_WRITE
 first_write = (
   (refl, (refl, omega arith)),
   (
@@ -70,7 +70,7 @@ first_write = (
 )
 
 -- once the write is there
-abbrev WRITTEN : Joined
+abbrev pub WRITTEN : Joined
 WRITTEN = joined_run FIRST_WRITE FIRST
 
 -- the new owner copies the shard, and the old one makes its cut

@@ -1,5 +1,5 @@
 -- Where a fleet opens on what was settled, whoever serves the shard leads its data.
-use Rattle.std.proofs.Common.{◌≡◌, ◌≢◌, ℕ, arith, inl, inr, refl, sym, ap, ◌∙◌, subst, true, false, List, [], ◌∷◌}
+use Rattle.std.proofs.Common.{◌≡◌, ℕ, arith, inl, inr, refl, sym, ap, ◌∙◌, subst, true, false, List, [], ◌∷◌}
 use Rattle.std.specs.List.{AllByRecursion}
 use Rattle.std.proofs.Math.Path.{fun_ext}
 use Rattle.std.proofs.lemmas.Bool.{cases_lt, false≢true}

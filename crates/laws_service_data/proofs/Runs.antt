@@ -33,7 +33,8 @@ fits_append : (setup : Setup) (es fs : List FleetEvent) (f : Fleet) → AllFleet
 fits_append setup [] fs f a b = b
 fits_append setup (e ∷ es) fs f a b = (a.0, fits_append setup es fs (fleet_comes f e).1 a.1 b)
 
-fleet_next : (setup : Setup) (f : Fleet) (e : FleetEvent) → IsFleetReached setup f → FleetFits setup f e → IsFleetReached setup (fleet_comes f e).1
+-- a fleet that events lead to, after one more
+pub fleet_next : (setup : Setup) (f : Fleet) (e : FleetEvent) → IsFleetReached setup f → FleetFits setup f e → IsFleetReached setup (fleet_comes f e).1
 fleet_next setup f e r fit = record {
   first = r.first;
   opening = r.opening;
@@ -68,10 +69,12 @@ pub record IsJoint (setup : Setup) (s : ℕ) (x : Joined) : Type 0 where
   pub shard : IsShardReached x.shard
   pub leads : EachLeads x.shard (held_cells x.fleet s)
 
-described : (setup : Setup) (s : ℕ) (f : Fleet) → IsFleetReached setup f → IsDescribed (held_cells f s)
+-- a lead describes what servers have of a shard
+pub described : (setup : Setup) (s : ℕ) (f : Fleet) → IsFleetReached setup f → IsDescribed (held_cells f s)
 described setup s f r = let k = fleet_shadow setup f r in net_described setup (shade_of f k).net (net_of f k) s
 
-one_serves : (setup : Setup) (s : ℕ) (f : Fleet) → IsFleetReached setup f → OneServes (held_cells f s)
+-- one server serves it at most
+pub one_serves : (setup : Setup) (s : ℕ) (f : Fleet) → IsFleetReached setup f → OneServes (held_cells f s)
 one_serves setup s f r x y a b = (fleet_is_safe setup f r).held.serving s x y a b
 
 -- the cell of a server that has its slots

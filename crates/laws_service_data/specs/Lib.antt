@@ -1,7 +1,9 @@
 pub mod Joined
 pub mod Duties
 pub mod Laws
+pub mod CutsTold
 pub mod Epochs
 pub mod Reopened
 pub mod Plays
 pub mod ReopenedPlays
+pub mod CutPlays

@@ -1,4 +1,5 @@
 //! The laws.
+ghost use Rattle.laws_service_data.specs.CutsTold.{CutIsToldAsMade, TakesOverWithAll};
 ghost use Rattle.laws_service_data.specs.Epochs.{ExecutesOverReopenings, OpensAnew};
 ghost use Rattle.laws_service_data.specs.Reopened.{ExecutesAsSettled, InForceIsSettled, SettledLeads};
 ghost use Rattle.laws_service_data.specs.Laws.{CutEndsWrites, ExecutesWithAll, JoinedOpens, ReachedCutHasAll, ServingLeads};
@@ -35,6 +36,19 @@ pub fn executes_over_reopenings()
 /// States that from the cut of an old owner on its list stays as it is, as long as it leads.
 pub fn cut_ends_writes()
     ensures { CutEndsWrites }
+{
+    leads_where_led();
+}
+
+/// States that no other cut than that is told under the handover's number, as long as the old owner forwards.
+pub fn cut_is_told_as_made()
+    ensures { CutIsToldAsMade }
+{}
+
+/// States that whoever takes over by its agent, at the end of a copy that is a beginning of what the old owner has, has
+/// all, and may take over, if positions are told as they are.
+pub fn takes_over_with_all()
+    ensures { TakesOverWithAll }
 {
     leads_where_led();
 }

@@ -1,4 +1,5 @@
 //! Worked plays, computed by the definitions.
+ghost use Rattle.laws_service_data.specs.CutPlays.{HandoverCutsAtEnd};
 ghost use Rattle.laws_service_data.specs.Plays.{HandoverKeepsWrites, RestartKeepsWrites};
 ghost use Rattle.laws_service_data.specs.ReopenedPlays.{FormerServesAgain, PrimaryServesOn, SecondaryIsChosen};
 
@@ -29,4 +30,9 @@ pub fn secondary_is_chosen()
 /// again, with all that was acknowledged.
 pub fn former_serves_again()
     ensures { FormerServesAgain }
+{}
+
+/// Shows that an old owner can make its cut at the end of its list, and the new one take over there.
+pub fn handover_cuts_at_end()
+    ensures { HandoverCutsAtEnd }
 {}
