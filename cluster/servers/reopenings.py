@@ -177,6 +177,7 @@ class Reopenings:
         shard.begin_to_lead()
         shard.is_marked = slot.cell == Cell.PRIMARY or (shard.is_marked and slot.cell != Cell.ABSENT)
         if slot.cell == before.cell == Cell.PRIMARY:
+            self.server.sources.count(shard)  # (who was settled first, and has connected since, has told already what it has)
             shard.wake()
             return
         self.server.end_term(shard, "the slots were set")

@@ -15,6 +15,7 @@ from test_losses import has, push
 from smplan.agent import Base, Cell, Slot, ViewStart
 
 from cluster.servers.copied import Copied
+from cluster.servers.reopenings import Reopenings
 from cluster.servers.shard import Shard
 from cluster.servers.sources import Sources, Stream
 from cluster.servers.work import Orders
@@ -184,6 +185,15 @@ class SourcesTest(unittest.TestCase):
         self.shard.left["b"] = 21
         self.sources.count_anew(self.shard)
         self.assertEqual([self.sources.may_acknowledge(self.shard, it) for it in (4, 5)], [True, False])
+
+    def test_who_was_settled_before_the_primary_counts_once_that_is(self):
+        for base, enough in ((12, 5), (9, -1)):
+            self.setUp()
+            self.follow(base=base)
+            server = self.sources.server
+            server.sources, server.store.opened = self.sources, 12
+            Reopenings(server).put(self.shard, Slot(cell=Cell.PRIMARY), self.shard.views)
+            self.assertEqual((self.shard.lead.noted, self.shard.lead.enough), (5, enough))
 
     def test_one_copy_needs_nobody(self):
         self.sources.server.cluster.copies = 1
