@@ -252,7 +252,7 @@ class Following:
         views = views_of(told["views"])
         commands += store.member_commands(shard.name, members) + store.mark_commands(shard.name, position, chain) + store.view_commands(shard.name, views)
         await store.save(commands, "copy", shard=shard.name, source=source, position=position, bytes=copying.bytes, meanwhile=len(copying.writes))
-        shard.position, shard.chain, shard.views, shard.members, shard.away = position, chain, views, members, {}
+        shard.position, shard.chain, shard.is_marked, shard.views, shard.members, shard.away = position, chain, True, views, members, {}
         self.copying, self.is_fresh = None, False
         shard.copy_came()
 
@@ -285,4 +285,4 @@ class Following:
         if views != shard.views:
             commands += store.view_commands(shard.name, views)
         await store.save(commands, "applied" if self.server.cluster.copies > 1 else None, shard=shard.name, position=position)
-        shard.position, shard.chain, shard.views = position, chain, views
+        shard.position, shard.chain, shard.is_marked, shard.views = position, chain, True, views

@@ -15,6 +15,7 @@ from test_losses import has, push
 from smplan.agent import Base, Cell, Slot, ViewStart
 
 from cluster.servers.copied import Copied
+from cluster.servers.following import Following
 from cluster.servers.reopenings import Reopenings
 from cluster.servers.shard import Shard
 from cluster.servers.sources import Sources, Stream
@@ -128,6 +129,18 @@ class OrdersTest(unittest.IsolatedAsyncioTestCase):
         told = {"call": "add", "shard": "s", "role": "secondary", "journal": "7", "fence": 9, "number": 12, "load": 1, "room": 9, "plan": 3, "stream": 0}
         async with shard.lock, asyncio.timeout(5):
             self.assertEqual(await it.take(told), {"answered": {"plan": 3, "stream": 0, "number": 12}})
+
+
+class FollowingTest(unittest.IsolatedAsyncioTestCase):
+    """What a server has that follows."""
+
+    async def test_who_follows_an_empty_list_has_a_copy(self):
+        store = SimpleNamespace(base=Base(), mark_commands=Mock(return_value=[]), trim_commands=Mock(return_value=[]), view_commands=Mock(return_value=[]), save=AsyncMock())
+        it, shard = object.__new__(Following), Shard("s", Slot(cell=Cell.SECONDARY))
+        it.server, it.store, it.shard = SimpleNamespace(cluster=SimpleNamespace(copies=2)), store, shard
+        self.assertFalse(shard.has_copy)
+        await it.apply([], (ViewStart(9, 0),))
+        self.assertEqual((shard.has_copy, shard.position, shard.views, store.save.await_count), (True, 0, (ViewStart(9, 0),), 1))
 
 
 class ClusterTest(unittest.TestCase):
