@@ -18,6 +18,7 @@ from urllib.parse import urlsplit
 
 from .access import is_loopback, read_certificate, read_token
 from .control import Controller, Line, Pace, Session, SessionEnded, StoreLost
+from .control_begins import emptied_by, servers_of
 from .control_document import Unknown, document_of_state
 from .control_drain import at_least
 from .control_fleet import FleetFile, HttpFleet
@@ -187,7 +188,7 @@ class Running:
         """What is served."""
         assert self.controller is not None
         routes = routes_of(self.controller)
-        return {**routes, "POST /do": self.logged(self.over_known_servers(routes["POST /do"])), "POST /restarted": self.logged(routes["POST /restarted"]), "POST /restore": self.restore,
+        return {**routes, "POST /do": self.logged(self.beginning(routes["POST /do"])), "POST /restarted": self.logged(routes["POST /restarted"]), "POST /restore": self.restore,
                 "POST /base": self.base, "GET /document": self.told_document, "GET /healthz": self.health, "GET /fleet": self.told_fleet,
                 "GET /metrics": self.metrics}
 
@@ -203,20 +204,34 @@ class Running:
             return page
         return answer
 
-    def over_known_servers(self, route: Route) -> Route:
-        """A route that begins no plan over servers that have no slots yet: while a plan names them, they would get none."""
+    def beginning(self, route: Route) -> Route:
+        """A route that begins no plan over servers that have no slots yet: while a plan names them, they would get none. Nor does it begin one that may
+        drop a shard's last replica before it adds another."""
         async def answer(body: bytes) -> Page:
             try:
-                servers = servers_of(line_of(body))
+                line = line_of(body)
             except ValueError as why:
                 return Page.of({"fault": str(why)}, 400)
+            servers = servers_of(line)
             told = await asyncio.gather(*(self.fleet.call(it, "GET", "/base") for it in servers))
             unknown = [it for it, answer in zip(servers, told) if "base" in answer and answer["base"] is None]
             if unknown:
                 text = f"refused: Unknown server {unknown[0]}, which has no slots yet"
                 return Page.of({"refused": {"kind": "Unknown", "server": unknown[0], "text": text}})
+            emptied = emptied_by(line, await self.shards()) if servers else None
+            if emptied is not None:
+                text = f"refused: LastReplica shard {emptied}: the plan may drop it before it adds another, which would begin empty; let the drop wait for the add"
+                return Page.of({"refused": {"kind": "LastReplica", "shard": emptied, "text": text}})
             return await route(body)
         return answer
+
+    async def shards(self) -> List[Line]:
+        """The shards as they are recorded; none before something is open."""
+        assert self.controller is not None
+        try:
+            return (await self.controller.ask({"do": "state"})).get("state", {}).get("shards", [])
+        except SessionEnded:
+            return []
 
     async def restore(self, body: bytes) -> Page:
         """Answers a server that asks for its slots under a nonce: `{"server":"a","nonce":"77ab"}`."""
@@ -296,15 +311,6 @@ class Running:
             return Page.of(document_of_state(state, self.settings.document))
         except Unknown as why:
             return Page.of({"fault": str(why)}, 404)
-
-
-def servers_of(line: Line) -> List[str]:
-    """The servers that the plan names which a line begins, none for other lines and for what is no plan."""
-    try:
-        code = [step for stream in line["plan"]["streams"] for step in stream["code"]] if line.get("do") == "begin" else []
-        return sorted({str(step["server"]) for step in code if "server" in step})
-    except (LookupError, TypeError, AttributeError):
-        return []
 
 
 def named(body: bytes) -> str:

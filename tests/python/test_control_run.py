@@ -462,8 +462,7 @@ class RunningTest(unittest.IsolatedAsyncioTestCase):
         running.stopping.set()
         self.assertEqual(await asyncio.wait_for(task, 30), 0)
 
-
-    async def test_no_plan_begins_over_servers_without_slots(self):
+    async def test_no_plan_begins_over_servers_without_slots_or_drops_a_last_replica_beside_an_add(self):
         async def base(_):
             return Page.of({"base": self.told})
 
@@ -478,13 +477,23 @@ class RunningTest(unittest.IsolatedAsyncioTestCase):
             heard.append(json.loads(body)["do"])
             return Page.of({})
 
+        async def shards():
+            return [{"shard": "s", "cells": [{"server": "a", "state": "secondary"}]}]
+
+        running.shards = shards
         begin = json.dumps({"do": "begin", "plan": {"streams": [{"code": [{"do": "drop", "server": "a"}, {"do": "signal"}, {"do": "add", "server": "b"}]}]}}).encode()
         for self.told, lines, expected in ((None, [begin], []), (0, [begin], ["begin"]), (None, [b'{"do":"approve","server":"a"}', b'{"do":"begin"}'], ["approve", "begin"])):
             heard.clear()
-            pages = [await running.over_known_servers(route)(it) for it in lines]
+            pages = [await running.beginning(route)(it) for it in lines]
             self.assertEqual(heard, expected)
-        self.assertEqual((await running.over_known_servers(route)(b"[]")).status, 400)
+        self.assertEqual((await running.beginning(route)(b"[]")).status, 400)
         self.assertEqual(pages[0].status, 200)
+        self.told = 0
+        codes = [[{"do": "drop", "shard": "s", "server": "a"}], [{"do": "add", "shard": "s", "server": "b", "role": "secondary"}]]
+        for streams, kind in ((codes, "LastReplica"), ([codes[1] + codes[0]], None)):
+            line = {"do": "begin", "plan": {"streams": [{"code": it} for it in streams]}}
+            page = await running.beginning(route)(json.dumps(line).encode())
+            self.assertEqual(json.loads(page.body).get("refused", {}).get("kind"), kind)
         running.fleet.close()
 
 

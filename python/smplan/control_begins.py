@@ -1,0 +1,47 @@
+"""What a controller looks at before it begins a plan, beside what `smpland` proves of it."""
+from __future__ import annotations
+
+from typing import Dict, List, Optional, Set
+
+from .control_session import Line
+
+# The states of a cell whose server has the shard's data.
+HAVING = frozenset(["primary", "secondary"])
+
+
+def streams_of(line: Line) -> List[List[Line]]:
+    """The code of each stream of the plan that a line begins; none for other lines, and for what is no plan."""
+    try:
+        codes = [list(stream["code"]) for stream in line["plan"]["streams"]] if line.get("do") == "begin" else []
+        return codes if all(isinstance(step, dict) for code in codes for step in code) else []
+    except (LookupError, TypeError, AttributeError):
+        return []
+
+
+def servers_of(line: Line) -> List[str]:
+    """The servers that the plan names which a line begins."""
+    return sorted({str(step["server"]) for code in streams_of(line) for step in code if "server" in step})
+
+
+def emptied_by(line: Line, shards: List[Line]) -> Optional[str]:
+    """A shard of which the plan that a line begins may drop all replicas before it adds another, which would begin empty; None if there is none."""
+    replicas: Dict[str, Set[str]] = {it["shard"]: {cell["server"] for cell in it["cells"] if cell["state"] in HAVING} for it in shards}
+    streams = streams_of(line)
+    added = {step.get("shard") for code in streams for step in code if step.get("do") == "add"}
+    handed = {step.get("shard") for code in streams for step in code if step.get("do") == "prepare_add"}
+    for shard in sorted(str(it) for it in added - handed):
+        if replicas.get(shard) and replicas[shard] <= dropped_at_once(streams, shard):
+            return shard
+    return None
+
+
+def dropped_at_once(streams: List[List[Line]], shard: str) -> Set[str]:
+    """The servers whose replicas of a shard go whatever else has come: their streams neither add one before, nor wait."""
+    found = set()
+    for code in streams:
+        for step in code:
+            if step.get("do") == "wait" or step.get("do") == "add" and step.get("shard") == shard:
+                break
+            if step.get("do") == "drop" and step.get("shard") == shard:
+                found.add(str(step.get("server")))
+    return found
