@@ -25,7 +25,7 @@ from usage import Usage
 AROUND = (1.0, 5.0)
 
 # The rest of a client whose shard is not watched, in seconds.
-SELDOM = 0.5
+SELDOM = 5.0
 
 
 class Bench(runs.Run):
@@ -39,12 +39,12 @@ class Bench(runs.Run):
         self.drain, self.after, self.used = (begun, time.time()), os.getloadavg()[0], usage.end()
 
     def setup(self):
-        """Shards that move are watched, and so many others, first those that have nothing at a. Clients of the rest
-        write seldom."""
-        moves = {it: self.cells[it][0][0] == "a" for it in self.fleet.shards}
-        is_at_a = {it: any(name[0] == "a" for name in self.cells[it]) for it in self.fleet.shards}
-        order = sorted(self.fleet.shards, key=lambda it: (not moves[it], is_at_a[it]))
-        self.watched = set(order[:max(self.watch, sum(moves.values()))])
+        """Of the shards that are watched two of three move, and the others have nothing at a, as far as there are such.
+        Clients of the rest write seldom."""
+        moves = [it for it in self.fleet.shards if self.cells[it][0][0] == "a"]
+        stays = [it for it in self.fleet.shards if all(name[0] != "a" for name in self.cells[it])]
+        first = moves[:2 * self.watch // 3]
+        self.watched = set([*first, *stays, *(it for it in self.fleet.shards if it not in {*first, *stays})][:self.watch])
         return {**super().setup(), "rests": {it: SELDOM for it in self.fleet.shards if it not in self.watched}}
 
     def cuts(self):
@@ -122,7 +122,7 @@ def main():
     for name, value in (("--shards", "12"), ("--rows", "20000"), ("--at-once", "1"), ("--rest", "0.1"),
                         ("--writers", "1"), ("--patience", "1200")):
         parser.add_argument(name, default=value)
-    parser.add_argument("--watch", type=int, default=20, help="so many shards are watched, at least all that move")
+    parser.add_argument("--watch", type=int, default=20, help="so many shards are watched")
     parser.add_argument("--databases", action="store_true")
     given = parser.parse_args()
     sys.argv = ["run.py", given.folder, "--harm", "--seconds", "40", "--seed", "1", "--copies", "1", "--steady",
