@@ -10,6 +10,7 @@ from data_model.controller import replayed
 from data_model.play import ALL, Play as FullPlay, TWO
 from data_model.plays_built import OWN_PLAYS, PLAYS, Play
 from data_model.rules import BUILT, NOT_BUILT, SMALL, data_rule_names
+from data_model.schedule import run_schedule
 
 import forms
 from forms import Dice
@@ -132,6 +133,10 @@ class Schedules(forms.Schedules, unittest.TestCase):
         "silent_gone": Dice(27, "best_copy_wins"),
         "server_named": Dice(88, "best_copy_wins"),
     }
+
+    def test_no_copy_is_promised_that_a_confirmed_reopening_takes_away(self):
+        """A primary that is not settled yet counts the new owner of a handover, which is settled with nothing."""
+        self.assertIsNone(run_schedule(41108037, BUILT, 300).violation)
 
 
 if __name__ == "__main__":

@@ -11,6 +11,7 @@ from driving_model.server import Pass, Route
 
 from .clients import Writes
 from .commands import Copied, CopiedAt
+from .controller import Controller
 from .host import Host
 from .messages import Lower
 from .rules import Rules
@@ -20,6 +21,7 @@ class Serving:
     """The part of a world in which requests are executed and answered."""
 
     rules: Rules
+    controller: Controller
     hosts: list[Host]
     writes: Writes
     dice: random.Random
@@ -102,10 +104,19 @@ class Serving:
             self.say("writes", sorted(new), "of shard", shard, "are acknowledged by", host.number, "at", needed)
             self.coverage["acknowledged"] += len(new)
             self.coverage["acknowledged at several"] += needed > 1
-            self.writes.acknowledge(shard, new, replica.needed)
+            self.writes.acknowledge(shard, new, self.promised(shard, replica.needed))
         for seen in [it for it in replica.replies if len(it) <= position]:
             replica.replies.remove(seen)
             self.reply(host, shard, seen)
+
+    def promised(self, shard: int, needed: int) -> int:
+        """How many copies are promised of a write that is acknowledged now. In the small form a reopening may take copies
+        away that its primary counts until it is settled: of that no more are promised than it keeps."""
+        reopening, kept = self.controller.reopening, [needed]
+        if self.rules.is_small and reopening is not None:
+            kept += [reopening.least(shard)] if self.controller.replaced else []
+            kept += [0 if shard in reopening.perhaps else reopening.copies[shard]] if reopening.settles else []
+        return min(kept)
 
     def owe(self, host: Host, shard: int) -> None:
         """Before it first acknowledges since it started, or gives leave, all that it has may have been acknowledged."""
