@@ -1,4 +1,5 @@
-"""Processor seconds by kind of process, from /proc: who ends between two looks is missed from the last one on."""
+"""Processor seconds by kind of process, from /proc: those that this process has started, and all others. Who ends between
+two looks is missed from the last one on."""
 import os
 import threading
 from collections import Counter
@@ -18,8 +19,9 @@ def kind_of(words):
 
 
 def looked():
-    """The processor seconds of each process so far, by its number and beginning, with its command line."""
-    found = {}
+    """The processor seconds of each process so far, by its number and beginning, with its command line, if this process
+    has started it."""
+    found, parents = {}, {}
     for path in Path("/proc").iterdir():
         if path.name.isdigit():
             try:
@@ -27,8 +29,16 @@ def looked():
                 words = (path / "cmdline").read_text().replace("\0", " ")
             except OSError:
                 continue
+            parents[path.name] = fields[1]
             found[path.name, fields[19]] = (words, (int(fields[11]) + int(fields[12])) / TICKS)
-    return found
+    return {key: (words if is_own(key[0], parents) else "", used) for key, (words, used) in found.items()}
+
+
+def is_own(number, parents):
+    """Whether a process is this one, or descends from it."""
+    while number in parents and number != str(os.getpid()):
+        number = parents[number]
+    return number == str(os.getpid())
 
 
 class Usage(threading.Thread):
