@@ -292,7 +292,8 @@ MADE = """SELECT pg_get_functiondef(oid) FROM pg_proc WHERE pronamespace = 'sm':
 
 # The commits with the texts of older versions, from that on whose shards have the tables of now.
 OLDER = (("86969a7b1d8d4e0dc1b4166589172c8e9bde755c", "1.0"), ("c21182cef3621f23d2135508f3de08a1418b0f11", "1.0"), ("a9d2eeeb3f3e3fc9afa5e9d6fd16f83db2bb4b27", "1.0"),
-         ("2604bc8e5185c110b56af0183e6ab5509ce82694", "1.0"), ("a3322cdeae32ff7122f6d9a762e90490cf446412", "1.0"), ("1c290fccdf972bc920e305b7a7d5213b0ab496c0", "1.1"))
+         ("2604bc8e5185c110b56af0183e6ab5509ce82694", "1.0"), ("a3322cdeae32ff7122f6d9a762e90490cf446412", "1.0"), ("1c290fccdf972bc920e305b7a7d5213b0ab496c0", "1.1"),
+         ("a79f44e23c33328868dbe9e2fbeb726821d89410", "1.2"))
 
 
 # A subscription as such a version has made it.

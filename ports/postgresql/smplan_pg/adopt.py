@@ -10,8 +10,8 @@ from . import streams
 from .database import Connection, Database, value
 
 # The version of schema sm that this program needs, and its text; the first one, which tells none; and no schema's.
-VERSION, FIRST, NONE = (1, 2), (1, 0), ()
-EXTENSION = Path(__file__).resolve().parents[1] / "extension" / "smplan--1.2.sql"
+VERSION, FIRST, NONE = (1, 3), (1, 0), ()
+EXTENSION = Path(__file__).resolve().parents[1] / "extension" / "smplan--1.3.sql"
 
 # What can't be moved, and what helps: a query over the schema %(shard)s whose rows each are one thing.
 CHECKS = (

@@ -3,12 +3,12 @@
 -- What a server keeps stands in schema sm. What belongs to a shard stands in its schema, and moves with its data: sm_requests, sm_counters, sm_cut,
 -- sm_views, sm_begun, sm_members. `smplan-pg serve` changes all of it; clients call sm.enter, sm.reply and sm.acknowledged.
 --
--- The text also brings what an older one has made up to this one: smplan--1.1--1.2.sql is the same. So each statement may find its effect there, and what has
+-- The text also brings what an older one has made up to this one: smplan--1.2--1.3.sql is the same. So each statement may find its effect there, and what has
 -- other columns or arguments than before is changed, or dropped first.
 CREATE SCHEMA IF NOT EXISTS sm;
 
 -- The text's version: who changes the text raises it, and the files' names.
-CREATE OR REPLACE FUNCTION sm.version() RETURNS int[] LANGUAGE sql IMMUTABLE PARALLEL SAFE AS $$ SELECT ARRAY[1, 2] $$;
+CREATE OR REPLACE FUNCTION sm.version() RETURNS int[] LANGUAGE sql IMMUTABLE PARALLEL SAFE AS $$ SELECT ARRAY[1, 3] $$;
 
 -- ---- what a server keeps
 
