@@ -10,7 +10,7 @@ HAVING = frozenset(["primary", "secondary"])
 
 
 def streams_of(line: Line) -> List[List[Line]]:
-    """The code of each stream of the plan that a line begins; none for other lines, and for what is no plan."""
+    """The code of each stream of the plan that a line begins; none if it begins none, or what it has is no plan."""
     try:
         codes = [list(stream["code"]) for stream in line["plan"]["streams"]] if line.get("do") == "begin" else []
         return codes if all(isinstance(step, dict) for code in codes for step in code) else []
@@ -19,7 +19,7 @@ def streams_of(line: Line) -> List[List[Line]]:
 
 
 def servers_of(line: Line) -> List[str]:
-    """The servers that the plan names which a line begins."""
+    """The servers that the plan of a line names; none if the line begins none."""
     return sorted({str(step["server"]) for code in streams_of(line) for step in code if "server" in step})
 
 

@@ -61,8 +61,8 @@ class Link:
 class Live:
     """A shard in memory. Requests that run belong to a term; if it ends, they are not acknowledged. Writes up to `acknowledged` are at all who are
     alive. Up to the place `noted` goes all that was here when it began to lead; `told` is the last reopening since which a controller knows that
-    enough servers have that. No order that holds requests back begins before `rest_until`. Who is `leaving` asks for leave under this number; `leave` is that of the
-    question that was answered."""
+    enough servers have that. No order that holds requests back begins before `rest_until`. Who is `leaving` asks for leave under this number; `leave` is
+    that of the question that was answered."""
 
     running: int = 0
     term: int = 0

@@ -111,8 +111,8 @@ class Copies:
         self.server.say("copied", shard, "from", self.server.names[number], f"in {time.monotonic() - since:.2f} s")
 
     def admit(self, there: Database, shard: str, still: Still, said_of: Callable[[str], None], waits: bool) -> None:
-        """Waits until its source makes few enough copies; and behind another one, whose shard is about to be handed
-        over, until that is done: a copy would slow it down."""
+        """Waits until its source makes few enough copies. If it has waited, the copy before is about to be handed over:
+        then it also waits until that is done, since a copy would slow it down."""
         is_behind = False
         while not value(there.row("SELECT sm.copy(%s, %s, %s)", shard, self.server.number, self.server.limits.at_once)):
             if not waits:

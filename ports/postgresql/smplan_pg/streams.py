@@ -108,9 +108,9 @@ def follow(c: Connection, name: str, publication: str, reach: str) -> None:
 
 
 def subscribe(database: Database, name: str, publication: str, reach: str) -> None:
-    """Makes a subscription that copies nothing, by a stream that is there already. It is not enabled yet. (One of before
-    is dropped in another transaction: that locks the subscriptions of all databases, so that no stream begins, and a
-    source may take long to answer.)"""
+    """Makes a subscription that copies nothing, by a stream that is there already. It is not enabled yet. (The
+    former one was dropped in another transaction: a drop locks the subscriptions of all databases, so that no stream
+    begins, and a source may take long to answer.)"""
     with database.connection() as c, asking(c) as tx:
         tx.execute(said("CREATE SUBSCRIPTION {} CONNECTION {reach} PUBLICATION {} WITH (" + STREAM + ", copy_data = false, enabled = false)",
                         name, publication, reach=reach, name=name))
