@@ -188,8 +188,8 @@ class Running:
         """What is served."""
         assert self.controller is not None
         routes = routes_of(self.controller)
-        return {**routes, "POST /do": self.logged(self.beginning(routes["POST /do"])), "POST /restarted": self.logged(routes["POST /restarted"]), "POST /restore": self.restore,
-                "POST /base": self.base, "GET /document": self.told_document, "GET /healthz": self.health, "GET /fleet": self.told_fleet,
+        return {**routes, "POST /do": self.logged(self.beginning(routes["POST /do"])), "POST /restarted": self.logged(routes["POST /restarted"]),
+                "POST /restore": self.restore, "POST /base": self.base, "GET /document": self.told_document, "GET /healthz": self.health, "GET /fleet": self.told_fleet,
                 "GET /metrics": self.metrics}
 
     def logged(self, route: Route) -> Route:
@@ -220,7 +220,7 @@ class Running:
                 return Page.of({"refused": {"kind": "Unknown", "server": unknown[0], "text": text}})
             emptied = emptied_by(line, await self.shards()) if servers else None
             if emptied is not None:
-                text = f"refused: LastReplica shard {emptied}: the plan may drop it before it adds another, which would begin empty; let the drop wait for the add"
+                text = f"refused: LastReplica shard {emptied}: the plan may drop it before it adds another, which begins empty; let the drop wait for the add"
                 return Page.of({"refused": {"kind": "LastReplica", "shard": emptied, "text": text}})
             return await route(body)
         return answer
