@@ -138,6 +138,10 @@ class Schedules(forms.Schedules, unittest.TestCase):
         """A primary that is not settled yet counts the new owner of a handover, which is settled with nothing."""
         self.assertIsNone(run_schedule(41108037, BUILT, 300).violation)
 
+    def test_who_has_come_back_is_away_no_longer(self):
+        """An old end of a restart comes once more, and is the one by which a server is recorded up; later this one crashes."""
+        self.assertIsNone(run_schedule(43015159, BUILT, 300, "carry").violation)
+
 
 if __name__ == "__main__":
     unittest.main()

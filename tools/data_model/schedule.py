@@ -10,7 +10,6 @@ from driving_model.cells import PRIMARY, SECONDARY, Stage
 from driving_model.laws import Violation
 from driving_model.messages import BASE_STEP, Fence, Restore
 from driving_model.plans import CrownRight, Plan
-from driving_model.replies import Up
 from driving_model.schedule import Chances
 
 from .copies import Began, Copy
@@ -346,7 +345,7 @@ class Schedule(base.Schedule):
         permits = self.controller.record.permits if self.controller.record else {}
         if not permits or self.chance(0.3):
             if self.restarted and self.chance(0.5):
-                self.world.do(self.pick(self.restarted, 3))
+                self.end_restart(self.pick(self.restarted, 3))
             return
         number = self.dice.choice(sorted(permits))
         host, away = self.world.hosts[number], self.world.away
@@ -361,8 +360,7 @@ class Schedule(base.Schedule):
             self.come_back(host, forgets=self.chance(0.6))
         elif host.hears_controller:
             self.restarted.append(host.restarted(permits[number]))
-            if isinstance(self.world.do(self.restarted[-1]).reply, Up):
-                away.discard(number)
+            self.end_restart(self.restarted[-1])
 
     def come_back(self, host: Host, forgets: bool) -> None:
         """A server starts, with or without its slots."""

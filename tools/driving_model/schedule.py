@@ -249,7 +249,7 @@ class Schedule:
         permits = self.controller.record.permits if self.controller.record else {}
         if not permits or self.chance(0.3):
             if self.restarted and self.chance(0.5):
-                self.world.do(self.pick(self.restarted, 3))
+                self.end_restart(self.pick(self.restarted, 3))
             return
         number = self.dice.choice(sorted(permits))
         host, away = self.world.hosts[number], self.world.away
@@ -265,8 +265,13 @@ class Schedule:
             self.come_back(host, forgets=self.chance(0.6))
         elif number in away and host.is_alive:
             self.restarted.append(host.restarted(permits[number]))
-            if isinstance(self.world.do(self.restarted[-1]).reply, replies.Up):
-                away.discard(number)
+            self.end_restart(self.restarted[-1])
+
+    def end_restart(self, command: commands.Restarted) -> None:
+        """Says that a restart has ended. Who is recorded up then is no longer away."""
+        reply = self.world.do(command).reply
+        if isinstance(reply, replies.Up):
+            self.world.away.discard(reply.server)
 
     def come_back(self, host: Host, forgets: bool) -> None:
         """A server starts, with or without its slots."""
