@@ -9,9 +9,9 @@ ghost use Rattle.smpland_state.specs.Document.{replica_row, replica_rows, role_m
 ghost use Rattle.smpland_state.specs.Document.{document_server, document_shard, servers_member, shard_members};
 ghost use Rattle.smpland_state.specs.Document.{flag_member, shard_numbers, shards_member};
 
-use crate::holders::write_listed;
+use crate::holders::{owner_of, write_listed};
 use crate::journal_state::JournalState;
-use crate::unserved::has_data;
+use crate::unserved::is_owner;
 use sm_placement::{Placement, Server, Shard};
 use sm_server::{Cell, ServerId, ShardId};
 use smpland_lines::{Writer, server_name, write_number, write_text};
@@ -105,19 +105,21 @@ fn write_role_members(writer: &mut Writer, server: &str, role: &str) -> Result<(
     Ok(())
 }
 
-/// Writes the replica that a server has of a shard, if it has one.
+/// Writes the replica that a server has of a shard with this owner, if it has one.
 fn write_replica_row(
     writer: &mut Writer,
     placement: &Placement,
     shard: ShardId,
+    owner: &Option<ServerId>,
     server: ServerId,
 ) -> Result<(), AllocError>
     requires shard { shard < length placement.now.setup.shards }
+    requires owner { owner.now ≡ owner_in placement.now.setup ((place_of placement.now).cells shard) }
     requires server { server < length placement.now.setup.servers }
     ensures { OnOk result (writer.new.tokens ≡ writer.old.tokens
         ++ replica_row placement.now.setup ((place_of placement.now).cells shard) server) }
 {
-    let has_data = has_data(placement, server, shard);
+    let has_data = is_owner(owner, server);
     if let Some(role) = role_word(has_data, placement.cell(shard, server)) {
         writer.begin_object()?;
         write_role_members(writer, server_name(placement.config(), server), role)?;
@@ -126,19 +128,21 @@ fn write_replica_row(
     Ok(())
 }
 
-/// Writes the replicas of a shard.
+/// Writes the replicas of a shard with this owner.
 fn write_each_replica_row(
     writer: &mut Writer,
     placement: &Placement,
     shard: ShardId,
+    owner: &Option<ServerId>,
 ) -> Result<(), AllocError>
-    requires { shard < length placement.now.setup.shards }
+    requires shard { shard < length placement.now.setup.shards }
+    requires owner { owner.now ≡ owner_in placement.now.setup ((place_of placement.now).cells shard) }
     ensures { OnOk result (writer.new.tokens ≡ writer.old.tokens
         ++ flat_map (replica_row placement.now.setup ((place_of placement.now).cells shard))
         (range_with_len 0 (length placement.now.setup.servers))) }
 {
     for number in 0..placement.config().server_count() {
-        write_replica_row(writer, placement, shard, ServerId::new(number))?;
+        write_replica_row(writer, placement, shard, owner, ServerId::new(number))?;
     }
     Ok(())
 }
@@ -148,26 +152,26 @@ fn write_replica_rows(
     writer: &mut Writer,
     placement: &Placement,
     shard: ShardId,
+    owner: &Option<ServerId>,
 ) -> Result<(), AllocError>
-    requires { shard < length placement.now.setup.shards }
+    requires shard { shard < length placement.now.setup.shards }
+    requires owner { owner.now ≡ owner_in placement.now.setup ((place_of placement.now).cells shard) }
     ensures { OnOk result (writer.new.tokens ≡ writer.old.tokens
         ++ replica_rows placement.now.setup ((place_of placement.now).cells shard)) }
 {
     writer.key("cells")?;
     writer.begin_array()?;
-    write_each_replica_row(writer, placement, shard)?;
+    write_each_replica_row(writer, placement, shard, owner)?;
     writer.end_array()?;
     Ok(())
 }
 
-/// The server that the map lists for a shard, if it has the shard's data.
-fn listed_owner(placement: &Placement, shard: ShardId) -> Option<ServerId>
-    requires { shard < length placement.now.setup.shards }
-    ensures { result ≡ listed_owner ((place_of placement.now).listed shard)
-        (owner_in placement.now.setup ((place_of placement.now).cells shard)) }
+/// The server that is listed for a shard, if it is the shard's owner.
+fn listed_owner(listed: Option<ServerId>, owner: &Option<ServerId>) -> Option<ServerId>
+    ensures { result ≡ listed_owner listed owner.now }
 {
-    let listed = placement.listed(shard)?;
-    if has_data(placement, listed, shard) {
+    let listed = listed?;
+    if is_owner(owner, listed) {
         Some(listed)
     } else {
         None
@@ -197,9 +201,10 @@ fn write_shard_members(
         ≡ writer.old.tokens ++ shard_members placement.now.setup (place_of placement.now) shard) }
 {
     write_shard_numbers(writer, placement.config().shard(shard))?;
-    let listed = listed_owner(placement, shard);
+    let owner = owner_of(placement, shard);
+    let listed = listed_owner(placement.listed(shard), &owner);
     write_listed(writer, placement.config(), "listed", listed)?;
-    write_replica_rows(writer, placement, shard)?;
+    write_replica_rows(writer, placement, shard, &owner)?;
     Ok(())
 }
 

@@ -38,7 +38,7 @@ pub fn owner_of(placement: &Placement, shard: ShardId) -> Option<ServerId>
 }
 
 /// Whether a server has a replica of a shard, or a place for one.
-fn has_replica(placement: &Placement, shard: ShardId, server: ServerId) -> bool
+pub fn has_replica(placement: &Placement, shard: ShardId, server: ServerId) -> bool
     requires { server < length placement.now.setup.servers }
     ensures { result ≡ not (is_absent ((place_of placement.now).cells shard server)) }
 {

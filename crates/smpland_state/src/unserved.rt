@@ -2,22 +2,33 @@
 ghost use Rattle.std.specs.Prelude.{◌≡◌, ◌++◌, OnOk, length};
 ghost use Rattle.std.specs.List.{flat_map, range_with_len};
 ghost use Rattle.sm_placement.specs.Layout.{place_of};
-ghost use Rattle.smpland_state.specs.Unserved.{has_data, unserved_member, unserved_text};
+ghost use Rattle.smpland_state.specs.Unserved.{has_data, is_owner, unserved_member, unserved_text};
 
-use crate::holders::owner_of;
+use crate::holders::{has_replica, owner_of};
 use sm_placement::Placement;
 use sm_server::{ServerId, ShardId};
 use smpland_lines::{Writer, shard_name};
 use std::alloc::AllocError;
 
-/// Whether a server has a shard's data.
-pub fn has_data(placement: &Placement, server: ServerId, shard: ShardId) -> bool
-    ensures { result ≡ has_data placement.now.setup (place_of placement.now) server shard }
+/// Whether a server is this owner.
+pub fn is_owner(owner: &Option<ServerId>, server: ServerId) -> bool
+    ensures { result ≡ is_owner owner.now server }
 {
-    match owner_of(placement, shard) {
-        Some(owner) => owner == server,
+    match owner {
+        Some(owner) => *owner == server,
         None => false,
     }
+}
+
+/// Whether a server has a shard's data. The shard's owner is looked for only if the server has something of it.
+fn has_data(placement: &Placement, server: ServerId, shard: ShardId) -> bool
+    ensures { result ≡ has_data placement.now.setup (place_of placement.now) server shard }
+{
+    let is_known = server.number() < placement.config().server_count();
+    if is_known && !has_replica(placement, shard, server) {
+        return false;
+    }
+    is_owner(&owner_of(placement, shard), server)
 }
 
 /// Writes the name of a shard, if a server has its data.

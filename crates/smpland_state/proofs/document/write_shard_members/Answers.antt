@@ -17,6 +17,6 @@ returns c =
     let place = place_of c.args.placement.now in
     let own = listed_owner (place.listed c.args.shard) (owner_in c.args.placement.now.setup (place.cells c.args.shard)) in
     let listed =
-    (rw c.listed_owner-listed.ensures at c.in_ok-write_listed.ensures)
+    (rw (c.listed.ensures.listed, c.owner_of-owner.ensures) at (rw c.listed_owner-listed.ensures at c.in_ok-write_listed.ensures))
     ∙ ap (λ (s : Setup). numbered ++ name_member (codes "listed") (option_map (server_text s) own)) c.config-2.ensures.setup in
     next o _ _ (next o _ _ numbers listed) c.in_ok-write_replica_rows.ensures
