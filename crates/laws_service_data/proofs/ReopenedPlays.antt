@@ -27,13 +27,14 @@ use Rattle.laws_network.specs.ReopeningPlays.{the_setup}
 use Rattle.sm_reopening.specs.declared.ongoing.OngoingReopening.{OngoingReopening}
 use Rattle.sm_reopening.specs.declared.party.FoundSlot.{FoundSlot}
 use Rattle.sm_reopening.specs.declared.party.Inventory.TheVariants as told
+use Rattle.sm_reopening.specs.declared.slots.FoundSlots.{FoundSlots}
 use Rattle.sm_reopening.specs.declared.party.Membership.TheVariants.{Lost, Member}
 use Rattle.sm_reopening.specs.declared.state.ServerState.{ServerState}
 use Rattle.sm_reopening.specs.Faults.{MayConfirm, is_appointed, is_barred}
 use Rattle.sm_reopening.specs.Losses.{tells_whole}
 use Rattle.sm_reopening.specs.Ongoing.{left_out_of, net_reopening, past_state, recorded_place, told_copies, told_slot}
 use Rattle.sm_reopening.specs.Proposal.{has_known_lead}
-use Rattle.sm_reopening.specs.States.{FitsShards, slot_in}
+use Rattle.sm_reopening.specs.States.{FitsShards, slot_of}
 use Rattle.sm_reopening.specs.Survivors.{stands_above, standing_of}
 use Rattle.laws_data.specs.Naming.{KnowsShard}
 use Rattle.laws_data.specs.Shard.{Chooses, Ends, IsShardReached, Loses, MayHappenInTurn, Removes, Shard, Succeeds, all_left, is_copy, left_by, list_of, new_shard}
@@ -234,27 +235,37 @@ past = record {
 abbrev is_lost : ServerState
 is_lost = record { membership = Lost; told = None; settled = false; promised = false }
 
+-- no slots
+abbrev nothing_told : FoundSlots
+nothing_told = record {
+  places = record { items = []; ptr = null_ptr; len = 0; cap = 0; alloc = record { memory = record { seal = tt } }; ok = (refl, omega arith); small = omega arith };
+  told = record { items = []; ptr = null_ptr; len = 0; cap = 0; alloc = record { memory = record { seal = tt } }; ok = (refl, omega arith); small = omega arith };
+  near = λ s. omega arith;
+}
+
 -- one that has told that it has nothing
 abbrev has_nothing : ServerState
-has_nothing = record {
-  membership = Member;
-  told = Some (told.Slots (record { items = []; ptr = null_ptr; len = 0; cap = 0; alloc = record { memory = record { seal = tt } }; ok = (refl, omega arith); small = omega arith }));
-  settled = false;
-  promised = false;
-}
+has_nothing = record { membership = Member; told = Some (told.Slots nothing_told); settled = false; promised = false }
 
 -- what is told of the shard by a server that has the write
 abbrev slot_told : Cell → FoundSlot
 slot_told c = record { cell = c; copy = told_of (list_with (7 ∷ [])); reached = false }
 
+one_place : (s : ℕ) → slice_index_or (1 ∷ []) s 0 ≤ 1
+one_place zero = omega arith
+one_place (suc s) = omega arith
+
+-- these slots
+abbrev slots_told : Cell → FoundSlots
+slots_told c = record {
+  places = record { items = 1 ∷ []; ptr = null_ptr; len = 1; cap = 1; alloc = record { memory = record { seal = tt } }; ok = (refl, omega arith); small = omega arith };
+  told = record { items = slot_told c ∷ []; ptr = null_ptr; len = 1; cap = 1; alloc = record { memory = record { seal = tt } }; ok = (refl, omega arith); small = omega arith };
+  near = one_place;
+}
+
 -- and that server
 abbrev has_told : Cell → ServerState
-has_told c = record {
-  membership = Member;
-  told = Some (told.Slots (record { items = slot_told c ∷ []; ptr = null_ptr; len = 1; cap = 1; alloc = record { memory = record { seal = tt } }; ok = (refl, omega arith); small = omega arith }));
-  settled = false;
-  promised = false;
-}
+has_told c = record { membership = Member; told = Some (told.Slots (slots_told c)); settled = false; promised = false }
 
 -- the reopening: the second server has nothing
 abbrev reopening_by : (x z : ServerState) → FitsShards 1 (x ∷ has_nothing ∷ z ∷ []) → OngoingReopening
@@ -623,7 +634,7 @@ knows_cells b v c (inr q) = absurd (let z = not_carried b v in let y = q.0 in cc
 takes_away : KeepsPrimary (r (Remains false)) 0 (data_after (Loses 2 ∷ [])) (Removes (λ v. v == 2) 1 ∷ [])
 takes_away = record {
   primary = 0;
-  left = inl ((λ s. cell_told (Remains false) s 0), (λ s. (slot_in (slot_told Primary ∷ []) s).reached), refl, refl);
+  left = inl ((λ s. cell_told (Remains false) s 0), (λ s. (slot_of (slots_told Primary) s).reached), refl, refl);
   gone = λ v. v == 2;
   needed = 1;
   may = omega arith;

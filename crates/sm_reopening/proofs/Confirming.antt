@@ -20,7 +20,7 @@ use Rattle.sm_reopening.specs.declared.party.Inventory.{Inventory as Told}
 use Rattle.sm_reopening.specs.declared.party.Inventory.TheVariants as told
 use Rattle.sm_reopening.specs.declared.party.Membership.TheVariants.{Member}
 use Rattle.sm_reopening.specs.declared.state.ServerState.{ServerState}
-use Rattle.sm_reopening.specs.States.{FitsShards, fits_told, fresh_state, is_gone, is_leaving, net_inventory, no_slot, slot_in, state_by}
+use Rattle.sm_reopening.specs.States.{FitsShards, fits_told, fresh_state, is_gone, is_leaving, net_inventory, no_slot, shards_in, slot_at, slot_of, state_by}
 use Rattle.sm_reopening.specs.Ongoing.{first_awaited, is_waited_for, is_complete, left_out_of, may_carry, told_copies, past_state, recorded_place, recorded_setup, net_reopening, shards_of, inventory_slot, told_slot}
 use Rattle.sm_reopening.specs.Survivors.{standing_of, stands_above}
 use Rattle.sm_reopening.specs.Faults.{IsFairAt, IsFairCell, IsFairSlot, IsTimely, KeepsSlot, MayConfirm, is_appointed, is_barred}
@@ -44,9 +44,9 @@ nothing_beyond x k v slot fits l e = go (state_by x.servers.items v).told (fits 
   where
     go : (t : Option Told) → fits_told x.shards t ≡ true → inventory_slot (option_map net_inventory t) (told_copies x k v) k ≡ Some slot → slot.cell ≡ Absent
     go (Some (told.Slots slots)) f s =
-        let small : length slots.items ≤ x.shards = leb-true (length slots.items) x.shards f in
-        let past : slot_in slots.items k ≡ no_slot = get_or_past slots.items k no_slot (omega arith) in
-        let same : (slot_in slots.items k).cell ≡ slot.cell = cc in
+        let small : shards_in slots ≤ x.shards = leb-true (shards_in slots) x.shards f in
+        let past : slot_of slots k ≡ no_slot = ap (slot_at slots.told.items) (get_or_past slots.places.items k 0 (omega arith)) in
+        let same : (slot_of slots k).cell ≡ slot.cell = cc in
         sym same ∙ ap (λ (t : FoundSlot). t.cell) past
     go (Some (told.Unknown nonce)) f s = absurd (cc)
     go None f s = absurd (cc)

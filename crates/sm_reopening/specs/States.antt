@@ -1,6 +1,6 @@
 -- The parties of a reopening: what they told, who is lost or left out, and the code's own lists of them.
 -- `next_state` and `AreNextStates` are internal: you need not read them for the public contracts.
-use Rattle.std.specs.Prelude.{◌≡◌, ℕ, ◌&&◌, ◌||◌, Bool, true, false, Option, Some, None, List, length, is_some, nat_le}
+use Rattle.std.specs.Prelude.{◌≡◌, ℕ, ◌&&◌, ◌||◌, ◌==◌, ◌-◌, Bool, true, false, Option, Some, None, List, length, is_some, nat_le}
 use Rattle.std.specs.Prelude.{option_map, slice_index_or, if◌then◌else◌}
 use Rattle.sm_server.specs.declared.call.Cell.TheVariants.{Absent}
 use Rattle.sm_copies.specs.declared.order.ToldCopy.{ToldCopy}
@@ -9,6 +9,7 @@ use Rattle.laws_network.specs.Reopening.{Inventory, MapOwner, Party, Reopening, 
 use Rattle.laws_network.specs.Reopening.{Entries}
 use Rattle.sm_reopening.specs.declared.party.FoundSlot.{FoundSlot}
 use Rattle.sm_reopening.specs.declared.party.Inventory.{Inventory as Told}
+use Rattle.sm_reopening.specs.declared.slots.FoundSlots.{FoundSlots}
 use Rattle.sm_reopening.specs.declared.party.Inventory.TheVariants as told
 use Rattle.sm_reopening.specs.declared.party.Membership.{Membership}
 use Rattle.sm_reopening.specs.declared.party.Membership.TheVariants.{Member, LeftOut, Lost}
@@ -25,18 +26,26 @@ no_copy = record { view = 0; position = 0 }
 abbrev pub no_slot : FoundSlot
 no_slot = record { cell = Absent; copy = no_copy; reached = false }
 
--- what is told of a shard
-abbrev pub slot_in : List FoundSlot → ℕ → FoundSlot
-slot_in slots s = slice_index_or slots s no_slot
+-- what was told at a place, counted from 1
+abbrev pub slot_at : List FoundSlot → ℕ → FoundSlot
+slot_at told place = if place == 0 then no_slot else slice_index_or told (place - 1) no_slot
+
+-- what was told of a shard
+abbrev pub slot_of : FoundSlots → ℕ → FoundSlot
+slot_of slots s = slot_at slots.told.items (slice_index_or slots.places.items s 0)
+
+-- of how many shards a server may tell something
+abbrev pub shards_in : FoundSlots → ℕ
+shards_in slots = length slots.places.items
 
 -- an inventory as the network's laws speak of it
 abbrev pub net_inventory : Told → Inventory
-net_inventory (told.Slots slots) = Slots (λ s. (slot_in slots.items s).cell) (λ s. (slot_in slots.items s).reached)
+net_inventory (told.Slots slots) = Slots (λ s. (slot_of slots s).cell) (λ s. (slot_of slots s).reached)
 net_inventory (told.Unknown nonce) = Unknown nonce
 
 -- the copy of a shard that an inventory tells
 abbrev pub told_copy : Option Told → ℕ → ToldCopy
-told_copy (Some (told.Slots slots)) s = (slot_in slots.items s).copy
+told_copy (Some (told.Slots slots)) s = (slot_of slots s).copy
 told_copy _ s = no_copy
 
 -- no copy is told yet
@@ -122,7 +131,7 @@ left_out_by xs v = is_leaving (state_by xs v).membership
 
 -- an inventory tells of no more shards than there are
 abbrev pub fits_told : ℕ → Option Told → Bool
-fits_told shards (Some (told.Slots slots)) = nat_le (length slots.items) shards
+fits_told shards (Some (told.Slots slots)) = nat_le (shards_in slots) shards
 fits_told shards _ = true
 
 -- so it is with each server

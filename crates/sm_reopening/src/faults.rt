@@ -134,12 +134,10 @@ impl OngoingReopening {
         ensures { result ≡ first_below (net_reopening self.now).servers
             (λ u. stands_above (standing_of self.now shard u) (standing_of self.now shard server)) }
     {
+        let standing = self.standing(shard, server);
         for number in 0..self.server_count() {
             let other = ServerId::new(number);
-            if self
-                .standing(shard, other)
-                .is_above(&self.standing(shard, server))
-            {
+            if self.standing(shard, other).is_above(&standing) {
                 return Some(other);
             }
         }

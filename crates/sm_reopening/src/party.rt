@@ -1,4 +1,5 @@
 //! The parties of a reopening, and what each tells.
+use crate::slots::FoundSlots;
 use sm_copies::ToldCopy;
 use sm_server::{Cell, ServerId};
 
@@ -56,8 +57,7 @@ impl FoundSlot {
 /// A server's account once it is fenced.
 #[derive(Debug, Drop)]
 pub enum Inventory {
-    /// Its slots, of each shard.
-    Slots(Vec<FoundSlot>),
+    Slots(FoundSlots),
     /// It has lost its slots, and asks for them under this nonce.
     Unknown { nonce: u64 },
 }

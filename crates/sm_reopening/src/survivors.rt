@@ -1,7 +1,6 @@
 //! Survivors: who inherits a shard.
 ghost use Rattle.std.specs.Prelude.{◌≡◌, ◌<◌, ◌^◌, ◌↔◌, IfSome};
 ghost use Rattle.laws_network.specs.ReopeningLaws.{claim};
-ghost use Rattle.sm_reopening.specs.States.{slot_in};
 ghost use Rattle.sm_reopening.specs.Ongoing.{told_copies, recorded_place, told_slot};
 ghost use Rattle.sm_reopening.specs.Survivors.{HasNoSurvivor, IsSuccessorOf, exceeds, has_more_in_view, rank_of};
 ghost use Rattle.sm_reopening.specs.Survivors.{slot_claim, standing_of, stands_above};
@@ -78,26 +77,6 @@ fn claim(cell: &Cell, reached: bool) -> u8
     }
 }
 
-/// Returns what these slots tell of a shard.
-fn slot_in(slots: &[FoundSlot], shard: ShardId) -> FoundSlot
-    ensures { result ≡ slot_in slots.now shard }
-{
-    match slots.get(shard.number() as usize) {
-        Some(slot) => *slot,
-        None => FoundSlot::absent(),
-    }
-}
-
-/// Returns how good a claim what a server has told gives.
-fn claim_of_slot(slot: Option<FoundSlot>) -> u8
-    ensures { result ≡ slot_claim slot }
-{
-    match slot {
-        Some(slot) => claim(&slot.cell, slot.reached),
-        None => 0,
-    }
-}
-
 impl OngoingReopening {
     /// Returns what a server has told of a shard; None if it has not answered, or is Unknown.
     pub fn slot(&self, shard: ShardId, server: ServerId) -> Option<FoundSlot>
@@ -105,7 +84,7 @@ impl OngoingReopening {
     {
         let state = self.servers.get(server.number() as usize)?;
         match &state.told {
-            Some(Inventory::Slots(slots)) => Some(slot_in(slots, shard)),
+            Some(Inventory::Slots(slots)) => Some(slots.get(shard)),
             _ => None,
         }
     }
@@ -121,13 +100,20 @@ impl OngoingReopening {
         self.past.cell(shard, server)
     }
 
-    /// The copy of a shard that a server has told.
-    fn told_copy(&self, shard: ShardId, server: ServerId) -> ToldCopy
-        ensures { result ≡ told_copies self.now shard server }
+    /// The claim that what a server has told gives, with the copy that it has told.
+    fn told_standing(&self, shard: ShardId, server: ServerId) -> Standing
+        ensures claim { result.claim ≡ slot_claim (told_slot self.now shard server) }
+        ensures copy { result.copy ≡ told_copies self.now shard server }
     {
         match self.slot(shard, server) {
-            Some(slot) => slot.copy,
-            None => NO_COPY,
+            Some(slot) => Standing {
+                claim: claim(&slot.cell, slot.reached),
+                copy: slot.copy,
+            },
+            None => Standing {
+                claim: 0,
+                copy: NO_COPY,
+            },
         }
     }
 
@@ -137,14 +123,15 @@ impl OngoingReopening {
         ensures view { result.copy.view < 2 ^ 64 }
         ensures position { result.copy.position < 2 ^ 64 }
     {
+        let told = self.told_standing(shard, server);
         let claim = if self.is_carried(server) {
             claim(&self.recorded_cell(shard, server), false)
         } else {
-            claim_of_slot(self.slot(shard, server))
+            told.claim
         };
         Standing {
             claim,
-            copy: self.told_copy(shard, server),
+            copy: told.copy,
         }
     }
 

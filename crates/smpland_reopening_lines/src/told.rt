@@ -2,15 +2,15 @@
 ghost use Rattle.std.specs.List.{list_all};
 ghost use Rattle.std.specs.Prelude.{◌≡◌, ◌==◌, ◌<◌, ℕ, IfOk, OnOk, Some, if◌then◌else◌, length, nat_lt, true};
 ghost use Rattle.laws_network.specs.Reopening.{Unknown};
-ghost use Rattle.sm_reopening.specs.States.{fits_told, net_inventory, no_slot, slot_in, told_copy};
+ghost use Rattle.sm_reopening.specs.States.{fits_told, net_inventory, shards_in, slot_of, told_copy};
 ghost use Rattle.smpland_reopening_lines.specs.Slots.{cell_told, copy_said, is_text_of, party_told, slot_by, slot_told};
 ghost use Rattle.smpland_reopening_lines.specs.Taken.{BeganBelow};
 ghost use Rattle.smpland_reopening_lines.specs.Told.{HasEachSlot};
 
 use sm_copies::ToldCopy;
 use sm_placement::Config;
-use sm_reopening::{FoundSlot, Inventory};
-use sm_server::{Cell, ServerId, ShardId};
+use sm_reopening::{FoundSlot, FoundSlots, Inventory};
+use sm_server::{Cell, ServerId};
 use smpland_lines::{CellKind, CommandMember, LinePart, PartyText, SlotText};
 use std::alloc::{AllocError, Global};
 
@@ -76,51 +76,22 @@ fn slot_told(numbering: &Config, slot: &SlotText<'_>) -> FoundSlot
     }
 }
 
-/// Nothing of each shard.
-fn no_slots(alloc: Global, numbering: &Config) -> Result<Vec<FoundSlot>, AllocError>
-    ensures count { IfOk result (λ slots. length slots.items ≡ length numbering.now.shards) }
-    ensures nothing { IfOk result (λ slots. (s : ℕ) → slot_in slots.items s ≡ no_slot) }
-{
-    let nothing = FoundSlot {
-        cell: Cell::Absent,
-        copy: ToldCopy {
-            view: 0,
-            position: 0,
-        },
-        reached: false,
-    };
-    vec![in alloc; nothing; numbering.shard_count() as usize]
-}
-
-/// Puts a shard's slot at its place.
-fn put_slot(found: &mut Vec<FoundSlot>, shard: ShardId, slot: FoundSlot)
-    ensures count { length found.new.items ≡ length found.old.items }
-    ensures slots { shard < length found.old.items
-        → (s : ℕ) → slot_in found.new.items s ≡ (if shard == s then slot else slot_in found.old.items s) }
-{
-    let place = shard.number() as usize;
-    if place < found.len() {
-        found[place] = slot;
-    }
-}
-
 /// Takes a slot: of a shard that has a number as it is told, and of any other the name, if the server has something
 /// of it.
 fn take_slot(
     alloc: Global,
     numbering: &Config,
     slot: &SlotText<'_>,
-    found: &mut Vec<FoundSlot>,
+    found: &mut FoundSlots,
     unknown_shards: &mut Vec<String>,
 ) -> Result<(), AllocError>
-    requires { length found.old.items ≡ length numbering.now.shards }
-    ensures count { OnOk result (length found.new.items ≡ length found.old.items) }
-    ensures slots { OnOk result ((s : ℕ) → slot_in found.new.items s
-        ≡ (if is_text_of numbering.now s slot.now then slot_told numbering.now slot.now else slot_in found.old.items
-        s)) }
+    requires { shards_in found.old ≡ length numbering.now.shards }
+    ensures count { OnOk result (shards_in found.new ≡ shards_in found.old) }
+    ensures slots { OnOk result ((s : ℕ) → slot_of found.new s
+        ≡ (if is_text_of numbering.now s slot.now then slot_told numbering.now slot.now else slot_of found.old s)) }
 {
     match numbering.shard_named(slot.shard) {
-        Some(shard) => put_slot(found, shard, slot_told(numbering, slot)),
+        Some(shard) => found.put(shard, slot_told(numbering, slot))?,
         None if slot.cell == CellKind::Absent => {}
         None => unknown_shards.push(String::from_str(alloc, slot.shard)?)?,
     }
@@ -136,7 +107,7 @@ pub(crate) fn told_by_slots(
     ensures fits { IfOk result (λ told. fits_told (length numbering.now.shards) (Some told.inventory) ≡ true) }
     ensures slots { IfOk result (λ told. HasEachSlot (slot_by numbering.now slots.now) told.inventory) }
 {
-    let mut found = no_slots(alloc, numbering)?;
+    let mut found = FoundSlots::nothing(alloc, numbering.shard_count())?;
     let mut unknown_shards = Vec::new(alloc);
     for slot in slots {
         take_slot(alloc, numbering, slot, &mut found, &mut unknown_shards)?;
