@@ -13,7 +13,15 @@ mod InForce
 mod Fresh
 mod Told
 mod CutsTold
+mod Crowns
+mod CrownsGoOn
+mod Records
+mod Spent
+mod LeadOrders
+mod LeadNumbers
+mod NumbersLater
 mod TakingOver
 mod Plays
 mod ReopenedPlays
 mod CutPlays
+mod LeadPlays

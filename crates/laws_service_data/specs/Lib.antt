@@ -4,6 +4,9 @@ pub mod Laws
 pub mod CutsTold
 pub mod Epochs
 pub mod Reopened
+pub mod LeadNumbers
+pub mod NumbersLater
 pub mod Plays
 pub mod ReopenedPlays
 pub mod CutPlays
+pub mod LeadPlays

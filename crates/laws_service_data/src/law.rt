@@ -1,6 +1,8 @@
 //! The laws.
 ghost use Rattle.laws_service_data.specs.CutsTold.{CutIsToldAsMade, TakesOverWithAll};
 ghost use Rattle.laws_service_data.specs.Epochs.{ExecutesOverReopenings, OpensAnew};
+ghost use Rattle.laws_service_data.specs.LeadNumbers.{LeadNumbersRise};
+ghost use Rattle.laws_service_data.specs.NumbersLater.{DutiesSuffice, NumbersAreLater, RulesSuffice, SettledSuffices};
 ghost use Rattle.laws_service_data.specs.Reopened.{ExecutesAsSettled, InForceIsSettled, SettledLeads};
 ghost use Rattle.laws_service_data.specs.Laws.{CutEndsWrites, ExecutesWithAll, JoinedOpens, ReachedCutHasAll, ServingLeads};
 
@@ -97,4 +99,35 @@ pub fn in_force_is_settled()
 {
     fleet_opens_in_force();
     opens_with_past();
+}
+
+/// States that of two orders by which a shard's primary ceases to be one, or a replica becomes one, the one that is
+/// committed later has the higher number.
+pub fn lead_numbers_rise()
+    ensures { LeadNumbersRise }
+{}
+
+/// States that when an order is committed by which a shard's primary ceases to be one, or a replica becomes one, its
+/// number is later than all that has made a view of the shard or ended a primary.
+pub fn numbers_are_later()
+    ensures { NumbersAreLater }
+{}
+
+/// States that servers that keep their duties, and all rules of data but that on orders' numbers, keep that, too.
+pub fn duties_suffice()
+    ensures { DutiesSuffice }
+{}
+
+/// States that this goes on over reopenings, if each fleet opens under a number that none of the shard's views and ends
+/// is above.
+pub fn rules_suffice()
+    ensures { RulesSuffice }
+{}
+
+/// States that so it does over reopenings that settle the shard.
+pub fn settled_suffices()
+    ensures { SettledSuffices }
+{
+    leads_where_led();
+    enough_replicas_have_them();
 }

@@ -5,11 +5,12 @@ mod law;
 mod play;
 
 pub use law::{
-    cut_ends_writes, cut_is_told_as_made, executes_as_settled, executes_over_reopenings,
-    executes_with_all, in_force_is_settled, joined_opens, opens_anew, reached_cut_has_all,
-    serving_server_leads, settled_server_leads, takes_over_with_all,
+    cut_ends_writes, cut_is_told_as_made, duties_suffice, executes_as_settled,
+    executes_over_reopenings, executes_with_all, in_force_is_settled, joined_opens,
+    lead_numbers_rise, numbers_are_later, opens_anew, reached_cut_has_all, rules_suffice,
+    serving_server_leads, settled_server_leads, settled_suffices, takes_over_with_all,
 };
 pub use play::{
-    former_serves_again, handover_cuts_at_end, handover_keeps_writes, primary_serves_on,
-    restart_keeps_writes, secondary_is_chosen,
+    former_serves_again, handover_cuts_at_end, handover_keeps_writes, lead_moves,
+    primary_serves_on, restart_keeps_writes, secondary_is_chosen,
 };

@@ -1,5 +1,6 @@
 //! Worked plays, computed by the definitions.
 ghost use Rattle.laws_service_data.specs.CutPlays.{HandoverCutsAtEnd};
+ghost use Rattle.laws_service_data.specs.LeadPlays.{LeadMoves};
 ghost use Rattle.laws_service_data.specs.Plays.{HandoverKeepsWrites, RestartKeepsWrites};
 ghost use Rattle.laws_service_data.specs.ReopenedPlays.{FormerServesAgain, PrimaryServesOn, SecondaryIsChosen};
 
@@ -35,4 +36,10 @@ pub fn former_serves_again()
 /// Shows that an old owner can make its cut at the end of its list, and the new one take over there.
 pub fn handover_cuts_at_end()
     ensures { HandoverCutsAtEnd }
+{}
+
+/// Shows that the premises can be met if no rule is on orders' numbers: a primary becomes a secondary, and its secondary
+/// the primary, by orders with later numbers.
+pub fn lead_moves()
+    ensures { LeadMoves }
 {}
