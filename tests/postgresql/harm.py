@@ -248,9 +248,6 @@ class Harm:
             time.sleep(self.fleet.frozen)
             self.fleet.agents[name].kill()
             self.fleet.posts[name].kill()
-            for pid in frozen:
-                with contextlib.suppress(OSError):
-                    os.kill(pid, signal.SIGKILL)
             self.reopen(name, at, 2 if self.fleet.copies > 1 else 0)
 
     def reopen(self, name, at, unnamed, tries=20):

@@ -1,9 +1,11 @@
 """PostgreSQL servers, their smplan-pg, and a controller, as processes on loopback. Whoever imports this ends them with itself, also if it is told to end."""
 import atexit
 import contextlib
+import itertools
 import json
 import os
 import pathlib
+import random
 import shutil
 import signal
 import socket
@@ -23,27 +25,58 @@ SETTINGS = {"shared_buffers": "64MB", "max_connections": "120", "max_wal_size": 
 TEMPLATES = sorted(pathlib.Path(os.environ["PG_TEMPLATES"]).iterdir()) if "PG_TEMPLATES" in os.environ else []
 
 
-# All processes that were started.
-STARTED = set()
+# All processes that were started, and what holds the ports that were chosen: of those below what connections get by themselves, and beside what cluster/ takes.
+STARTED, HELD, PORTS = set(), [], range(10_000, 20_000)
 
 
 @atexit.register
 def end_all():
-    """Kills what still runs."""
+    """Kills what still runs, and gives the ports back."""
     for it in STARTED:
         it.kill()
+    for it in HELD:
+        it.close()
 
 
 signal.signal(signal.SIGTERM, signal.default_int_handler)
 
 
-def free_ports(count):
-    """Ports that nobody has now."""
-    its = [socket.create_server(("127.0.0.1", 0)) for _ in range(count)]
-    ports = [it.getsockname()[1] for it in its]
-    for it in its:
+def hold(port):
+    """Whether a port is this process's from now on: no other one has chosen it, and nobody listens there."""
+    it = socket.socket(socket.AF_UNIX)
+    try:
+        it.bind(f"\0smplan-port-{port}")  # (a name of no file: it ends with this process, however that ends)
+        socket.create_server(("127.0.0.1", port)).close()
+    except OSError:
         it.close()
-    return ports
+        return False
+    HELD.append(it)
+    return True
+
+
+def free_ports(count):
+    """Ports that nobody has, nor gets by this until this process ends."""
+    chosen = list(itertools.islice(filter(hold, random.SystemRandom().sample(PORTS, len(PORTS))), count))
+    if len(chosen) < count:
+        raise SystemExit(f"there are no {count} free ports")
+    return chosen
+
+
+def processes_in(folder):
+    """The numbers of the processes that work in a folder."""
+    its, found = os.path.realpath(folder), []
+    for path in pathlib.Path("/proc").iterdir():
+        with contextlib.suppress(OSError):
+            if path.name.isdigit() and os.readlink(path / "cwd").removesuffix(" (deleted)") == its:
+                found.append(int(path.name))
+    return found
+
+
+def signal_all(pids, what):
+    """Sends a signal to all processes of some that are there."""
+    for it in pids:
+        with contextlib.suppress(ProcessLookupError):
+            os.kill(it, what)
 
 
 def as_postgres():
@@ -55,9 +88,11 @@ class Process:
     """A process that is started, killed and started again."""
 
     def __init__(self, name, words, log, **rest):
-        self.name, self.words, self.log, self.rest, self.process = name, words, log, rest, None
+        self.name, self.words, self.log, self.rest, self.process, self.may_start = name, words, log, rest, None, True
 
     def start(self):
+        if not self.may_start:
+            raise RuntimeError(f"{self.name} starts no more")
         with self.log.open("a") as log:
             self.process = subprocess.Popen(self.words, stdout=log, stderr=log, start_new_session=True, **self.rest)
         STARTED.add(self)
@@ -71,11 +106,12 @@ class Process:
             try:
                 self.process.wait(seconds)
             except subprocess.TimeoutExpired:
-                os.kill(self.process.pid, signal.SIGKILL)
-                self.process.wait()
+                self.kill()
 
     def kill(self):
-        self.stop(signal.SIGKILL)
+        if self.is_up():
+            self.process.kill()
+            self.process.wait()
 
 
 class Postgres(Process):
@@ -99,8 +135,29 @@ class Postgres(Process):
         return subprocess.Popen([str(BIN / "initdb"), "-D", str(self.data), "-A", "trust", "-U", "postgres", "-E", "UTF8", "--locale=C.UTF-8", "-N"],
                                 stdout=subprocess.DEVNULL, cwd=str(self.data.parent), **as_postgres())
 
+    def processes(self):
+        """All its processes that are there: the first one, and what that has started."""
+        return processes_in(self.data)
+
+    def kill(self):
+        """Kills all its processes, as if its machine went down. (A backend may outlive the first one, and nothing starts before it has ended: who makes a
+        stream waits for log that nobody writes any more.)"""
+        is_there = self.is_up()
+        super().kill()
+        while its := self.processes():
+            signal_all(its, signal.SIGKILL)
+            time.sleep(0.002)
+        if is_there:
+            self.forget_memory()
+
+    def forget_memory(self):
+        """Deletes the segment of memory by which a next start would know of its processes: else it stays for ever if there is none."""
+        with contextlib.suppress(OSError, LookupError):
+            segment = (self.data / "postmaster.pid").read_text().splitlines()[6].split()[1]
+            subprocess.run(["ipcrm", "-m", segment], stderr=subprocess.DEVNULL, check=False)
+
     def wait(self, seconds=120):
-        """Waits until it answers. (It does not start while what it had started before it was killed has not ended: it is started again then.)"""
+        """Waits until it answers."""
         until = time.monotonic() + seconds
         while True:
             try:
@@ -117,17 +174,12 @@ class Postgres(Process):
         """All its processes stand still."""
         stopped = [self.process.pid]
         try:
-            os.kill(self.process.pid, signal.SIGSTOP)
-            words = ["ps", "--ppid", str(self.process.pid), "-o", "pid="]
-            for it in subprocess.run(words, capture_output=True, text=True, check=True).stdout.split():
-                with contextlib.suppress(ProcessLookupError):
-                    os.kill(int(it), signal.SIGSTOP)
-                    stopped.append(int(it))
+            signal_all(stopped, signal.SIGSTOP)  # (first: it starts no more then)
+            stopped += [it for it in self.processes() if it not in stopped]
+            signal_all(stopped, signal.SIGSTOP)
             yield
         finally:
-            for it in reversed(stopped):
-                with contextlib.suppress(ProcessLookupError):
-                    os.kill(it, signal.SIGCONT)
+            signal_all(reversed(stopped), signal.SIGCONT)
 
     def query(self, statement, values=()):
         """All rows of a statement."""
@@ -160,25 +212,25 @@ class Fleet:
         self.folder.mkdir(parents=True)
         os.chmod(self.folder, 0o777)
         self.program = program or smpland()
-        ports = free_ports(3 * len(names) + controllers + 2)
-        self.pages = [f"http://127.0.0.1:{ports.pop()}" for _ in range(controllers)]
-        self.machines = {name: Postgres(self.folder, name, ports.pop(), shards, len(machines)) for name in machines}
+        free = free_ports(3 * len(names) + controllers + 2)
+        self.pages = [f"http://127.0.0.1:{free.pop()}" for _ in range(controllers)]
+        self.machines = {name: Postgres(self.folder, name, free.pop(), shards, len(machines)) for name in machines}
         self.posts = {name: Part(self.machines[name[0]], name) for name in names} if parts else self.machines
         for it in self.machines.values() if parts else ():
             it.words += ["-c", "max_connections=600"]
-        self.urls = {name: f"http://127.0.0.1:{ports.pop()}" for name in names}
+        self.urls = {name: f"http://127.0.0.1:{free.pop()}" for name in names}
         program = [str(ROOT / "ports/postgresql/smplan-pg")] if not bug else ["/usr/bin/python3", str(ROOT / "tests/postgresql/wrong.py"), bug]
         environment = {**os.environ, "PATH": f"{BIN}:{os.environ['PATH']}"}
         told = [word for it in self.pages for word in ("--controller", it)]
         self.agents = {name: Process(name, [*program, "serve", "--dsn", it.reach, "--name", name, "--http", self.urls[name], *told, *options],
                                      self.folder / f"serve-{name}.log", env=environment) for name, it in self.posts.items()}
-        shown = {name: f"http://127.0.0.1:{ports.pop()}" for name in names} if harm else self.urls
+        shown = {name: f"http://127.0.0.1:{free.pop()}" for name in names} if harm else self.urls
         self.proxied = {name: proxies.start(self.urls[name], int(url.rsplit(":", 1)[1]), harm, f"{seed} {name}") for name, url in shown.items()} if harm else {}
         self.map_files = [self.folder / f"map-{it}.json" for it in range(controllers)]
         for n, it in enumerate(self.map_files):
             fleet = {"servers": {name: {"number": 1 + n, "url": shown[name]} for n, name in enumerate(names)}, "map": {"file": str(it)}}
             (self.folder / f"fleet-{n}.json").write_text(json.dumps(fleet))
-        self.store = self.make_store(*ports) if controllers > 1 else None
+        self.store = self.make_store(*free[:2]) if controllers > 1 else None
         self.controllers = [self.make_controller(n, it) for n, it in enumerate(self.pages)]
 
     def make_store(self, client, peer):
@@ -295,11 +347,12 @@ class Fleet:
             return str(why)
 
     def close(self):
-        """Stops all."""
-        for it in [*self.controllers, *self.agents.values()]:
-            it.stop(seconds=5)
-        for it in [*self.machines.values(), *([self.store] if self.store else [])]:
-            it.stop(signal.SIGINT)
+        """Kills all, and lets nothing start any more, as harm may that goes on."""
+        its = [*self.controllers, *self.agents.values(), *self.machines.values(), *([self.store] if self.store else [])]
+        for it in its:
+            it.may_start = False
+        for it in its:
+            it.kill()
 
 
 def smpland():

@@ -1,0 +1,98 @@
+"""What storms of PostgreSQL stand on: servers that are killed whole, and ports of one run."""
+import contextlib
+import os
+import shutil
+import subprocess
+import tempfile
+import threading
+import time
+import unittest
+from pathlib import Path
+
+import servers
+import psycopg
+
+HERE = Path(__file__).resolve().parent
+
+
+class KilledTest(unittest.TestCase):
+    """A PostgreSQL server that is killed starts again at once, whatever ran there."""
+
+    def setUp(self):
+        self.folder = Path(tempfile.mkdtemp(prefix="pg-test-", dir="/dev/shm"))
+        self.addCleanup(shutil.rmtree, self.folder)
+        os.chmod(self.folder, 0o777)
+        self.post = servers.Postgres(self.folder, "a", servers.free_ports(1)[0], 20, 3)
+        self.assertEqual(self.post.make().wait(), 0)
+        self.addCleanup(self.post.kill)
+        self.post.start()
+        self.post.wait()
+        self.post.query("CREATE TABLE it (n int)")
+
+    def make_stream(self, c):
+        """Makes a stream, which ends with its server."""
+        with contextlib.suppress(psycopg.Error):
+            c.execute("SELECT pg_create_logical_replication_slot('it', 'pgoutput')")
+
+    def test_a_backend_that_makes_a_stream_ends_with_its_server(self):
+        writer, maker = psycopg.connect(self.post.reach), psycopg.connect(self.post.reach, autocommit=True)
+        backend = maker.info.backend_pid
+        writer.execute("INSERT INTO it VALUES (1)")
+        making = threading.Thread(target=self.make_stream, args=(maker,))
+        making.start()
+        while self.post.query("SELECT count(*) FROM pg_locks WHERE NOT granted") == [(0,)]:
+            time.sleep(0.01)
+        writer.commit()
+        servers.Process.kill(self.post)  # (the first process alone)
+        time.sleep(0.5)
+        outlived = self.post.processes()
+        self.post.kill()
+        making.join(5.0)
+        self.assertEqual((self.post.processes(), making.is_alive()), ([], False))
+        self.post.start()
+        self.post.wait(10)
+        self.assertIn(backend, outlived)
+        writer.close()
+        maker.close()
+
+    def test_all_its_processes_stand_still_and_go_on(self):
+        with self.post.still():
+            states = {Path(f"/proc/{it}/stat").read_text().rsplit(")", 1)[1].split()[0] for it in self.post.processes()}
+        self.assertEqual(states, {"T"})
+        self.assertEqual(self.post.query("SELECT 1"), [(1,)])
+
+    def test_nothing_starts_behind_the_end(self):
+        self.post.may_start = False
+        self.post.kill()
+        with self.assertRaisesRegex(RuntimeError, "a starts no more"):
+            self.post.wait(5)
+        self.assertEqual(self.post.processes(), [])
+
+
+class PortsTest(unittest.TestCase):
+    """Two processes never choose one port, as long as both are there."""
+
+    CHOOSE = "import servers, sys; print(*servers.free_ports(int(sys.argv[1])), flush=True); sys.stdin.read()"
+
+    def choosing(self, count):
+        """A process that chooses ports, and ends with its input."""
+        words = ["/usr/bin/python3", "-c", self.CHOOSE, str(count)]
+        return subprocess.Popen(words, cwd=HERE, stdin=subprocess.PIPE, stdout=subprocess.PIPE, text=True)
+
+    def test_two_that_choose_at_once(self):
+        with self.choosing(400) as one, self.choosing(400) as other:
+            its = [*one.stdout.readline().split(), *other.stdout.readline().split()]
+            self.assertEqual((len(its), len(set(its))), (800, 800))
+            self.assertFalse(any(servers.hold(int(it)) for it in its))
+            one.stdin.close()
+            one.wait()
+            self.assertTrue(servers.hold(int(its[0])))
+            other.stdin.close()
+
+    def test_below_what_connections_get(self):
+        lowest = int(Path("/proc/sys/net/ipv4/ip_local_port_range").read_text().split()[0])
+        self.assertLessEqual(servers.PORTS.stop, lowest)
+
+
+if __name__ == "__main__":
+    unittest.main()
