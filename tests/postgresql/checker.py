@@ -4,6 +4,7 @@ import re
 import time
 from collections import Counter, defaultdict
 
+import clock
 import psycopg
 
 LITTLE = "clients wrote next to nothing"
@@ -12,14 +13,15 @@ LITTLE = "clients wrote next to nothing"
 REFUSED = (psycopg.errors.lookup("57P04"), psycopg.errors.UndefinedTable)
 
 
-def lasting(look, until):
-    """What is wrong, and is so until a time."""
+def lasting(look, seconds):
+    """What is wrong, and is so for some seconds of the clock."""
+    until = clock.now() + seconds
     while True:
         try:
             wrong = look()
         except (psycopg.Error, OSError, LookupError, ValueError) as why:
             wrong = [f"{type(why).__name__} {why}".strip()]
-        if not wrong or time.monotonic() > until:
+        if not wrong or clock.now() > until:
             return wrong
         time.sleep(0.2)
 
@@ -37,10 +39,11 @@ def acknowledged(folder):
     return by_shard, notes
 
 
-def is_told_wrong(folder):
-    """Whether a client has noted something else than that it was not served."""
-    texts = (path.read_text() for path in folder.glob("acknowledged-*.jsonl"))
-    return any('"fault ' in it or '"other reply"' in it for it in texts)
+def told_wrong(folder):
+    """What clients have noted, except that they were not served."""
+    lines = (line for path in folder.glob("acknowledged-*.jsonl") for line in path.read_text().rpartition("\n")[0].splitlines())
+    rows = (json.loads(it) for it in lines if '"fault ' in it or '"other reply"' in it)
+    return [f"{row[1]}: {row[4]}" for row in rows]
 
 
 def plain_faults(fleet, shard, owner, losses):
@@ -110,9 +113,9 @@ def leftovers(fleet, names, shards):
                                                            "WHERE nspname NOT LIKE 'sm\\_aside%'")}
         if schemas != has:
             wrong.append(f"{name}: schemas {sorted(schemas)}, has {sorted(has)}")
-        count = fleet.posts[name].query("SELECT count(*) FROM pg_subscription JOIN pg_database d ON d.oid = subdbid WHERE datname = current_database()")[0][0]
-        if count != len(has - primary):
-            wrong.append(f"{name}: {count} subscriptions for {len(has - primary)} secondaries")
+        told = fleet.posts[name].query("SELECT subname FROM pg_subscription JOIN pg_database d ON d.oid = subdbid WHERE datname = current_database() ORDER BY 1")
+        if len(told) != len(has - primary):
+            wrong.append(f"{name}: {len(told)} subscriptions for {len(has - primary)} secondaries: {', '.join(it for (it,) in told)}")
         streams = [it for (it,) in fleet.posts[name].query("SELECT slot_name FROM pg_replication_slots WHERE database = current_database() ORDER BY 1")]
         wanted = sum(len(shards[shard]) - 1 for shard in primary)
         if len(streams) != wanted:
@@ -182,14 +185,15 @@ def check(fleet, wanted, least=100, alive=None, losses=()):
     wrong += notes
     if sum(len(it) for it in by_shard.values()) < least:
         wrong.append(LITTLE)
-    until = time.monotonic() + fleet.patience / 4 + 2 * fleet.dead  # (replication and the map's files may be late; streams that nobody reads are dropped by then)
-    wrong += lasting(lambda: map_faults(fleet, wanted, names), until)
+    seconds = fleet.patience / 4 + 2 * fleet.dead  # (replication and the map's files may be late; streams that nobody reads are dropped by then)
+    wrong += lasting(lambda: map_faults(fleet, wanted, names), seconds)
     shards = cells_of(fleet)
     for shard, cells in shards.items():
         owner = primary_of(cells)
         if owner is not None:
             wrong += lasting(lambda: plain_faults(fleet, shard, owner, losses) + shard_faults(fleet, shard, owner, by_shard[shard]), 0)
-            until = 0 if wrong else until  # (nothing has to be waited for then)
-            wrong += lasting(lambda: replica_faults(fleet, shard, cells), until)
-            wrong += lasting(lambda: guard_faults(fleet, shard, owner, names), until)
-    return wrong + lasting(lambda: leftovers(fleet, names, shards), 0 if wrong else until), by_shard
+            seconds = 0 if wrong else seconds  # (nothing has to be waited for then)
+            wrong += lasting(lambda: replica_faults(fleet, shard, cells), seconds)
+            wrong += lasting(lambda: guard_faults(fleet, shard, owner, names), seconds)
+    seconds = 0 if wrong else seconds
+    return wrong + [f"not within {seconds:.0f} s: {it}" for it in lasting(lambda: leftovers(fleet, names, shards), seconds)], by_shard

@@ -14,6 +14,7 @@ from collections import Counter
 from pathlib import Path
 
 import checker
+import clock
 from harm import KINDS, Harm
 from servers import Fleet
 from share import Share
@@ -119,11 +120,12 @@ class Run:
             except Exception as why:  # pylint: disable=broad-exception-caught
                 self.say("harm", kind, type(why).__name__, why)
 
-    def moves(self, until):
-        """Drains one server after the other, and repairs what shards lack."""
-        begun, loses, done = time.time(), self.told.lose, 0
-        while not self.is_over() and (time.time() < until or loses or (done < self.told.drains and time.time() < begun + self.told.patience)):
-            if loses and time.time() >= begun + (until - begun) * self.told.lose_at:
+    def moves(self, seconds):
+        """Drains one server after the other for a while, and repairs what shards lack."""
+        begun, loses, done = clock.now(), self.told.lose, 0
+        until = begun + seconds
+        while not self.is_over() and (clock.now() < until or loses or (done < self.told.drains and clock.now() < begun + self.told.patience)):
+            if loses and clock.now() >= begun + seconds * self.told.lose_at:
                 name = self.serving()
                 (self.harm.lose_alone if self.told.alone else self.harm.lose)(name)
                 self.repair()
@@ -142,16 +144,19 @@ class Run:
             words = ["drain", name, "--batch", "2", "--pause", "0.2", "--stop", "20"] + (["--prefer-secondary"] if self.dice.random() < self.told.roles else [])
             self.say(*words[:2], *(words[8:]))
             at = time.time()
-            status = self.command(*words, seconds=self.told.patience if self.told.drains else max(5.0, min(until - time.time() + 10, self.told.seconds / 3)))
+            status = self.command(*words, seconds=self.told.patience if self.told.drains else max(5.0, min(until - clock.now() + 10, self.told.seconds / 3)))
             done += status == 0
             self.say(f"drain of {name} ended with {status}")
             self.spans.setdefault("drains", []).append((at, time.time()))
 
+    def found(self):
+        """What is wrong already, and no time mends."""
+        return self.harm.wrong + checker.conflicts(self.fleet.folder) + checker.told_wrong(self.fleet.folder)
+
     def is_over(self):
         """Whether something is wrong already that no time mends, as was seen within the last second."""
         if time.monotonic() > self.looked + 1.0:
-            folder, self.looked = self.fleet.folder, time.monotonic()
-            self.is_wrong = bool(self.harm.wrong or checker.conflicts(folder)) or checker.is_told_wrong(folder)
+            self.looked, self.is_wrong = time.monotonic(), bool(self.found())
         return self.is_wrong
 
     def lead_away(self, name):
@@ -159,8 +164,8 @@ class Run:
         asked = self.fleet.folder / "restart"
         process = self.fleet.command("restart", name, "--no-primaries", "--by", "storm", "--yes", "--wait", "20", "--", "sh", "-c",
                                      f"touch {asked}; while [ -e {asked} ]; do sleep 0.05; done")
-        until = time.monotonic() + self.told.patience
-        while process.poll() is None and time.monotonic() < until and not self.is_over():
+        until = clock.now() + self.told.patience
+        while process.poll() is None and clock.now() < until and not self.is_over():
             if asked.exists():
                 with self.harm.lock:
                     self.fleet.posts[name].kill()
@@ -194,8 +199,8 @@ class Run:
 
     def command(self, *words, seconds=60.0):
         """Runs a command of an operator for a while, unless something is wrong."""
-        process, until = self.fleet.command(*words), time.monotonic() + seconds
-        while time.monotonic() < until and not self.is_over():
+        process, until = self.fleet.command(*words), clock.now() + seconds
+        while clock.now() < until and not self.is_over():
             try:
                 return process.wait(0.5)
             except subprocess.TimeoutExpired:
@@ -246,7 +251,7 @@ class Run:
         harms = threading.Thread(target=self.harms) if self.told.harm else None
         if harms:
             harms.start()
-        self.moves(time.time() + self.told.seconds)
+        self.moves(self.told.seconds)
         self.stopping.set()
         if harms:
             harms.join()

@@ -13,6 +13,7 @@ import subprocess
 import sys
 import time
 
+import clock
 import psycopg
 import proxies
 
@@ -158,12 +159,12 @@ class Postgres(Process):
 
     def wait(self, seconds=120):
         """Waits until it answers."""
-        until = time.monotonic() + seconds
+        until = clock.now() + seconds
         while True:
             try:
                 return psycopg.connect(self.reach, connect_timeout=30).close()
             except psycopg.Error:
-                if time.monotonic() > until:
+                if clock.now() > until:
                     raise TimeoutError(f"not within {seconds:g} s: {self.name} comes up (see {self.log})") from None
                 if not self.is_up():
                     self.start()
@@ -328,8 +329,8 @@ class Fleet:
         """Waits for something; ends the run if it does not come."""
         from smplan.failure import Failure
         seconds = seconds or self.patience
-        until = time.monotonic() + seconds
-        while time.monotonic() < until:
+        until = clock.now() + seconds
+        while clock.now() < until:
             try:
                 if condition():
                     return

@@ -1,16 +1,22 @@
-"""What storms of PostgreSQL stand on: servers that are killed whole, and ports of one run."""
+"""What storms of PostgreSQL stand on: servers that are killed whole, ports of one run, and a clock."""
 import contextlib
+import json
 import os
 import shutil
+import signal
 import subprocess
 import tempfile
 import threading
 import time
 import unittest
 from pathlib import Path
+from unittest import mock
 
+import checker
+import clock
 import servers
 import psycopg
+import writers
 
 HERE = Path(__file__).resolve().parent
 
@@ -92,6 +98,57 @@ class PortsTest(unittest.TestCase):
     def test_below_what_connections_get(self):
         lowest = int(Path("/proc/sys/net/ipv4/ip_local_port_range").read_text().split()[0])
         self.assertLessEqual(servers.PORTS.stop, lowest)
+
+
+class ClockTest(unittest.TestCase):
+    """What is waited for is waited for as long as this process runs."""
+
+    WAIT = ("import checker, clock; clock.STEP = 0.5; print('waits', flush=True); "
+            "print(len(checker.lasting(lambda: [1], 3)), flush=True)")
+
+    def test_a_time_in_which_nobody_looks_counts_little(self):
+        times = iter([10.0, 11.0, 200.0, 203.0])
+        it = clock.Clock(lambda: next(times))
+        self.assertEqual([it.now(), it.now(), it.now()], [1.0, 1.0 + clock.STEP, 4.0 + clock.STEP])
+
+    def test_a_process_that_is_stopped_waits_as_long_behind_it(self):
+        with subprocess.Popen(["/usr/bin/python3", "-c", self.WAIT], cwd=HERE, stdout=subprocess.PIPE, text=True) as process:
+            self.assertEqual(process.stdout.readline(), "waits\n")
+            process.send_signal(signal.SIGSTOP)
+            time.sleep(5.0)
+            begun = time.monotonic()
+            process.send_signal(signal.SIGCONT)
+            self.assertEqual(process.stdout.readline(), "1\n")
+            self.assertGreater(time.monotonic() - begun, 1.0)
+
+
+class NotServedTest(unittest.TestCase):
+    """A request that was not served in time is sent again if its client stood still meanwhile."""
+
+    def sent(self, passed):
+        """What comes of a request that is not served at first, if so much time has passed by then."""
+        router, times = mock.Mock(), iter([0.0, passed])
+        router.run.side_effect = [writers.NotServed("late"), "done"]
+        writer = writers.Writer(None, router, {"patience": 60.0}, "s0", "s0-0-0", 0.1)
+        with mock.patch.object(clock, "now", lambda: next(times)):
+            return writer.patient("s0-0-0-1", 1, 2)
+
+    def test_it_stood_still(self):
+        self.assertEqual(self.sent(9.0), "done")
+
+    def test_it_waited_for_all_of_its_patience(self):
+        with self.assertRaises(writers.NotServed):
+            self.sent(59.5)
+
+
+class ToldTest(unittest.TestCase):
+    """What clients have noted is wrong, unless they were not served, or still write it."""
+
+    def test_lines_of_clients(self):
+        with tempfile.TemporaryDirectory() as folder:
+            rows = [["s0", "s0-1", 1, 2, 3, 0.0, 1.0], ["s0", "s0-2", 1, 2, "not served", 0.0, 1.0], ["s0", "s0-3", 1, 2, "other reply", 0.0, 1.0]]
+            Path(folder, "acknowledged-0.jsonl").write_text("".join(json.dumps(it) + "\n" for it in rows) + '["s0", "s0-4", 1, 2, "fault It')
+            self.assertEqual(checker.told_wrong(Path(folder)), ["s0-3: other reply"])
 
 
 if __name__ == "__main__":

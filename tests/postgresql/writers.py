@@ -14,6 +14,7 @@ import threading
 import time
 from pathlib import Path
 
+import clock
 import servers  # (it makes the packages be found)
 import psycopg
 from smplan_pg.router import NotServed, Router
@@ -53,7 +54,7 @@ class Writer:
             request, account, delta = f"{self.name}-{number}", dice.randrange(1, self.setup["rows"] + 1), dice.randrange(-99, 100)
             begun = time.time()
             try:
-                reply = self.router.run(self.shard, request, transfer(request, account, delta))
+                reply = self.patient(request, account, delta)
             except NotServed:
                 log([self.shard, request, account, delta, "not served", begun, time.time()])
                 continue
@@ -71,6 +72,17 @@ class Writer:
                 except NotServed:
                     pass
             time.sleep(random.random() * 2 * self.rest)
+
+
+    def patient(self, request, account, delta):
+        """A request's reply; once more if it was not served within a time in which this process stood still."""
+        until = clock.now() + self.setup["patience"]
+        while True:
+            try:
+                return self.router.run(self.shard, request, transfer(request, account, delta))
+            except NotServed:
+                if clock.now() >= until - clock.STEP:
+                    raise
 
 
 class PlainWriter:
