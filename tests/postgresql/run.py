@@ -255,6 +255,8 @@ class Run:
         self.stopping.set()
         if harms:
             harms.join()
+        if self.told.bug and (found := self.found()):
+            return found
         stuck = []
         try:
             self.settle()

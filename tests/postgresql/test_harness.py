@@ -1,4 +1,4 @@
-"""What storms of PostgreSQL stand on: servers that are killed whole, ports of one run, and a clock."""
+"""What storms of PostgreSQL stand on: servers that are killed whole, ports of one run, a clock, and the table of wrong versions."""
 import contextlib
 import json
 import os
@@ -16,6 +16,7 @@ import checker
 import clock
 import servers
 import psycopg
+import trials
 import writers
 
 HERE = Path(__file__).resolve().parent
@@ -149,6 +150,55 @@ class ToldTest(unittest.TestCase):
             rows = [["s0", "s0-1", 1, 2, 3, 0.0, 1.0], ["s0", "s0-2", 1, 2, "not served", 0.0, 1.0], ["s0", "s0-3", 1, 2, "other reply", 0.0, 1.0]]
             Path(folder, "acknowledged-0.jsonl").write_text("".join(json.dumps(it) + "\n" for it in rows) + '["s0", "s0-4", 1, 2, "fault It')
             self.assertEqual(checker.told_wrong(Path(folder)), ["s0-3: other reply"])
+
+
+class TrialsTest(unittest.TestCase):
+    """Runs of wrong versions are made once, and each counts in the table."""
+
+    SAID = "harm: {}\nverdict: 1 violations (seed 2)\n  s0-0-0-17 was acknowledged and is lost\n  s0: replicas differ: {}\n"
+
+    def setUp(self):
+        self.folder = Path(tempfile.mkdtemp(prefix="pg-test-"))
+        self.addCleanup(shutil.rmtree, self.folder)
+        self.path = self.folder / "results.jsonl"
+        self.its = [trials.Trial("moves", "", 1), trials.Trial("moves", "no_lock", 1), trials.Trial("moves", "no_lock", 2)]
+
+    def results(self, text="one"):
+        return trials.Results(self.path, text)
+
+    def result(self, verdict, said=""):
+        return trials.Result(verdict, said, 12.3, 4.0)
+
+    def test_a_verdict(self):
+        self.assertEqual(trials.verdict_of(1, self.SAID)[0], "found")
+        self.assertEqual(trials.verdict_of(0, "verdict: 0 violations (seed 2)"), ("clean", ""))
+        for status, said in ((4, self.SAID), (-9, self.SAID), (1, "Traceback"), (1, "verdict: 1\n  not within 60 s: all secondaries are copied")):
+            self.assertEqual(trials.verdict_of(status, said)[0], "none", said)
+
+    def test_which_check_found_it(self):
+        self.assertEqual(trials.check_of(trials.verdict_of(1, self.SAID)[1])[1], "L")
+        self.assertEqual(trials.check_of("not within 60 s: the service is at rest")[1], "W")
+        self.assertEqual(trials.check_of("what nobody expects"), trials.OTHER)
+
+    def test_what_stands_in_the_file_is_not_made_again(self):
+        self.results().put(self.its[0], self.result("clean"))
+        self.results("another").put(self.its[1], self.result("found", "x"))
+        with self.path.open("a") as file:
+            file.write('{"text": "one", "tri')
+        self.assertEqual(self.results().found, {self.its[0]: self.result("clean")})
+
+    def test_a_run_without_a_verdict_has_found_nothing(self):
+        results = self.results()
+        for it, verdict in zip(self.its, ("clean", "found", "none")):
+            results.put(it, self.result(verdict, "s0-1 was executed 2 times" if verdict == "found" else ""))
+        self.assertFalse(trials.is_good(self.its, results))
+        self.assertTrue(trials.is_good(self.its[:2], results))
+        lines = trials.table_of(self.its, results)
+        self.assertEqual([it.split() for it in lines[1:3]], ["sound moves ok 12 - 1 of 1".split(), "no_lock X 12 none 12 1 of 2".split()])
+        self.assertIn("X: a request was executed twice", lines[3])
+
+    def test_a_run_that_was_not_made_is_not_good(self):
+        self.assertFalse(trials.is_good(self.its, self.results()))
 
 
 if __name__ == "__main__":

@@ -1,16 +1,15 @@
 """Wrong versions of smplan-pg, each of which breaks a rule: `wrong.py BUG COMMAND ..` runs one, `wrong.py` alone tries that each is found by a run.
 
-    wrong.py [--seeds 3] [--first 1] [--only BUG ..]     each bug in a run whose harm brings the situation that its rule is about, and sound runs with the same
-                                                         seeds and harm, which are clean; tells how many of how many found it
+    wrong.py [--seeds 3] [--first 1] [--jobs 1] [--results FILE] [--only BUG ..]
+
+Each bug in a run whose harm brings the situation that its rule is about, and sound runs with the same seeds and harm, which are clean. A table tells which check
+found it, and how soon; called again, it makes the runs alone that FILE does not have.
 """
 import argparse
 import dataclasses
-import os
-import subprocess
 import sys
 import tempfile
 import time
-from concurrent.futures import ThreadPoolExecutor
 from pathlib import Path
 
 HERE = Path(__file__).resolve().parent
@@ -165,62 +164,20 @@ def plant(name):
     BUGS[name][0]()
 
 
-def run(kind, bug, seed, told):
-    """Whether a run is clean; none if it has no verdict, as on a machine that is too slow; and what it said."""
-    words = ["/usr/bin/python3", str(HERE / "run.py"), "", "--quiet", "--seed", str(seed), "--patience", str(told.patience), "--servers", "3", "--shards", "3",
-             "--rows", str(told.rows), "--writers", "1", "--rest", "0.06", "--every", "0.5", "--copies", "1", "--bug", bug, *(["--strict"] if bug else []), *RUNS[kind][0],
-             "--harm", *(BUGS[bug][2:] if bug else RUNS[kind][1])]
-    with tempfile.TemporaryDirectory(prefix="pg-wrong-", dir="/dev/shm", ignore_cleanup_errors=True) as folder:
-        os.chmod(folder, 0o711)
-        with subprocess.Popen([*words[:2], folder + "/run", *words[3:]], stdout=subprocess.PIPE, stderr=subprocess.STDOUT, text=True) as process:
-            try:
-                said = process.communicate(timeout=900)[0]
-            except subprocess.TimeoutExpired:
-                process.terminate()  # (it ends what it has started)
-                process.wait()
-                return None, "no end"
-    lines = said.strip().splitlines()
-    at = next((n for n, it in enumerate(lines) if it.startswith("verdict")), None)
-    if at is None or "secondaries are copied" in said.split("verdict")[1]:
-        return None, said.strip()[-300:]
-    harm = next(it for it in lines if it.startswith("harm:"))
-    return {0: True, 1: False}.get(process.returncode), (" ".join(it.strip() for it in lines[at + 1:at + 3]) or harm)[:200]
+def words_of(kind, bug, seed, told):
+    """The words of a run."""
+    harm = BUGS[bug][2:] if bug else RUNS[kind][1]
+    return ["--quiet", "--seed", str(seed), "--patience", str(told.patience), "--servers", "3", "--shards", "3", "--rows", str(told.rows), "--writers", "1",
+            "--rest", "0.06", "--every", "0.5", "--copies", "1", "--bug", bug, *(["--strict"] if bug else []), *RUNS[kind][0], "--harm", *harm]
 
 
-def run_again(*its):
-    """A run; another one if it has no verdict."""
-    told = run(*its)
-    return run(*its) if told[0] is None else told
-
-
-class Trials:
-    """Runs with and without bugs, and what they said."""
-
-    def __init__(self, told):
-        self.told, self.sound, self.found = told, {}, {}
-
-    def runs(self):
-        """All runs: their kind, bug and seed. The sound run of a kind and seed is made once."""
-        for seed in range(self.told.first, self.told.first + self.told.seeds):
-            for kind in dict.fromkeys(BUGS[it][1] for it in self.told.only):
-                if not self.told.without_sound:
-                    yield kind, "", seed
-                yield from ((kind, bug, seed) for bug in self.told.only if BUGS[bug][1] == kind)
-
-    def make(self, it):
-        """Makes one run, and tells of it."""
-        (kind, bug, seed), told = it, run_again(*it, self.told)
-        (self.found.setdefault(bug, []) if bug else self.sound.setdefault(kind, [])).append(told[0])
-        words = {True: "clean", False: "violations", None: "no verdict"}[told[0]]
-        print(f"{'ok  ' if told[0] is (not bug) else 'BAD '} {bug or 'sound'} ({kind}, seed {seed}, load {os.getloadavg()[0]:.0f}): {words} {told[1]}\n", end="", flush=True)
-
-    def is_good(self):
-        """Whether nine of ten runs found each bug, and all sound runs were clean. Tells the sums."""
-        for name, its in self.sound.items():
-            print(f"sound {name}: {its.count(True)} of {len(its)} clean")
-        for name, its in self.found.items():
-            print(f"{name}: found in {its.count(False)} of {len(its)}")
-        return all(all(its) for its in self.sound.values()) and all(10 * its.count(False) >= 9 * len(its) for its in self.found.values())
+def runs_of(told):
+    """All runs that are asked for, seed by seed: kind, bug and seed. The sound run of a kind and seed is that of all bugs of this kind."""
+    for seed in range(told.first, told.first + told.seeds):
+        for kind in dict.fromkeys(BUGS[it][1] for it in told.only):
+            if not told.without_sound:
+                yield kind, "", seed
+            yield from ((kind, bug, seed) for bug in told.only if BUGS[bug][1] == kind)
 
 
 def main():
@@ -228,19 +185,23 @@ def main():
         plant(sys.argv[1])
         from smplan_pg.command_line import main as command
         sys.exit(command(sys.argv[2:]))
+    import trials
     parser = argparse.ArgumentParser()
     parser.add_argument("--seeds", type=int, default=3)
     parser.add_argument("--first", type=int, default=1, help="the first seed")
     parser.add_argument("--jobs", type=int, default=1, help="so many runs at once")
+    parser.add_argument("--results", type=Path, default=Path("/tmp/wrong-results.jsonl"), help="the file of results: what stands there is not run again")
+    parser.add_argument("--kept", type=Path, help="where logs of runs that did not end as they should are kept")
     parser.add_argument("--patience", type=float, default=60)
+    parser.add_argument("--longest", type=float, default=600, help="a run that has not ended within so many seconds has no verdict")
     parser.add_argument("--rows", type=int, default=1000)
     parser.add_argument("--without-sound", action="store_true", help="do not make the sound runs")
     parser.add_argument("--only", nargs="*", default=list(BUGS))
     told = parser.parse_args()
-    trials = Trials(told)
-    with ThreadPoolExecutor(told.jobs) as pool:
-        list(pool.map(trials.make, trials.runs()))
-    sys.exit(0 if trials.is_good() else 1)
+    its, results = [trials.Trial(*it) for it in runs_of(told)], trials.Results(told.results, trials.text_of(HERE.parents[1] / "ports/postgresql"))
+    trials.make_all(its, results, lambda it: words_of(it.kind, it.bug, it.seed, told), told.jobs, told.longest, told.kept)
+    print(*trials.table_of(its, results), sep="\n", flush=True)
+    sys.exit(0 if trials.is_good(its, results) else 1)
 
 
 if __name__ == "__main__":
