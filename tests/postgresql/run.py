@@ -124,7 +124,7 @@ class Run:
         """Drains one server after the other for a while, and repairs what shards lack."""
         begun, loses, done = clock.now(), self.told.lose, 0
         until = begun + seconds
-        while not self.is_over() and (clock.now() < until or loses or (done < self.told.drains and clock.now() < begun + self.told.patience)):
+        while not self.is_over() and (clock.now() < until or loses or (clock.now() < begun + self.told.patience and (done < self.told.drains or self.lacks_harm()))):
             if loses and clock.now() >= begun + seconds * self.told.lose_at:
                 name = self.serving()
                 (self.harm.lose_alone if self.told.alone else self.harm.lose)(name)
@@ -144,10 +144,18 @@ class Run:
             words = ["drain", name, "--batch", "2", "--pause", "0.2", "--stop", "20"] + (["--prefer-secondary"] if self.dice.random() < self.told.roles else [])
             self.say(*words[:2], *(words[8:]))
             at = time.time()
-            status = self.command(*words, seconds=self.told.patience if self.told.drains else max(5.0, min(until - clock.now() + 10, self.told.seconds / 3)))
+            is_patient = self.told.drains or self.told.each
+            status = self.command(*words, seconds=self.told.patience if is_patient else max(5.0, min(until - clock.now() + 10, self.told.seconds / 3)))
             done += status == 0
             self.say(f"drain of {name} ended with {status}")
             self.spans.setdefault("drains", []).append((at, time.time()))
+
+    def lacks_harm(self):
+        """Whether a kind of harm has not come as often as it has to."""
+        came = Counter()
+        for what, count in list(self.harm.counts.items()):
+            came[what.split(":")[0]] += count
+        return any(came[it] < self.told.each for it in self.told.harm)
 
     def found(self):
         """What is wrong already, and no time mends."""
@@ -309,6 +317,7 @@ def arguments():
     parser.add_argument("--messages", type=float, default=0.0, help="the share of messages that are lost, late or doubled")
     parser.add_argument("--every", type=float, default=2.0, help="the longest rest between two harms, in seconds")
     parser.add_argument("--most", type=int, default=10000, help="so many harms come at most")
+    parser.add_argument("--each", type=int, default=0, help="each kind of harm has to come so often, however long it takes")
     parser.add_argument("--controllers", type=int, default=1, help="several are over etcd")
     parser.add_argument("--databases", type=int, default=0, help="so many databases of each PostgreSQL are the servers, one for each shard (at least --shards)")
     parser.add_argument("--plain", type=float, default=0.0, help="a client that knows nothing of shards for each, and for how long it leaves a transaction open")

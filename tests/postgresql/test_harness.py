@@ -10,10 +10,12 @@ import threading
 import time
 import unittest
 from pathlib import Path
+from types import SimpleNamespace
 from unittest import mock
 
 import checker
 import clock
+import run
 import servers
 import psycopg
 import trials
@@ -150,6 +152,15 @@ class ToldTest(unittest.TestCase):
             rows = [["s0", "s0-1", 1, 2, 3, 0.0, 1.0], ["s0", "s0-2", 1, 2, "not served", 0.0, 1.0], ["s0", "s0-3", 1, 2, "other reply", 0.0, 1.0]]
             Path(folder, "acknowledged-0.jsonl").write_text("".join(json.dumps(it) + "\n" for it in rows) + '["s0", "s0-4", 1, 2, "fault It')
             self.assertEqual(checker.told_wrong(Path(folder)), ["s0-3: other reply"])
+
+
+class EachTest(unittest.TestCase):
+    """A run that is about a situation goes on until that has come."""
+
+    def test_each_kind_of_harm(self):
+        for counts, each, lacks in (({}, 0, False), ({"cut: server": 1, "cut: side": 1}, 1, True), ({"cut: server": 1, "leave": 1}, 1, False), ({"leave": 2}, 1, True)):
+            it = SimpleNamespace(harm=SimpleNamespace(counts=counts), told=SimpleNamespace(each=each, harm=["cut", "leave"]))
+            self.assertEqual(run.Run.lacks_harm(it), lacks, counts)
 
 
 class TrialsTest(unittest.TestCase):

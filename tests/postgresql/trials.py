@@ -131,16 +131,16 @@ class Runner:
                 with self.lock:
                     self.running.add(process)
                 try:
-                    said = process.communicate(timeout=self.patience)[0]
-                    verdict, said = verdict_of(process.returncode, said)
+                    all_said = process.communicate(timeout=self.patience)[0]
+                    verdict, said = verdict_of(process.returncode, all_said)
                 except subprocess.TimeoutExpired:
                     process.terminate()  # (it ends what it has started)
-                    said = f"no end within {self.patience:g} s: {process.communicate()[0]}"
-                    verdict = "none"
+                    all_said = process.communicate()[0]
+                    verdict, said = "none", f"no end within {self.patience:g} s"
                 with self.lock:
                     self.running.discard(process)
             if self.kept and not trial.is_good(verdict):
-                self.keep(Path(folder) / "run", trial, said)
+                self.keep(Path(folder) / "run", trial, all_said)
         return Result(verdict, said, round(time.monotonic() - begun, 1), round(os.getloadavg()[0], 1))
 
     def keep(self, folder, trial, said):

@@ -142,10 +142,10 @@ def copied():
 # The runs, by what comes in them, and the harm of a sound one. Harm that waits for a moment brings the situation in each run, not by chance. A run with a bug
 # has to come to rest in time, as the sound one with its seed did.
 RUNS = {
-    "moves": (["--seconds", "3", "--drains", "1", "--at-one", "--roles", "0", "--plain", "0.05", "--late", "5"], ["ddl", "late stream", "late copy", "late commit"]),
+    "moves": (["--seconds", "3", "--drains", "1", "--each", "1", "--at-one", "--roles", "0", "--plain", "0.05", "--late", "5"], ["ddl", "late stream", "late copy", "late commit"]),
     "loss": (["--servers", "4", "--wide", "--at-one", "--lose", "1", "--lose-at", "0", "--no-disk", "--frozen", "4", "--seconds", "1"], []),
-    "cuts": (["--seconds", "3", "--drains", "1", "--at-one", "--roles", "0", "--most", "3"], ["cut"]),
-    "leave": (["--servers", "4", "--seconds", "20", "--at-one", "--roles", "0", "--most", "1"], ["leave"]),
+    "cuts": (["--seconds", "3", "--drains", "1", "--each", "1", "--at-one", "--roles", "0", "--most", "3"], ["cut"]),
+    "leave": (["--servers", "4", "--seconds", "3", "--each", "1", "--at-one", "--roles", "0", "--most", "1"], ["leave"]),
     "alone": (["--at-one", "--lose", "1", "--lose-at", "0", "--no-disk", "--alone", "--copies", "2", "--seconds", "1", "--least", "30"], []),
     "back": (["--seconds", "3", "--drains", "1", "--at-one", "--back", "1", "--dead", "30", "--option=--stalled=300"], []),
 }
