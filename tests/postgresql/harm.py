@@ -17,7 +17,7 @@ LEAVES = "SELECT party FROM sm.leaving JOIN sm.slots USING (shard), sm.state, pg
 # When a moment has come to a server; `drop`: a schema is dropped in a transaction that has not ended, or an old owner's is about to be. A cut has a name, so
 # that each is struck once, and a handover gets on.
 MOMENTS = {
-    "copy": "SELECT EXISTS (SELECT FROM pg_subscription_rel WHERE srsubstate <> 'r')",
+    "copy": "SELECT EXISTS (SELECT FROM sm.copying)",
     "cut": "SELECT shard || ' ' || last FROM sm.slots WHERE cell = 5",
     "seal": "SELECT EXISTS (SELECT FROM sm.slots WHERE cell = 2 AND has_cut = 1)",
     "over": "SELECT EXISTS (SELECT FROM sm.slots WHERE cell = 5 AND source IS NOT NULL)",
@@ -34,8 +34,7 @@ COUNTED = "SELECT EXISTS (SELECT FROM {0}.sm_members JOIN pg_replication_slots O
 HANDED_OVER = ("SELECT count(*) = 0 OR bool_or(active AND confirmed_flush_lsn >= '{1}') FROM pg_replication_slots WHERE starts_with(slot_name, sm.stream('{0}') || '_')")
 # Of what stands still: the shard, and the name of its stream.
 LATE = {
-    "copy": "SELECT nspname, format('pg\\_%s\\_sync\\_%s\\_%%', srsubid, srrelid) FROM pg_subscription_rel JOIN pg_class c ON c.oid = srrelid JOIN pg_namespace n "
-            "ON n.oid = relnamespace WHERE relname = 'accounts' AND srsubstate <> 'r'",
+    "copy": "SELECT shard, sm.stream(shard, me) FROM sm.copying, sm.state",
     "prepared": "SELECT shard, sm.stream(shard, me) FROM sm.slots, sm.state WHERE cell = 2 AND has_cut = 0 AND is_whole",
 }
 KILLS = ("copy", "cut", "seal", "over", "order", "drop")
@@ -103,13 +102,15 @@ class Harm:
         return None
 
     def delay(self, moment, stop):
-        """A table that a server copies, or what it would follow to the cut of a handover, stands still: until it has sealed all the same, or for a while."""
+        """A table that is read for a copy, or what a server would follow to the cut of a handover, stands still: until it has sealed all the same, or for a
+        while."""
         name, until = self.victim(moment, stop=stop), time.monotonic() + self.fleet.late
         rows = self.rows(name, LATE[moment]) if name else []
         if not rows:
             return
         shard, stream = rows[0]
-        reads = f"SELECT active_pid FROM pg_replication_slots WHERE active AND slot_name LIKE '{stream}'"
+        kind = "client backend" if moment == "copy" else "walsender"
+        reads = f"SELECT pid FROM pg_stat_activity WHERE application_name = '{stream}' AND backend_type = '{kind}'"
         with self.lock, contextlib.ExitStack() as frozen:
             found = []
             while not found and time.monotonic() < until and not stop():

@@ -2,6 +2,7 @@
 back. The tests go on from each other, in the order of their names."""
 import contextlib
 import os
+import signal
 import subprocess
 import tempfile
 import time
@@ -105,16 +106,17 @@ class FleetTest(unittest.TestCase):
         FLEET.posts["b"].query(f"ALTER SUBSCRIPTION {stream} DISABLE")
         FLEET.wait_for("a goes on without b", lambda: FLEET.posts["a"].query("SELECT count(*) FROM s.sm_members") == [(0,)])
         FLEET.agents["b"].start()
-        with psycopg.connect(FLEET.posts["a"].reach, autocommit=True) as c, psycopg.connect(FLEET.posts["a"].reach) as other:
+        with psycopg.connect(FLEET.posts["a"].reach, autocommit=True) as c, contextlib.ExitStack() as still:
             while not c.execute(here + "confirmed_flush_lsn IS NOT NULL", (stream,)).fetchone():
                 time.sleep(0.005)
-            other.execute("SELECT txid_current()")  # (the copying of tables waits for it)
-            while not c.execute(here + "active", (stream,)).fetchone():
-                time.sleep(0.005)
+            pid = FLEET.agents["b"].process.pid
+            os.kill(pid, signal.SIGSTOP)
+            still.callback(os.kill, pid, signal.SIGCONT)
             while c.execute(here + "true", (stream,)).fetchone():
                 with contextlib.suppress(psycopg.errors.ObjectInUse):
                     c.execute("SELECT pg_terminate_backend(active_pid), pg_sleep(0.002), pg_drop_replication_slot(slot_name) FROM pg_replication_slots "
                               "WHERE slot_name = %s", (stream,))
+            still.close()
             FLEET.wait_for("b sees it", lambda: "a has dropped the stream" in (FLEET.folder / "serve-b.log").read_text())
         self.settle()
 

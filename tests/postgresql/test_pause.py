@@ -6,7 +6,7 @@ from concurrent.futures import ThreadPoolExecutor
 from unittest import mock
 
 from test_servers import Several, setUpModule, tearDownModule  # (one PostgreSQL for all)
-from smplan.agent import Cell, Slot
+from smplan.agent import Base, Cell, Slot
 from smplan_pg import copies, following, streams
 from smplan_pg.database import value
 from smplan_pg.records import Cut, Records
@@ -192,6 +192,54 @@ class PauseTest(Several):
             with mock.patch.object(copies, "PATIENCE", 0.2):
                 self.c.copies.wait_for_handovers(self.a.database, lambda: True, words.append)  # (not for ever)
         self.a.database.do("DELETE FROM sm.copied")
+
+    def fill(self):
+        """Server a leads a shard with rows of many kinds."""
+        self.put("a", Cell.PRIMARY, 5)
+        self.a.database.do(f"CREATE TABLE {self.shard}.\"Many kinds\" (id int GENERATED ALWAYS AS IDENTITY PRIMARY KEY, gone int, \"a word\" text, "
+                           "twice int GENERATED ALWAYS AS (length(\"a word\") * 2) STORED, at timestamptz, lasts interval, part float8, bytes bytea)")
+        self.a.database.do(f"ALTER TABLE {self.shard}.\"Many kinds\" DROP gone")
+        self.a.database.do(f"INSERT INTO {self.shard}.\"Many kinds\" (\"a word\", at, lasts, part, bytes) VALUES ('\\.', now(), '-1 day 2:03', 0.1, '\\x00ff'), "
+                           "(E'\\\\.\\n\\t\\\\N', 'infinity', '1 mon', 'nan', ''), (NULL, NULL, NULL, NULL, NULL), ('\u00e4\u20ac', '0044-03-15 BC', NULL, 1e-300, NULL)")
+        self.a.database.do(f"INSERT INTO {self.shard}.things (word) SELECT repeat(md5(it::text), 20) FROM generate_series(1, 3000) it")
+        with self.a.database.transaction() as tx:
+            streams.publish(tx, self.shard, streams.ALL)
+
+    def rows(self, name):
+        """All rows of the shard's own tables."""
+        return [self.its[name].database.rows(f"SELECT it::text FROM {self.shard}.{table} it ORDER BY 1") for table in ("things", '"Many kinds"', "sm_counters")]
+
+    def test_a_copy_makes_one_stream_and_has_what_is_written_meanwhile(self):
+        self.fill()
+        sound, seen = copies.rows_of, []
+
+        def rows_of(*words):
+            seen.append(value(self.a.database.row("SELECT count(*) FROM pg_replication_slots")))
+            with self.a.database.transaction() as tx:
+                tx.execute(f"INSERT INTO {self.shard}.things (word) VALUES ('new')")
+                Records(tx).count(self.shard)
+            return sound(*words)
+
+        with mock.patch.object(copies, "rows_of", rows_of):
+            self.b.copies.make(self.shard, 1, lambda: True, lambda _: None)
+        self.assertEqual((len(seen), set(seen)), (8, {1}))
+        self.assertEqual(self.rows("a"), self.rows("b"))
+        self.assertEqual(len(self.rows("b")[0]), 3008)
+
+    def test_rows_that_end_amid_a_table_are_no_copy(self):
+        self.fill()
+        sound = copies.rows_of
+
+        def rows_of(reach, snapshot, what, check_on):
+            if ".things" not in what:
+                return sound(reach, snapshot, what, check_on)
+            return sound(reach, snapshot, f"(SELECT * FROM {self.shard}.things UNION ALL SELECT 1 / 0, NULL)", check_on)
+
+        with mock.patch.object(copies, "rows_of", rows_of), self.assertRaisesRegex(streams.Stuck, "division by zero"):
+            self.b.copies.make(self.shard, 1, lambda: True, lambda _: None)
+        self.assertEqual([len(it) for it in self.rows("b")[:2]], [0, 4])
+        with mock.patch.object(copies, "rows_of", lambda *its: sound(*its[:3], lambda _: copies.check(lambda: False))), self.assertRaises(copies.GivenUp):
+            self.b.copies.make(self.shard, 1, lambda: True, lambda _: None)
 
 
 if __name__ == "__main__":

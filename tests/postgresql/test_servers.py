@@ -414,7 +414,7 @@ class StreamTest(Case):
             there.execute("SELECT pg_create_logical_replication_slot('sm_far', 'pgoutput')")
             other.execute("SELECT txid_current()")
             with DATABASE.connection() as c:
-                streams.follow(c, "sm_far", "p", far)
+                c.execute(streams.said("CREATE SUBSCRIPTION sm_far CONNECTION {reach} PUBLICATION p WITH (" + streams.STREAM + ")", reach=far, name="sm_far"))
                 while not c.execute("SELECT FROM pg_replication_slots WHERE slot_name LIKE 'pg#_%' ESCAPE '#'").fetchall():
                     time.sleep(0.02)
             streams.halt(DATABASE, "sm_far", 30.0)
@@ -496,7 +496,7 @@ class StillTest(Case):
     def test_a_stream_that_nobody_wants_any_more(self):
         with ThreadPoolExecutor(1) as pool, psycopg.connect(POST.reach) as other, contextlib.ExitStack() as still:
             other.execute("SELECT txid_current()")  # (the stream waits for it)
-            making = pool.submit(self.server.copies.begin_stream, self.there, "sm_still", lambda: False, lambda _: still.enter_context(POST.still()))
+            making = pool.submit(self.server.copies.begin_stream, self.there.connect(replication="database"), "sm_still", lambda: False, lambda _: still.enter_context(POST.still()))
             self.assertIsInstance(making.exception(20), copies.GivenUp)
         streams.drop_stream(self.there, "sm_still", 30.0)
 

@@ -1,12 +1,15 @@
-"""Copies of shards: the schema by pg_dump, the data by a subscription, which then follows."""
+"""Copies of shards: the schema by pg_dump, the rows by COPY out of the snapshot with which a stream begins, which is
+then followed."""
 from __future__ import annotations
 
+import os
+import select
 import subprocess
 import threading
 import time
 from concurrent.futures import Future, wait
 from contextlib import closing, contextmanager, suppress
-from typing import TYPE_CHECKING, Any, Callable, Iterator, List
+from typing import TYPE_CHECKING, Any, Callable, Iterator, List, Optional
 
 import psycopg
 from psycopg.conninfo import make_conninfo
@@ -28,6 +31,23 @@ LACKING = "a whole copy has taken its place, and lacks writes of this one"
 
 # Why data is set aside that nobody needs any more: it is deleted by itself.
 DELETED = "nobody needs it"
+
+# A shard's tables that have rows, with their columns.
+TABLES = """SELECT format('%%I.%%I', nspname, relname) AS name, string_agg(quote_ident(attname), ', ' ORDER BY attnum)
+    AS columns FROM pg_class c JOIN pg_namespace n ON n.oid = relnamespace JOIN pg_attribute a ON attrelid = c.oid
+    AND attnum > 0 AND NOT attisdropped AND attgenerated = ''
+  WHERE nspname = %s AND relkind = 'r' GROUP BY nspname, relname ORDER BY relname"""
+
+# How a source writes values, as it would for a subscription, and for how long it may.
+FORMS = ("-c datestyle=ISO -c intervalstyle=postgres -c extra_float_digits=3 -c statement_timeout=0 "
+         "-c idle_in_transaction_session_timeout=0")
+
+# How a server takes them. (What follows is durable, and they are before it.)
+PUTTING = ("SET LOCAL session_replication_role = replica; SET LOCAL synchronous_commit = off; "
+           "SET LOCAL intervalstyle = postgres")
+
+# How many bytes of rows are read at once.
+PIECE = 1 << 18
 
 # How often a copy tells its source that it goes on, in seconds.
 TELLING = 1.0
@@ -60,10 +80,11 @@ def begun(work: Callable[..., Any], *its: Any) -> "Future[Any]":
     return told
 
 
-def make_patiently(c: Connection, name: str) -> None:
-    """Makes a stream, however long it takes."""
+def make_patiently(c: Connection, name: str) -> str:
+    """Makes a stream, however long it takes. The snapshot of what is before it, which is there until the next word."""
     c.execute("SET statement_timeout = 0")
-    c.execute("SELECT pg_create_logical_replication_slot(%s, 'pgoutput')", (name,))
+    c.execute("SET idle_in_transaction_session_timeout = 0")
+    return streams.make_with_snapshot(c, name)
 
 
 def run_while(words: List[str], still: Still) -> "subprocess.CompletedProcess[bytes]":
@@ -78,6 +99,49 @@ def run_while(words: List[str], still: Still) -> "subprocess.CompletedProcess[by
             except BaseException:
                 process.kill()
                 raise
+
+
+def rows_of(reach: str, snapshot: str, what: str, check_on: Callable[[int], None]) -> Iterator[bytes]:
+    """A table's rows in a snapshot of another server, in pieces. (psql reads them: psycopg has a call for each row.)"""
+    words = ["psql", "-qXAt", "-v", "ON_ERROR_STOP=1", "-d", reach, "-c", "BEGIN ISOLATION LEVEL REPEATABLE READ READ ONLY"]
+    words += ["-c", f"SET TRANSACTION SNAPSHOT '{snapshot}'", "-c", f"COPY {what} TO STDOUT"]
+    with subprocess.Popen(words, stdout=subprocess.PIPE, stderr=subprocess.PIPE) as process:
+        try:
+            assert process.stdout is not None and process.stderr is not None
+            number, size = process.stdout.fileno(), 0
+            while True:
+                check_on(size)
+                if select.select([number], [], [], 0.2)[0]:
+                    piece = os.read(number, PIECE)
+                    size += len(piece)
+                    if not piece:
+                        break
+                    yield piece
+            told = process.stderr.read()
+            if process.wait():
+                raise Stuck(f"the rows do not come: {told.decode(errors='replace').strip()[-300:]}")
+        finally:
+            process.kill()
+
+
+def put_rows(tx: Connection, what: str, rows: Iterator[bytes]) -> None:
+    """Writes rows into a table. (psycopg would keep them all while the server is slower; and if they end amid the table
+    it raises what the server says of that, not why.)"""
+    why: Optional[BaseException] = None
+    try:
+        with tx.cursor() as cursor, cursor.copy(f"COPY {what} FROM STDIN") as copy:
+            try:
+                for piece in rows:
+                    copy.write(piece)
+                    while tx.pgconn.flush():
+                        select.select([], [tx.fileno()], [], 1.0)
+            except BaseException as it:
+                why = it
+                raise
+    except psycopg.errors.QueryCanceled:
+        if why is not None:
+            raise why from None
+        raise
 
 
 class Copies:
@@ -101,13 +165,16 @@ class Copies:
             with self.server.database.connection() as c:
                 mine, publication = streams.name_of(c, shard, self.server.number), streams.name_of(c, shard)
             streams.drop_stream(there, mine)
-            self.begin_stream(there, mine, still, said_of)
-            self.copy_schema(there, shard, still)
+            with closing(there.connect(replication="database")) as source:
+                snapshot = self.begin_stream(source, mine, still, said_of)
+                self.copy_schema(there, shard, still)
+                said_of("copies")
+                self.copy_rows(there, shard, snapshot, self.watching(number, shard, still))
             reach = self.server.peers[number].reach
             with self.server.database.connection() as c:
                 c.execute(said("CREATE PUBLICATION {} FOR TABLES IN SCHEMA {} WITH (publish = '')", publication, shard))
                 streams.follow(c, mine, publication, reach or "")
-            self.wait(number, shard, mine, still, said_of)
+            self.wait(number, shard, still, said_of)
         self.server.say("copied", shard, "from", self.server.names[number], f"in {time.monotonic() - since:.2f} s")
 
     def admit(self, there: Database, shard: str, still: Still, said_of: Callable[[str], None], waits: bool) -> None:
@@ -156,19 +223,19 @@ class Copies:
             with suppress(psycopg.Error):  # (it is forgotten after a while)
                 there.do("DELETE FROM sm.copied WHERE shard = %s AND server = %s", shard, self.server.number)
 
-    def begin_stream(self, there: Database, mine: str, still: Still, said_of: Callable[[str], None]) -> None:
-        """Makes a stream at its source, which waits for the transactions that run there, however long they take. (No transaction is open here meanwhile, as
-        by CREATE SUBSCRIPTION: two servers that copy from each other would wait for ever.)"""
-        with closing(there.connect()) as c:
-            made = begun(make_patiently, c, mine)
-            try:
-                while not wait([made], 0.2).done:
-                    said_of("waits for transactions that are open at the source")
-                    check(still)
-            except GivenUp:
-                shut(c)
-                raise
-            made.result()
+    def begin_stream(self, c: Connection, mine: str, still: Still, said_of: Callable[[str], None]) -> str:
+        """Makes a stream at its source, which waits for the transactions that run there, however long they take. Gives
+        the snapshot of what is before it. (No transaction is open here meanwhile, as by CREATE SUBSCRIPTION: two
+        servers that copy from each other would wait for ever.)"""
+        made = begun(make_patiently, c, mine)
+        try:
+            while not wait([made], 0.2).done:
+                said_of("waits for transactions that are open at the source")
+                check(still)
+        except GivenUp:
+            shut(c)
+            raise
+        return str(made.result())
 
     def clear(self, shard: str, number: int) -> None:
         """Deletes what an attempt before has left, and the old copy of a follower; never a schema that it did not make."""
@@ -201,27 +268,46 @@ class Copies:
         if told.returncode:
             raise Stuck(f"the schema is not made: {told.stderr.decode(errors='replace').strip()[-300:]}")
 
-    def wait(self, number: int, shard: str, mine: str, still: Still, said_of: Callable[[str], None]) -> None:
-        """Waits until all tables are copied, and all that the source had executed by then is here."""
-        again, goal, before, since = 0.0, None, None, 0.0
-        while True:
-            with self.server.database.connection() as c:
-                lacking = streams.lacks_tables(c, mine)
-                position = value(c.execute("SELECT sm.position(%s)", (shard,)).fetchone())
-                now = (lacking, position, value(c.execute("SELECT sum(bytes_processed) FROM pg_stat_progress_copy").fetchone()))
+    def copy_rows(self, there: Database, shard: str, snapshot: str, check_on: Callable[[int], None]) -> None:
+        """Copies the rows of a snapshot, each table in a transaction: who makes a stream here waits for that alone. (A
+        subscription would make a stream for each table, and each makes all others store where they are.)"""
+        with self.server.database.connection() as c:
+            tables, mine = c.execute(TABLES, (shard,)).fetchall(), streams.name_of(c, shard, self.server.number)
+            encoding = c.info.parameter_status("server_encoding") or ""
+        reach = make_conninfo(there.reach, options=FORMS, client_encoding=encoding, application_name=mine)
+        for it in tables:
+            what = f"{it['name']} ({it['columns']})"
+            with self.server.database.transaction() as tx, closing(rows_of(reach, snapshot, what, check_on)) as rows:
+                tx.execute(PUTTING)
+                tx.execute("SELECT set_config('client_encoding', %s, true)", (encoding,))
+                put_rows(tx, what, rows)
+
+    def watching(self, number: int, shard: str, still: Still) -> Callable[[int], None]:
+        """What stops a copy that nobody wants any more, or that does not get on by what is told, or whose source is
+        gone or has dropped its stream."""
+        seen, since, wanted, asked = -1, 0.0, 0.0, 0.0
+
+        def check_on(now: int) -> None:
+            nonlocal seen, since, wanted, asked
             clock = self.server.silence.now()
-            before, since = (before, since) if now == before else (now, clock)
+            seen, since = (seen, since) if now == seen else (now, clock)
             if clock - since > 10 * self.server.limits.stalled:
                 raise Stuck("the copy does not get on: it begins anew")
-            if not lacking and goal is None:
-                goal = value(self.server.peer(number).row("SELECT sm.position(%s)", shard))
-            if goal is not None and position >= goal:
-                return
-            said_of(f"copies: {lacking} tables to come" if lacking else "copied; catches up")
-            check(still)
-            if time.monotonic() > again:
-                again = time.monotonic() + 1.0
+            if time.monotonic() > wanted:
+                wanted = time.monotonic() + 0.2
+                check(still)
+            if time.monotonic() > asked:
+                asked = time.monotonic() + 1.0
                 self.server.sources.check(shard, number)
+        return check_on
+
+    def wait(self, number: int, shard: str, still: Still, said_of: Callable[[str], None]) -> None:
+        """Waits until all that the source had executed by now is here."""
+        check_on = self.watching(number, shard, still)
+        goal = value(self.server.peer(number).row("SELECT sm.position(%s)", shard))
+        said_of("copied; catches up")
+        while (position := value(self.server.database.row("SELECT sm.position(%s)", shard))) < goal:
+            check_on(position)
             time.sleep(0.02)
 
     def end(self, tx: Connection, shard: str) -> None:

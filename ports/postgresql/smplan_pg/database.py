@@ -56,9 +56,9 @@ class Database:
         self.used: Dict[Connection, float] = {}
         self.patience, self.lock = patience, threading.Lock()
 
-    def connect(self) -> Connection:
+    def connect(self, **more: Any) -> Connection:
         """A new connection. It prepares no statements, so that pgbouncer may stand between."""
-        return psycopg.connect(self.reach, autocommit=True, row_factory=dict_row, prepare_threshold=None)
+        return psycopg.connect(self.reach, autocommit=True, row_factory=dict_row, prepare_threshold=None, **more)
 
     def is_up(self) -> bool:
         """Whether a server answers there, or nobody could be asked; not one that starts or ends."""

@@ -123,8 +123,6 @@ def settings(shards: int, servers: int) -> str:
     return "\n".join([
         "wal_level = logical", f"max_replication_slots = {most + 20}", f"max_wal_senders = {most + 20}",
         f"max_logical_replication_workers = {2 * shards + 8}", f"max_worker_processes = {2 * shards + 16}",
-        "max_sync_workers_per_subscription = 2  # tables that a copy begins at once: each makes a stream, for which the "
-        "disk waits",
         "wal_retrieve_retry_interval = 20ms    # bounds how often the launcher starts a follower: a pause at each handover",
         "logical_decoding_work_mem = 1MB       # copies that come to a server pass its streams in such pieces: "
         "what a write may wait for",

@@ -102,9 +102,10 @@ def asking(c: Connection) -> Iterator[Connection]:
 
 
 def follow(c: Connection, name: str, publication: str, reach: str) -> None:
-    """Copies all that a publication has, and follows it by a stream that is there already."""
+    """Follows a publication by a stream that is there already, from its beginning on."""
     with asking(c):
-        c.execute(said("CREATE SUBSCRIPTION {} CONNECTION {reach} PUBLICATION {} WITH (" + STREAM + ")", name, publication, reach=reach, name=name))
+        text = "CREATE SUBSCRIPTION {} CONNECTION {reach} PUBLICATION {} WITH (" + STREAM + ", copy_data = false)"
+        c.execute(said(text, name, publication, reach=reach, name=name))
 
 
 def subscribe(database: Database, name: str, publication: str, reach: str) -> None:
@@ -158,6 +159,13 @@ def make_stream(database: Database, shard: str, follower: int, seconds: float) -
         except psycopg.errors.QueryCanceled:
             return False
     return True
+
+
+def make_with_snapshot(c: Connection, name: str) -> str:
+    """Makes a stream over a connection for replication. The snapshot of what is before it."""
+    row = c.execute(said("CREATE_REPLICATION_SLOT {} LOGICAL pgoutput (SNAPSHOT 'export')", name)).fetchone()
+    assert row is not None
+    return str(row["snapshot_name"])
 
 
 def make_streams(database: Database, shard: str, followers: Iterable[int], seconds: float) -> bool:
