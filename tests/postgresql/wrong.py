@@ -75,8 +75,9 @@ def mark():
 
 def early():
     """A copy is taken for whole before it is."""
-    from smplan_pg.copies import Copies
-    Copies.wait = lambda *_: None
+    from smplan_pg import copies
+    sound = copies.rows_of
+    copies.rows_of = lambda reach, snapshot, what, check_on: sound(reach, snapshot, what, check_on) if ".sm_" in what else (it for it in ())
 
 
 def seal_early():
