@@ -193,6 +193,9 @@ class PauseTest(Several):
                 self.c.copies.wait_for_handovers(self.a.database, lambda: True, words.append)  # (not for ever)
         self.a.database.do("DELETE FROM sm.copied")
 
+    def test_no_file_of_the_log_is_filled_while_who_writes_waits(self):
+        self.assertEqual(value(self.a.database.row("SELECT current_setting('wal_init_zero')")), "off")
+
     def fill(self):
         """Server a leads a shard with rows of many kinds."""
         self.put("a", Cell.PRIMARY, 5)

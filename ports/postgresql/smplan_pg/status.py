@@ -126,6 +126,7 @@ def settings(shards: int, servers: int) -> str:
         "wal_retrieve_retry_interval = 20ms    # bounds how often the launcher starts a follower: a pause at each handover",
         "logical_decoding_work_mem = 1MB       # copies that come to a server pass its streams in such pieces: "
         "what a write may wait for",
+        "wal_init_zero = off                   # a copy makes files of the log: all writes wait while one is filled",
         "wal_sender_timeout = 10s               # a server that is cut off counts no more then, and a few seconds later",
         "max_slot_wal_keep_size = 32GB         # a follower that was away for more than this copies anew"])
 
