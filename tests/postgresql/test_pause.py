@@ -244,6 +244,64 @@ class PauseTest(Several):
         with mock.patch.object(copies, "rows_of", lambda *its: sound(*its[:3], lambda _: copies.check(lambda: False))), self.assertRaises(copies.GivenUp):
             self.b.copies.make(self.shard, 1, lambda: True, lambda _: None)
 
+    def followed(self):
+        """Server b follows a, and counts there."""
+        self.fill()
+        self.b.copies.make(self.shard, 1, lambda: True, lambda _: None)
+        with self.b.database.transaction() as tx:
+            it = Records(tx)
+            it.put_base(Base(journal=9, number=0, known=1, fenced=0), 0)
+            it.put_slot(self.shard, Slot(cell=Cell.SECONDARY, load=1))
+            it.put_source(self.shard, 1, True)
+            self.b.copies.end(tx, self.shard)
+        self.assertTrue(self.b.sources.join(self.shard, 1))
+
+    def test_shards_at_rest_are_looked_at_together(self):
+        self.followed()
+        following, looked = self.b.following, []
+        with mock.patch.object(following, "look", looked.append):
+            following.watch()
+            self.until("it rests", lambda: following.next_look.get(self.shard, 0.0) > time.monotonic() + 2.0)
+            following.watch()
+        self.assertNotIn(self.shard, looked)
+
+    def test_who_may_not_get_on_is_looked_at_alone(self):
+        self.followed()
+        resting, mine = self.b.following.resting, streams.NAMES[self.shard, 2]
+        calm = lambda: self.shard in resting.calm(1, [self.shard])
+        self.until("it gets on", calm)
+        for name, harm, mends in (
+                ("a", f"DELETE FROM {self.shard}.sm_members", f"INSERT INTO {self.shard}.sm_members VALUES (2)"),
+                ("a", "UPDATE sm.slots SET cell = 3", "UPDATE sm.slots SET cell = 4"), ("a", "UPDATE sm.state SET journal = 8", "UPDATE sm.state SET journal = 9"),
+                ("b", f"INSERT INTO {self.shard}.sm_cut VALUES (7, 5, 3, '{{}}')", f"DELETE FROM {self.shard}.sm_cut"),
+                ("b", "UPDATE sm.slots SET is_whole = false", "UPDATE sm.slots SET is_whole = true"), ("b", "UPDATE sm.state SET fenced = 1", "UPDATE sm.state SET fenced = 0"),
+                ("b", f"ALTER SUBSCRIPTION {mine} DISABLE", f"ALTER SUBSCRIPTION {mine} ENABLE")):
+            with self.subTest(harm):
+                self.its[name].database.do(harm)
+                self.assertFalse(calm())
+                self.its[name].database.do(mends)
+                self.until("it gets on again", calm)
+        self.b.database.do(f"UPDATE {self.shard}.sm_counters SET writes = writes - 1 WHERE n = 1")
+        self.assertEqual([calm(), calm()], [True, False])  # (it may be late, and is seen again)
+
+    def test_served_shards_are_tidied_by_few_questions(self):
+        self.fill()
+        self.a.keeping.tidy()
+        guards = f"SELECT count(*) AS it FROM pg_trigger WHERE tgname = 'sm_guard' AND tgrelid = '{self.shard}.late'::regclass"
+        self.a.database.do(f"CREATE TABLE {self.shard}.late (id int PRIMARY KEY)")
+        self.a.database.do(f"INSERT INTO {self.shard}.sm_requests (id, at) VALUES ('old', now() - interval '1 day')")
+        with mock.patch.object(self.a.database, "row", wraps=self.a.database.row) as row:
+            self.a.keeping.tidy()
+        self.assertEqual([it.args[0] for it in row.call_args_list], ["SELECT sm.guard_tables(%s)"])
+        self.assertEqual(value(self.a.database.row(guards)), 1)
+        self.a.keeping.forgotten.clear()
+        self.a.keeping.tidy()
+        self.assertEqual(self.a.database.rows(f"SELECT id FROM {self.shard}.sm_requests WHERE id = 'old'"), [])
+        with self.a.database.transaction() as tx:
+            it = Records(tx)
+            it.put_members(self.shard, {2: False, 3: True})
+            self.assertEqual(it.members_of([self.shard, "nobody's"]), {self.shard: it.members(self.shard)})
+
 
 if __name__ == "__main__":
     unittest.main()

@@ -3,9 +3,10 @@ from __future__ import annotations
 
 import select
 import time
+from collections import defaultdict
 from contextlib import suppress
 from dataclasses import dataclass
-from typing import TYPE_CHECKING, Any, Dict, Optional, Tuple
+from typing import TYPE_CHECKING, Any, Dict, List, Optional, Tuple
 
 import psycopg
 from smplan.agent import Base, Cell, Slot
@@ -14,13 +15,12 @@ from . import streams
 from .copies import GivenUp, begun, remove
 from .database import value
 from .records import Cut, Mark, Records
+from .resting import WATCHED, Resting
 from .sources import is_of, serves
 from .streams import Stuck
 
 if TYPE_CHECKING:
     from .server import Server
-
-FOLLOWING = (Cell.PREPARED, Cell.SECONDARY, Cell.FORWARDING)
 
 # For how long a follower waits for the last writes of a source that serves no more, in seconds.
 CUT_COMES = 5.0
@@ -74,6 +74,7 @@ class Following:
         self.applied: Dict[str, Applied] = {}
         self.refused: Dict[str, int] = {}
         self.advanced: Dict[str, Tuple[int, float]] = {}
+        self.resting = Resting(self)
 
     # -- when to look
 
@@ -83,13 +84,16 @@ class Following:
         self.look_beside(shard, True)
 
     def watch(self) -> None:
-        """Looks at each shard that follows, in turn; at those in a handover more often."""
-        with self.server.database.transaction() as tx:
-            slots = Records(tx).slots()
-            leftover = [it["shard"] for it in tx.execute("SELECT shard FROM sm.copying").fetchall()]
-        for shard in {*leftover, *(it for it, slot in slots.items() if slot.cell in FOLLOWING)}:
-            if time.monotonic() >= self.next_look.get(shard, 0.0):
-                self.look_beside(shard)
+        """Looks at each shard that follows, in turn; at those in a handover more often, at those at rest together."""
+        now = time.monotonic()
+        due: Dict[Optional[int], List[str]] = defaultdict(list)
+        for it in self.server.database.rows(WATCHED):
+            if now >= self.next_look.get(it["shard"], 0.0):
+                due[it["source"]].append(it["shard"])
+        for source, shards in due.items():
+            if source is None or source == self.server.number or not self.resting.begin(source, shards, AT_REST):
+                for shard in shards:
+                    self.look_beside(shard)
 
     def listen(self) -> None:
         """Looks at a shard as soon as a cut comes to it."""
@@ -346,17 +350,29 @@ class Following:
     def refuses(self, shard: str, source: int, was: Optional[Applied]) -> bool:
         """Whether what a source sends could not be applied for a while, again and again, and nothing got on: it does not go on from the copy here."""
         row = self.server.database.row(APPLIED, shard, shard, shard, self.server.number)
-        now = self.server.silence.now()
         assert row is not None
-        mark, errors, there = Mark(row["view"], row["position"]), row["errors"] or 0, self.server.sources.mark_at(source, shard)
-        if was is None or was.mark != mark or was.errors > errors or there is None or not mark < there:
-            was = Applied(mark, errors, now)
-        self.applied[shard] = was
+        mark, errors, now = Mark(row["view"], row["position"]), row["errors"] or 0, self.server.silence.now()
+        self.applied.update({shard: was} if was is not None else {})
+        if self.gets_on(shard, mark, errors, self.server.sources.mark_at(source, shard)):
+            return False
+        was = self.applied[shard]
         if errors < was.errors + 2 or now - was.since < self.server.limits.dead:
             return False
         self.server.say("refuses what", self.server.names.get(source), "sends of", shard)
         self.refused[shard] = source
         return True
+
+    def gets_on(self, shard: str, mark: Mark, errors: int, there: Optional[Mark]) -> bool:
+        """Whether a follower has more than when it was seen first behind its source, or is not behind it."""
+        was = self.applied.get(shard)
+        if was is not None and was.mark == mark and was.errors <= errors and there is not None and mark < there:
+            return False
+        self.applied[shard] = Applied(mark, errors, self.server.silence.now())
+        return True
+
+    def rested(self, base: Base, slot: Slot, source: int, settled: int, copies: int) -> State:
+        """What the server has of a shard at rest."""
+        return State(base, slot, source, True, False, None, settled, copies)
 
     def join(self, shard: str, owner: int) -> bool:
         """Follows another server from the place on where its own writes began, if the copy here is the same as its was there. Whether it does."""

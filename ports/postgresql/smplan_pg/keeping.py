@@ -1,6 +1,7 @@
 """What a server does by itself: it goes on without followers that are dead, forgets old identities, and tidies streams that nobody will read."""
 from __future__ import annotations
 
+import time
 from collections import Counter
 from contextlib import suppress
 from dataclasses import dataclass
@@ -30,6 +31,17 @@ STREAMS = """SELECT r.slot_name, r.active, r.wal_status = 'lost' AS is_lost, r.c
 # Streams by which tables are copied, and which nobody reads now.
 UNREAD = "SELECT slot_name FROM pg_replication_slots WHERE database = current_database() AND NOT active AND slot_name ~ '^pg_[0-9]+_sync_[0-9]+_[0-9]+$'"
 
+# Deletes old identities of a shard's requests, some at once; how many. And how often that is tried where there are none,
+# in seconds.
+FORGET = "SELECT sm.forget_requests(%s, make_interval(secs => %s))"
+FORGETTING = 30.0
+
+# The shards that this server serves, and that have tables without a guard.
+UNGUARDED = """SELECT DISTINCT shard FROM sm.slots JOIN pg_namespace n ON nspname = shard
+    JOIN pg_class c ON relnamespace = n.oid
+  WHERE cell = 4 AND relkind IN ('r', 'p') AND relname NOT LIKE 'sm\\_%%'
+    AND NOT EXISTS (SELECT FROM pg_trigger WHERE tgrelid = c.oid AND tgname = 'sm_guard')"""
+
 
 @dataclass
 class Watched:
@@ -47,6 +59,7 @@ class Keeping:
         self.server = server
         self.watched: Dict[str, Watched] = {}
         self.unread: Dict[str, float] = {}
+        self.forgotten: Dict[str, float] = {}
 
     def leave_out_the_dead(self) -> None:
         """A follower that has read nothing for a while, or got on with nothing for long, counts no more, and copies the shard anew; an old owner counts, dead or
@@ -55,8 +68,9 @@ class Keeping:
         with self.server.database.transaction() as tx:
             it = Records(tx)
             rows, base, copies = tx.execute(STREAMS).fetchall(), it.base(), it.copies()
-            members = {streams.name_of(tx, shard, number): (shard, number, was_owner) for shard, slot in it.slots().items() if slot.cell == Cell.PRIMARY
-                       for number, was_owner in it.members(shard).items()}
+            served = [shard for shard, slot in it.slots().items() if slot.cell == Cell.PRIMARY]
+            members = {streams.name_of(tx, shard, number): (shard, number, was_owner)
+                       for shard, its in it.members_of(served).items() for number, was_owner in its.items()}
         present = {it["slot_name"]: it for it in rows}
         self.watched = {name: it for name, it in self.watched.items() if name in present or name in members}
         counts = Counter(shard for shard, *_ in members.values())
@@ -120,8 +134,11 @@ class Keeping:
         """Forgets identities that are old enough, guards tables that have come to a shard, and deletes copies that
         nobody needs, or that were replaced by what has all of them."""
         for shard in self.served():
-            self.server.database.row("SELECT sm.forget_requests(%s, make_interval(secs => %s))", shard, self.server.limits.keeping)
-            self.server.database.row("SELECT sm.guard_tables(%s)", shard)
+            if time.monotonic() >= self.forgotten.get(shard, 0.0):
+                count = value(self.server.database.row(FORGET, shard, self.server.limits.keeping))
+                self.forgotten[shard] = time.monotonic() + (0.0 if count else FORGETTING)
+        for row in self.server.database.rows(UNGUARDED):
+            self.server.database.row("SELECT sm.guard_tables(%s)", row["shard"])
         for row in self.server.database.rows("SELECT schema FROM sm.asides WHERE why IN (%s, %s)", REPLACED, DELETED):
             with self.server.database.transaction() as tx:
                 tx.execute("SET LOCAL lock_timeout = '1s'")
