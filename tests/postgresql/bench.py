@@ -24,14 +24,23 @@ from usage import Usage
 # How far around its handover a shard's pause is looked for, in seconds.
 AROUND = (1.0, 5.0)
 
+# For how long before the drain clients' pauses are looked for, in seconds.
+REST = 4.0
+
 # The rest of a client whose shard is not watched, in seconds.
 SELDOM = 5.0
+
+# The drain begins once the load is below this (it counts the copies of before for a minute), or behind so many seconds.
+CALM, PATIENCE = 4.0, 120.0
 
 
 class Bench(runs.Run):
     """One drain."""
 
     def moves(self, _):
+        until = time.time() + PATIENCE
+        while os.getloadavg()[0] >= CALM and time.time() < until:
+            time.sleep(1.0)
         self.before, begun, usage = os.getloadavg()[0], time.time(), Usage()
         usage.start()
         self.say("drain a")
@@ -72,7 +81,7 @@ class Bench(runs.Run):
         moved = {it for it in by_shard if it in cuts or any(name[0] == "a" for name in self.cells[it])}
         by_shard = {it: rows for it, rows in by_shard.items() if it in self.watched}
         for title, look in (("without an acknowledged write", checker.gaps_of), ("while somebody waited for one", checker.waits_of)):
-            print(told(f"{title}, at rest", [look(rows, *self.spans["rest"][0]) for rows in by_shard.values()]))
+            print(told(f"{title}, at rest", [look(rows, begun - REST, begun) for rows in by_shard.values()]))
             moves = [max(look(by_shard[it], at - AROUND[0], at + AROUND[1]) for at in ats)
                      for it, ats in cuts.items() if it in by_shard]
             print(told(f"{title}, at a shard's handover", moves))

@@ -8,14 +8,18 @@ from pathlib import Path
 TICKS = os.sysconf("SC_CLK_TCK")
 
 # What a command line begins with, behind the program's path, or has in it, and what that is.
-KINDS = (("postgres: walsender", "streams at their source"), ("postgres: logical replication worker", "streams at their follower, and copies"),
+KINDS = (("postgres: walsender", "streams at their source"), ("postgres: logical replication worker", "streams at their follower"),
+         ("pg_dump", ""), ("psql", ""),  # (smplan-pg's, which are counted as they end)
          ("postgres: postgres", "PostgreSQL for clients, smplan-pg and copies"), ("postgres:", "PostgreSQL, other"), ("bin/postgres", "PostgreSQL, other"),
          ("smplan_pg", "smplan-pg"), ("writers.py", "clients"), ("bench.py", "bench"), ("smplan.control", "controller"), ("smpland", "controller"))
+
+# What smplan-pg has begun, and what has ended.
+ENDED = "pg_dump and psql of copies"
 
 
 def kind_of(words):
     """What a process is, by its command line."""
-    return next((kind for it, kind in KINDS if it in words), "others")
+    return ENDED if words == ENDED else next((kind for it, kind in KINDS if it in words), "others")
 
 
 def looked():
@@ -31,6 +35,8 @@ def looked():
                 continue
             parents[path.name] = fields[1]
             found[path.name, fields[19]] = (words, (int(fields[11]) + int(fields[12])) / TICKS)
+            if "smplan_pg" in words:
+                found[path.name, ENDED] = (ENDED, (int(fields[13]) + int(fields[14])) / TICKS)
     return {key: (words if is_own(key[0], parents) else "", used) for key, (words, used) in found.items()}
 
 
@@ -61,4 +67,5 @@ class Usage(threading.Thread):
         used = Counter()
         for key, (words, seconds) in self.last.items():
             used[kind_of(words)] += seconds - self.before.get(key, ("", 0.0))[1]
+        used.pop("", None)
         return used.most_common()
