@@ -15,8 +15,8 @@ chosen = Agent(Path(LIBRARY).resolve()) if LIBRARY else port
 
 judge, begin, abandon, commit, seal, has_reached_cut = (
     chosen.judge, chosen.begin, chosen.abandon, chosen.commit, chosen.seal, chosen.has_reached_cut)
-route, fence, take, heed = chosen.route, chosen.fence, chosen.take, chosen.heed
-forget, resumes, compare, copied, acknowledged = port.forget, port.resumes, port.compare, port.copied, port.acknowledged
+route, fence, take, heed, forget, may_delete = chosen.route, chosen.fence, chosen.take, chosen.heed, chosen.forget, chosen.may_delete
+resumes, compare, copied, acknowledged = chosen.resumes, chosen.compare, chosen.copied, chosen.acknowledged
 
-__all__ = ["VACANT", "judge", "begin", "abandon", "commit", "seal", "has_reached_cut", "route", "fence", "take", "heed", "forget", "resumes",
-           "compare", "copied", "acknowledged"]
+__all__ = ["VACANT", "judge", "begin", "abandon", "commit", "seal", "has_reached_cut", "route", "fence", "take", "heed", "forget", "may_delete",
+           "resumes", "compare", "copied", "acknowledged"]

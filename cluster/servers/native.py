@@ -6,9 +6,9 @@ import ctypes
 from ctypes import Structure, byref, c_uint32, c_uint64
 from dataclasses import astuple
 from pathlib import Path
-from typing import Mapping
+from typing import Mapping, Sequence
 
-from smplan.agent import Answer, Base, Order, Request, Restoration, Settlement, Slot
+from smplan.agent import Answer, Base, Order, Request, Restoration, Settlement, Slot, ToldCopy, ViewStart
 
 
 class Record(Structure):
@@ -64,6 +64,16 @@ class ShardRecord(Structure):
     _fields_ = [("slot", SlotRecord), ("brought", SlotRecord)]
 
 
+class CopyRecord(Structure):
+    """sm_copy, or sm_view"""
+    _fields_ = fields("view position", "")
+
+
+def copies_of(values: Sequence[ToldCopy | ViewStart]) -> ctypes.Array[CopyRecord]:
+    """The structs of copies or views."""
+    return (CopyRecord * len(values))(*(CopyRecord(*it) for it in values))
+
+
 SETTLE, RESTORE = 1, 2
 
 
@@ -80,10 +90,10 @@ class Agent:
     def __init__(self, path: Path) -> None:
         self.library = ctypes.CDLL(str(path))
 
-    def call(self, name: str, *arguments) -> int:
+    def call(self, name: str, *arguments, kind=c_uint32) -> int:
         """Calls a function; integers are of 64 bits."""
         function = getattr(self.library, name)
-        function.restype = c_uint32
+        function.restype = kind
         return function(*(c_uint64(it) if isinstance(it, int) else byref(it) for it in arguments))
 
     # -- orders
@@ -134,6 +144,12 @@ class Agent:
 
     # -- the server as a whole
 
+    def forget(self, nonce: int) -> Base:
+        """The base of a server that has lost its slots."""
+        record = BaseRecord()
+        self.call("sm_forget", record, nonce, kind=None)
+        return Base(*record.members())
+
     def based(self, name: str, base: Base, *arguments) -> tuple[Answer, Base]:
         """The answer, and the base afterwards."""
         record = BaseRecord.of(base)
@@ -161,3 +177,21 @@ class Agent:
     def heed(self, base: Base, journal: int, number: int, nonce: int) -> Base:
         """The base once a message has named the last reopening of its journal."""
         return self.based("sm_heed", base, ReopeningRecord(journal, number), nonce)[1]
+
+    # -- copies
+
+    def compare(self, one: ToldCopy, other: ToldCopy) -> Answer:
+        """How a copy compares with another one."""
+        return Answer(self.call("sm_compare", CopyRecord(*one), CopyRecord(*other)))
+
+    def resumes(self, copy: ToldCopy, views: Sequence[ViewStart], end: int) -> bool:
+        """Whether a copy is a beginning of a list that ends at a position and has these views."""
+        return self.call("sm_resumes", CopyRecord(*copy), copies_of(views), len(views), end) == Answer.DONE
+
+    def copied(self, copies: int, own: ToldCopy, told: Sequence[ToldCopy], position: int) -> bool:
+        """Whether so many copies have the writes up to a position."""
+        return self.call("sm_copied", copies, CopyRecord(*own), copies_of(told), len(told), position) == Answer.DONE
+
+    def acknowledged(self, copies: int, own: ToldCopy, told: Sequence[ToldCopy]) -> int:
+        """The position up to which a primary acknowledges."""
+        return self.call("sm_acknowledged", copies, CopyRecord(*own), copies_of(told), len(told), kind=c_uint64)

@@ -12,7 +12,7 @@ LIBRARY, VECTORS = BUILD / "libsm_agent.so", BUILD / "agent-vectors.txt"
 
 @unittest.skipUnless(LIBRARY.exists() and VECTORS.exists(), "make agent vectors has not built the library and the vectors")
 class NativeTest(unittest.TestCase):
-    """The functions that the cluster's servers call: `publish` and those over copies are none."""
+    """The functions that servers call: `publish` is none."""
 
     def test_each_vector_has_its_answer(self):
         agent, count = Agent(LIBRARY), 0
