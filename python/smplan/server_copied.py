@@ -44,10 +44,11 @@ class Teller(Protocol):
 
 class Recorded:
     """What the controllers have recorded of copies. One line asks for it, of however many shards, and one more tells of each shard of which they know
-    of fewer."""
+    of fewer. Who answered last is asked first: one that is silent holds up all behind it."""
 
     def __init__(self, server: Teller) -> None:
         self.server, self.when, self.rest, self.until = server, (0, 0), 0.0, 0.0
+        self.first, self.took = "", 0.0
 
     def take(self, journal: int, fence: int, copies: Dict[str, int]) -> List[str]:
         """Tells of shards, each with its number of copies, under the last reopening at which the server was settled. Returns those of which there is
@@ -58,17 +59,29 @@ class Recorded:
         if not copies or begun < self.until:
             return []
         known = self.known(journal, fence)
-        took = time.monotonic() - begun
         done = [] if known is None else self.tell(journal, fence, copies, known)
         self.rest = 0.0 if len(done) == len(copies) else min(max(2 * self.rest, SHORTEST), LONGEST)
-        self.until = time.monotonic() + max(self.rest, SPARING * took)
+        self.until = time.monotonic() + max(self.rest, SPARING * self.took)
         return done
+
+    def in_turn(self) -> List[str]:
+        """The controllers, and first who answered last."""
+        return sorted(self.server.controllers, key=lambda it: it != self.first)
+
+    def ask(self, controller: str, route: str, line: Line) -> Line:
+        """What a controller answers, which is asked first from then on."""
+        told: Line = self.server.call(f"{controller}/{route}", line, PATIENCE)
+        self.first = controller
+        return told
 
     def known(self, journal: int, fence: int) -> Optional[Dict[str, int]]:
         """By shard how many copies a controller knows of since this reopening; none if nobody answers where it is the last one, and has ended."""
-        for controller in self.server.controllers:
+        self.took = 0.0
+        for controller in self.in_turn():
+            begun = time.monotonic()
             try:
-                state = self.server.call(f"{controller}/ask", {"do": "state"}, PATIENCE)["state"]
+                state = self.ask(controller, "ask", {"do": "state"})["state"]
+                self.took = time.monotonic() - begun  # (who is silent needs nothing)
                 if state["is"] == "open" and (int(state["journal"], 16), state["fence"]) == (journal, fence):
                     return {it["shard"]: it["copies"] for it in state["shards"]}
             except (OSError, ValueError, LookupError, TypeError):
@@ -92,9 +105,9 @@ class Recorded:
 
     def say(self, line: Line) -> Optional[Line]:
         """What the controller replies that leads; none if nobody does."""
-        for controller in self.server.controllers:
+        for controller in self.in_turn():
             try:
-                said: Line = self.server.call(f"{controller}/do", line, PATIENCE)
+                said = self.ask(controller, "do", line)
             except (OSError, ValueError):
                 continue  # (it is not there, or does not lead)
             if {"copied", "ignored", "refused"} & set(said):

@@ -1196,17 +1196,37 @@ class RulesTest(unittest.TestCase):
 
     def test_a_controller_that_needs_long_is_asked_seldom(self):
         server, clock, asked = Twice(1, {}), [0.0], []
-        known = server.copied.recorded.known
+        call = server.call
 
-        def slow(*words):
-            clock[0] += 0.2
-            asked.append(int(clock[0]))
-            return known(*words)
+        def slow(url, *words):
+            if url.endswith("/ask"):
+                clock[0] += 0.2
+                asked.append(int(clock[0]))
+            return call(url, *words)
 
-        with mock.patch("smplan.server_copied.time.monotonic", lambda: clock[0]), mock.patch.object(server.copied.recorded, "known", slow):
+        server.call = slow
+        with mock.patch("smplan.server_copied.time.monotonic", lambda: clock[0]):
             for clock[0] in range(70):
                 server.copied.recorded.take(7, 0, {"s": 2})
         self.assertEqual(asked, [0, 21, 42, 63])
+
+    def test_a_silent_controller_holds_up_the_next_one_once(self):
+        server, clock, silent = Twice(1, {}), [0.0], []
+        call, server.state = server.call, {"is": "reopening"}
+
+        def answer(url, line, seconds):
+            if url.startswith("http://controller"):
+                clock[0] += seconds
+                silent.append(clock[0])
+                raise OSError("timed out")
+            return call(url, line, seconds)
+
+        server.call = answer
+        with mock.patch("smplan.server_copied.time.monotonic", lambda: clock[0]):
+            self.assertEqual(server.copied.recorded.take(7, 0, {"s": 2}), [])
+            clock[0], server.state = clock[0] + 1.0, {}
+            self.assertEqual(server.copied.recorded.take(7, 0, {"s": 2}), ["s"])
+        self.assertEqual((silent, clock, len(server.lines)), ([30.0], [31.0], 1))
 
     def test_copies_that_are_refused_are_told_once(self):
         a, _ = kv_rules.pair(Twice, Cell.SECONDARY)

@@ -43,11 +43,14 @@ type stateLine struct {
 	}
 }
 
-// recorded is when a server tells next, and for how long it has rested, under a journal's last reopening.
+// recorded is when a server tells next, and for how long it has rested, under a journal's last reopening; which controller answered last, and how long
+// that needed to say what it knows.
 type recorded struct {
 	journal, fence uint64
 	rest           time.Duration
 	until          time.Time
+	first          string
+	took           time.Duration
 }
 
 // tellCopies tells of each shard that this server leads, as soon as enough servers have all that was here when it began to, until a controller knows
@@ -93,14 +96,12 @@ func (it *live) isToTell(position uint64, by counting) bool {
 func (it *Server) takeCopies(journal uint64, by counting, shards []string) (done []string) {
 	told := &it.recorded
 	if told.journal != journal || told.fence != by.Settled {
-		*told = recorded{journal: journal, fence: by.Settled}
+		*told = recorded{journal: journal, fence: by.Settled, first: told.first}
 	}
-	begun := time.Now()
-	if len(shards) == 0 || begun.Before(told.until) {
+	if len(shards) == 0 || time.Now().Before(told.until) {
 		return nil
 	}
 	known := it.known(journal, by.Settled)
-	took := time.Since(begun)
 	if known != nil {
 		done = it.tellThem(journal, by, shards, known)
 	}
@@ -114,19 +115,34 @@ func (it *Server) takeCopies(journal uint64, by counting, shards []string) (done
 		told.rest = longest
 	}
 	told.until = time.Now().Add(told.rest)
-	if told.rest < sparing*took {
-		told.until = time.Now().Add(sparing * took)
+	if told.rest < sparing*told.took {
+		told.until = time.Now().Add(sparing * told.took)
 	}
 	return done
 }
 
+// inTurn is the controllers, and first who answered last: one that is silent holds up all behind it.
+func (it *Server) inTurn() (controllers []string) {
+	for _, controller := range it.Controllers {
+		if controller == it.recorded.first {
+			controllers = append([]string{controller}, controllers...)
+		} else {
+			controllers = append(controllers, controller)
+		}
+	}
+	return controllers
+}
+
 // known is by shard how many copies a controller knows of since this reopening; nil if nobody answers where it is the last one, and has ended.
 func (it *Server) known(journal, fence uint64) map[string]int {
-	for _, controller := range it.Controllers {
+	it.recorded.took = 0
+	for _, controller := range it.inTurn() {
 		var told stateLine
+		begun := time.Now()
 		if it.caller.call(controller+"/ask", map[string]string{"do": "state"}, &told, silence) != nil {
-			continue
+			continue // (who is silent needs nothing)
 		}
+		it.recorded.first, it.recorded.took = controller, time.Since(begun)
 		state := told.State
 		if its, err := hexadecimal(state.Journal); err != nil || state.Is != "open" || its != journal || state.Fence != fence {
 			continue
@@ -164,9 +180,12 @@ type saidLine struct{ Copied, Ignored, Refused json.RawMessage }
 
 // sayCopies returns what the controller replies that leads, and whether one does.
 func (it *Server) sayCopies(line copiedLine) (said saidLine, isSaid bool) {
-	for _, controller := range it.Controllers {
+	for _, controller := range it.inTurn() {
 		said = saidLine{}
 		err := it.caller.call(controller+"/do", line, &said, silence)
+		if err == nil {
+			it.recorded.first = controller
+		}
 		if err == nil && (said.Copied != nil || said.Ignored != nil || said.Refused != nil) {
 			return said, true
 		}

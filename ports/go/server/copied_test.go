@@ -86,6 +86,16 @@ func TestCopiesAreToldUntilAControllerKnowsThem(t *testing.T) {
 	wantSame(t, []any{its.asked, len(its.lines), *it.live("s").told, it.hasEnough("s", counting{0, 2})}, "[5 2 0 true]")
 }
 
+func TestASilentControllerIsAskedLastOnceAnotherOneHasAnswered(t *testing.T) {
+	first, its := begin(t, `"is":"reopening","journal":"7","fence":0`, `{}`), begin(t, open, `{"copied":{}}`)
+	it := leads(beside(t, "12", "1"), 2, first.url, its.url)
+	tellNow(it)
+	wantSame(t, []any{first.asked, its.asked, len(its.lines), it.recorded.first == its.url}, "[1 1 1 true]")
+	it.live("s").told, its.copies = nil, 1
+	tellNow(it)
+	wantSame(t, []any{first.asked, its.asked, len(first.lines), len(its.lines)}, "[1 2 0 2]")
+}
+
 func TestCopiesThatAreKnownOrRefusedAreNotToldAgain(t *testing.T) {
 	its := begin(t, open, `{"refused":{"kind":"AboveWant"}}`)
 	it := leads(beside(t, "12", "1"), 2, its.url)
