@@ -86,7 +86,7 @@ class Cluster:
         }
         controllers = {name: Address.of(it) for name, it in told.get("controllers", {}).items()}
         copies = told.get("copies", 1)
-        if not isinstance(copies, int) or copies < 1:
+        if type(copies) is not int or copies < 1:  # (true is an int, too)
             raise ValueError(f"{path}: copies: a write is at one server at least")
         return Cluster(servers, controllers, tuple(told.get("etcd", ())), told.get("map_prefix", "/map/"), told.get("map_file"), told.get("lease", 0.0), copies)
 

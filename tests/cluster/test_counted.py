@@ -148,7 +148,7 @@ class ClusterTest(unittest.TestCase):
 
     def test_a_write_is_at_one_server_at_least(self):
         with tempfile.NamedTemporaryFile("w+") as file:
-            for copies in (0, -1, "2"):
+            for copies in (0, -1, "2", True):
                 file.seek(0)
                 file.truncate()
                 json.dump({"servers": {}, "copies": copies}, file)
