@@ -45,13 +45,13 @@ class PythonServer:
 
     def __init__(self, folder, name, early=False):
         self.name, self.path = name, folder / f"{name}.sqlite"
-        self.program = ROOT / ("tests/python/storm_server.py" if early else "examples/kv_http.py")
+        self.program = [ROOT / "tests/python/planted_server.py", "answers-early"] if early else [ROOT / "examples/kv_http.py"]
         db = sqlite3.connect(self.path)
         db.executescript(TABLES)
         db.close()
 
     def words(self, controllers):
-        return [sys.executable, self.program, self.name, controllers, self.path, "--new"]
+        return [sys.executable, *self.program, self.name, controllers, self.path, "--new"]
 
     def forget(self):
         """Sets the number of each slot's last order to 0, while the server is down."""

@@ -27,7 +27,7 @@ from smplan.control_store import Trial, check
 from smplan.control_run import Settings as RunSettings, etcd_of
 from smplan.control_run_etcd import AmongOthers, EtcdSettings
 from test_controllers import FakeEtcd
-from test_server_frame import free_ports
+from server_fleet import free_ports
 
 ROOT = pathlib.Path(__file__).resolve().parents[2]
 

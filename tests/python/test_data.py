@@ -1,8 +1,6 @@
 """What becomes of acknowledged writes: servers of examples/kv_server.py, whose orders, fences and settles smpland gives (or its reference, if that is not
 built)."""
 import json
-import os
-import pathlib
 import subprocess
 import sys
 import unittest
@@ -11,10 +9,8 @@ from kv_server import Server
 from smplan.agent import Answer, Cell, Request
 from smplan.control_agent import assignment_of, order_of, slots_of, told_of
 
-from test_server_frame import handover
+from server_fleet import ROOT, SMPLAND, handover, primary_of
 
-ROOT = pathlib.Path(__file__).resolve().parents[2]
-SMPLAND = pathlib.Path(os.environ.get("SMPLAND") or ROOT / "build/smpland")
 NUMBERS = {"a": 1, "b": 2, "c": 3, "d": 4}
 NAMES = {number: name for name, number in NUMBERS.items()}
 JOURNAL = 0x9f2c
@@ -119,11 +115,6 @@ class Service:
                 part = assignment_of(line)
                 assert self.servers[line["server"]].settle(part.journal, part.number, part.nonce, slots_of(line, NUMBERS))
             self.say({"do": "settled", "server": line["server"], "base": base})
-
-
-def primary_of(proposal):
-    """Whom a proposal makes primary."""
-    return next((it["server"] for shard in proposal["cells"] for it in shard["cells"] if it["state"] == "primary"), None)
 
 
 class LossesTest(unittest.TestCase):

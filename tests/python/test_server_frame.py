@@ -1,17 +1,10 @@
 """The frame for servers (python/smplan/server*.py, ports/go/server): three servers in Python and one in Go move a shard between them under load, and
 are killed; and schedules in one process, that do no harm at the frame, and do harm at frames with a planted bug."""
 import json
-import os
-import pathlib
-import random
 import shutil
-import signal
-import socket
-import ssl
 import subprocess
 import sys
 import tempfile
-import threading
 import time
 import unittest
 from concurrent.futures import Future
@@ -20,7 +13,7 @@ from dataclasses import replace
 from unittest import mock
 from urllib.error import HTTPError
 from urllib.parse import urlsplit
-from urllib.request import Request as Page, urlopen
+from urllib.request import urlopen
 
 import kv_http
 import kv_rules
@@ -34,190 +27,7 @@ from smplan.server_offers import Told
 from smplan.server_orders import NotYet
 from smplan.server_records import Mark, Records
 
-ROOT = pathlib.Path(__file__).resolve().parents[2]
-
-ENVIRONMENT = {**os.environ, "PYTHONPATH": str(ROOT / "python"), "PYTHONDONTWRITEBYTECODE": "1"}
-SMPLAND = pathlib.Path(os.environ.get("SMPLAND") or ROOT / "build/smpland")
-HAS_GO = shutil.which("go") is not None
-
-
-def go(*words):
-    """Runs go in its module."""
-    (ROOT / "build").mkdir(exist_ok=True)
-    done = subprocess.run(["go", *words], cwd=ROOT / "ports/go", capture_output=True, text=True, check=False,
-                          env={**os.environ, "GOCACHE": str(ROOT / "build/go-cache"), "GOPROXY": "off"})
-    if done.returncode:
-        raise AssertionError(done.stdout + done.stderr)
-
-
-def free_ports(count):
-    sockets = [socket.create_server(("127.0.0.1", 0)) for _ in range(count)]
-    ports = [it.getsockname()[1] for it in sockets]
-    for it in sockets:
-        it.close()
-    return ports
-
-
-def handover(shard, load, old, new):
-    """A plan that hands a shard from its primary to a server that has nothing of it."""
-    calls = [("prepare_add", new, {"other": old}), ("prepare_drop", old, {"other": new}), ("add", new, {"role": "primary"}), ("publish", None, {}),
-             ("drop", old, {})]
-    code = [{"do": word, "shard": shard, **({"server": server} if server else {}), **rest} for word, server, rest in calls]
-    holds = {"cells": [{"server": new, "shard": shard, "state": "absent"}], "crowns": [{"lead": "at", "listed": old, "server": old, "shard": shard}],
-             "room": [{"amount": load, "server": new}], "spare": []}
-    return {"budget": 4, "format": 1, "signals": [], "streams": [{"budget": 4, "code": code, "holds": holds}]}
-
-
-def swap(shard, old, new):
-    """A plan that changes the roles of a primary and a secondary."""
-    calls = [("unlist", {}), ("change", {"server": old, "to": "secondary"}), ("change", {"server": new, "to": "primary"}), ("publish", {})]
-    holds = {"cells": [{"server": new, "shard": shard, "state": "secondary"}],
-             "crowns": [{"lead": "at", "listed": old, "server": old, "shard": shard}], "room": [], "spare": []}
-    code = [{"do": word, "shard": shard, **rest} for word, rest in calls]
-    return {"budget": 2, "format": 1, "signals": [], "streams": [{"budget": 2, "code": code, "holds": holds}]}
-
-
-class Client(threading.Thread):
-    """Appends words to a key of its own, each under an identity until it is acknowledged."""
-
-    def __init__(self, fleet, number):
-        super().__init__(daemon=True)
-        self.fleet, self.key, self.words, self.fault, self.is_over = fleet, f"k{number}", [], None, False
-
-    def run(self):
-        place = 0
-        while not self.is_over:
-            place += 1
-            word = f"<{place}>"
-            reply = None
-            while reply is None and not self.is_over:
-                reply = self.fleet.request(f"{self.key}-{place}", ["append", self.key, word])
-            if reply is not None:
-                self.words.append(word)
-                if reply != "".join(self.words):
-                    self.fault = self.fault or f"{self.key}: the reply to {word} is {reply[-60:]}"
-
-
-class Fleet:
-    """A controller, and servers a, b and c in Python and g in Go, which are processes, and acknowledge only what two of them have. With a secret they
-    have a token and TLS."""
-
-    def __init__(self, folder, has_go, has_secret=False):
-        self.folder, self.running, self.has_go = pathlib.Path(folder), {}, has_go
-        self.dice, self.environment = random.Random(7), ENVIRONMENT
-        self.token, self.words, self.context = None, (), None
-        self.copies, self.go_words = ("--copies", "2"), ("-copies", "2")
-        if has_secret:
-            self.make_secret()
-        port, *ports = free_ports(5)
-        scheme = "https" if has_secret else "http"
-        self.controller, self.urls = f"{scheme}://127.0.0.1:{port}", {it: f"{scheme}://127.0.0.1:{at}" for it, at in zip("abcg", ports)}
-        (self.folder / "fleet.json").write_text(json.dumps({
-            "servers": {it: {"number": at + 1, "url": url} for at, (it, url) in enumerate(self.urls.items())}, "map": {"file": "map.json"}}))
-        cells = [{"server": "a", "state": "primary"}, {"server": "b", "state": "secondary"}, {"server": "c", "state": "secondary"}]
-        (self.folder / "service.json").write_text(json.dumps({
-            "limit": 1, "servers": [{"name": it, "region": "r", "room": 10} for it in self.urls],
-            "shards": [{"name": "s", "load": 4, "want": 3, "cap": 2, "spread": 1, "listed": "a", "cells": cells}]}))
-
-    def make_secret(self):
-        """Makes a token and a certificate."""
-        token, cert, key = (self.folder / it for it in ("token", "cert", "key"))
-        token.write_text("0123456789abcdef")
-        subprocess.run(["openssl", "req", "-x509", "-newkey", "ec", "-pkeyopt", "ec_paramgen_curve:prime256v1", "-nodes", "-keyout", key, "-out", cert, "-subj", "/CN=kv",
-                        "-addext", "subjectAltName=IP:127.0.0.1", "-days", "1"], check=True, capture_output=True)
-        self.token, self.context = token.read_text(), ssl.create_default_context(cafile=str(cert))
-        self.words, self.go_words = ("--token", token, "--tls", cert, key), (*self.go_words, "-token", token, "-cert", cert, "-key", key)
-        self.environment = {**ENVIRONMENT, "SSL_CERT_FILE": str(cert)}
-
-    def ask(self, url, line=None, token=""):
-        headers = {"Authorization": f"Bearer {self.token if token == '' else token}"} if self.token else {}
-        request = Page(url, None if line is None else json.dumps(line).encode(), headers)
-        with urlopen(request, timeout=10.0, context=self.context) as answer:
-            return json.load(answer)
-
-    def start(self, name, *words):
-        with open(self.folder / f"{name}.log", "a", encoding="utf-8") as log:
-            self.running[name] = subprocess.Popen([str(it) for it in words], stdout=log, stderr=log, cwd=self.folder, env=self.environment)
-
-    def start_controller(self):
-        session = f"{SMPLAND} journal" if SMPLAND.exists() else f"{sys.executable} {ROOT}/tools/smpland_model.py -"
-        self.start("run", sys.executable, "-m", "smplan.control_commands", "run", "fleet.json", "--session", session,
-                   "--http", self.controller.split("//")[1], "--open", "service.json", *self.words)
-
-    def start_server(self, name, *words):
-        is_go = name == "g" and self.has_go
-        if is_go:
-            self.start(name, self.folder / "kv", *words, *self.go_words, name, self.controller, f"{name}.store")
-        else:
-            self.start(name, sys.executable, ROOT / "examples/kv_http.py", *(f"-{it}" for it in words), *self.words, *self.copies, name, self.controller, f"{name}.store")
-
-    def kill(self, name):
-        self.running[name].send_signal(signal.SIGKILL)
-        self.running[name].wait()
-
-    def until(self, condition, what, seconds=60):
-        until = time.monotonic() + seconds
-        while True:
-            try:
-                if condition():
-                    return
-            except OSError:
-                pass
-            if time.monotonic() > until:
-                raise AssertionError(f"{what}: " + "".join(f"\n-- {it}\n{(self.folder / f'{it}.log').read_text()[-1500:]}" for it in self.running))
-            time.sleep(0.05)
-
-    def is_up(self, name):
-        return self.ask(f"{self.urls[name]}/base")["base"] is not None
-
-    def listed(self):
-        return json.loads((self.folder / "map.json").read_text())["entries"]["s"]["to"]
-
-    def request(self, identity, command):
-        """Sends a request to the server that the map shows, or to any if that says nothing."""
-        for server in [self.listed(), self.dice.choice("abcg")]:
-            try:
-                told = self.ask(f"{self.urls[server]}/request", {"shard": "s", "request": identity, "command": command})
-                if "reply" in told:
-                    return told["reply"]
-            except OSError:
-                pass
-        time.sleep(0.02)
-        return None
-
-    def begin(self, name, plan):
-        told = self.ask(f"{self.controller}/do", {"do": "begin", "plan": plan, "name": name})
-        if "begun" not in told:
-            raise AssertionError(told)
-
-    def move(self, name, old, new, plan=None):
-        self.begin(name, plan or handover("s", 4, old, new))
-        self.until(lambda: self.is_at_rest() and self.listed() == new, name)
-
-    def is_at_rest(self):
-        state = self.ask(f"{self.controller}/ask", {"do": "state"})["state"]
-        return not self.ask(f"{self.controller}/outgoing") and all(it["is"] != "running" for it in state["plans"])
-
-    def marks(self):
-        """How many writes each server has of the shard, by its cell."""
-        return {name: {it["shard"]: (it["cell"], it["position"]) for it in self.ask(f"{url}/slots")["slots"]} for name, url in self.urls.items()}
-
-    def views(self):
-        """The views of all copies."""
-        return {it["view"] for url in self.urls.values() for it in self.ask(f"{url}/slots")["slots"]}
-
-    def reopen(self, *words):
-        """Gives servers up by a command."""
-        return subprocess.run([sys.executable, "-m", "smplan.control_commands", "reopen", *words, "--controller", self.controller], capture_output=True, text=True, check=False, cwd=self.folder, env=self.environment, timeout=120)
-
-    def noted(self):
-        """How many copies of the shard are noted."""
-        return self.ask(f"{self.controller}/ask", {"do": "state", "shard": "s"})["state"]["shard"]["copies"]
-
-    def end(self):
-        for it in self.running.values():
-            it.kill()
-            it.wait()
+from server_fleet import HAS_GO, ROOT, Client, Fleet, go, handover, swap
 
 
 @unittest.skipUnless(HAS_GO, "there is no go")
@@ -242,19 +52,12 @@ class FleetTest(unittest.TestCase):
     def begin(self, has_secret=False):
         folder = tempfile.TemporaryDirectory(prefix="server-frame-")
         self.addCleanup(folder.cleanup)
-        fleet = Fleet(folder.name, HAS_GO, has_secret)
+        fleet = Fleet(folder.name, {**dict.fromkeys("abc", "python"), "g": "go" if HAS_GO else "python"}, 2, has_secret)
         self.addCleanup(fleet.end)
-        fleet.start_controller()
-        if fleet.has_go:
-            go("build", "-o", f"{folder.name}/kv", "./examples/kv")
-        else:
+        if not HAS_GO:
             subprocess.run([ROOT / "scripts/lib/leave-out", "the frame for servers in Go", "there is no go"], check=True)
-        fleet.until(lambda: fleet.ask(f"{fleet.controller}/healthz")["leads"], "the controller")
-        for it in "abcg":
-            fleet.start_server(it, "-new")
-        for it in "abcg":
-            fleet.until(lambda it=it: fleet.is_up(it), it)
-        fleet.until(lambda: fleet.noted() == 2, "two copies")
+        fleet.start_controller()
+        fleet.start_servers()
         return fleet
 
     def end_clients(self, fleet, clients):
@@ -262,13 +65,11 @@ class FleetTest(unittest.TestCase):
         for it in clients:
             it.is_over = True
             it.join(20)
-        values = {it.key: None for it in clients}
-        for key in values:
-            fleet.until(lambda key=key: values.update({key: fleet.request(None, ["get", key])}) or values[key] is not None, key)
         for it in clients:
+            value = fleet.value(it.key)
             self.assertIsNone(it.fault)
             self.assertGreater(len(it.words), 5)
-            self.assertIn(values[it.key].removeprefix("".join(it.words)), ("", f"<{len(it.words) + 1}>"))
+            self.assertIn(value.removeprefix("".join(it.words)), ("", f"<{len(it.words) + 1}>"))
 
     @unittest.skipUnless(shutil.which("openssl"), "there is no openssl")
     def test_servers_by_tls_ask_for_the_token_but_not_of_clients(self):
@@ -306,8 +107,7 @@ class FleetTest(unittest.TestCase):
             it.start()
         time.sleep(1.0)
         fleet.kill("a")
-        for it in fleet.folder.glob("a.store*"):
-            it.unlink()
+        fleet.replace_disk("a")
         told = fleet.reopen("--lost", "a", "--yes")
         self.assertEqual(told.returncode, 0, told.stdout + told.stderr)
         fleet.until(lambda: fleet.listed() != "a" and fleet.noted() == 2, "two copies again")
@@ -327,12 +127,11 @@ class FleetTest(unittest.TestCase):
             fleet.start_server(name)
         fleet.until(lambda: fleet.is_at_rest() and fleet.listed() == "a", "back")
         fleet.kill("c")
-        for it in fleet.folder.glob("c.store*"):
-            it.unlink()
+        fleet.replace_disk("c")
         fleet.start_server("c")
         for name in "bg":
             fleet.kill(name)
-            fleet.start_server(name, "-forget")
+            fleet.start_server(name, "forget")
         for name in "cbg":
             fleet.until(lambda name=name: fleet.is_up(name), f"{name} is restored")
         fleet.move("again", "a", "g")
