@@ -115,6 +115,7 @@ check-tests:
 	scripts/check/memory-tests
 	scripts/check/refused-programs
 	scripts/test cluster
+	SM_AGENT=build/libsm_agent.so scripts/test python -k NativeTest
 
 edits: ## tries all wrong versions, over what make test has proved: hours of a processor
 	@mkdir -p build

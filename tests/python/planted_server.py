@@ -1,5 +1,6 @@
-"""examples/kv_http.py with a bug, for control_storm.py and test_data_processes.py: planted_server.py BUG [--native] .., with what that takes behind it. --native
-has it call the proved agent that the environment's SM_AGENT names, in place of its port."""
+"""examples/kv_http.py with a bug, for control_storm.py and test_data_processes.py: planted_server.py BUG [--native] ..,
+with what that takes behind it. --native has it call the proved agent that the environment's SM_AGENT names, in place of
+its port."""
 import sys
 import threading
 import time

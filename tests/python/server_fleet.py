@@ -87,9 +87,10 @@ class Client(threading.Thread):
 
 
 class Fleet:
-    """A controller, and servers, which are processes and acknowledge only what `copies` of them have. Each is of a kind: "python" is examples/kv_http.py, "go"
-    ports/go/examples/kv, and "native" the former with the proved agent; some have a bug of planted_server.py. Shard s has its primary at a, and secondaries at b
-    and c. With a secret they have a token and TLS."""
+    """A controller, and servers, which are processes and acknowledge only what `copies` of them have. Each is of a
+    kind: "python" is examples/kv_http.py, "go" ports/go/examples/kv, and "native" the former with the proved agent;
+    some have a bug of planted_server.py. Shard s has its primary at a, and secondaries at b and c. With a secret they
+    have a token and TLS."""
 
     def __init__(self, folder, kinds, copies, has_secret=False, bugs=()):
         self.folder, self.running, self.kinds, self.copies, self.bugs = pathlib.Path(folder), {}, kinds, copies, dict(bugs)
@@ -209,8 +210,8 @@ class Fleet:
         return json.loads((self.folder / "map.json").read_text())["entries"]["s"]["to"]
 
     def request(self, identity, command):
-        """Sends a request to the server that the map shows, or to any if that says nothing."""
-        for server in [self.listed(), self.dice.choice([*self.urls])]:
+        """Sends a request to the server that the map shows, if it shows one, and to any if that says nothing."""
+        for server in filter(None, [self.listed(), self.dice.choice([*self.urls])]):
             try:
                 told = self.ask(f"{self.urls[server]}/request", {"shard": "s", "request": identity, "command": command})
                 if "reply" in told:
