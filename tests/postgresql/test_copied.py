@@ -371,7 +371,7 @@ class CopiedTest(Several):
             Records(tx).put_slot(self.shard, Slot(cell=Cell.SECONDARY, load=1))
         self.assertEqual(self.tell(), [])
 
-    def test_they_get_fewer_only_by_slots_of_a_later_reopening(self):
+    def test_they_get_fewer_only_by_the_settle_of_a_later_reopening(self):
         self.put("a", Cell.PRIMARY, 5)
         its, found = self.its["a"], []
         its.limits = replace(self.limits, copies=1)
@@ -379,14 +379,33 @@ class CopiedTest(Several):
             its.whole.start()
         with self.a.transaction() as tx:
             it = Records(tx)
-            for number in (0, 100):
-                found.append(it.copies())
+            for number, copies, may_fall in ((0, 1, True), (100, 1, False), (200, 1, True), (200, 3, True), (300, 4, False)):
                 it.put_base(Base(journal=9, number=number, known=1), number)
-                it.put_settled(number, 1)
-            found.append(it.copies())
-            it.put_settled(100, 3)
-            found.append(it.copies())
-        self.assertEqual((found, "only what 2 servers have" in str(said.call_args)), ([2, 2, 1, 3], True))
+                it.put_settled(number, copies, may_fall)
+                found.append((it.copies(), it.settled()))
+        self.assertEqual((found, "only what 2 servers have" in str(said.call_args)), ([(2, 0), (2, 100), (1, 200), (3, 200), (4, 300)], True))
+
+    def test_who_was_carried_over_and_is_restored_keeps_the_number_that_it_told(self):
+        """Servers a and c are settled at a reopening, b is carried over, and started with --copies 1. Server a becomes a secondary, since b told 2 as before: so
+        b may lead next, behind a restore."""
+        self.lead("bc")
+        b = self.its["b"]
+        for name in "ac":
+            self.settle(name, 100)
+        self.join("c")
+        with mock.patch.object(b, "limits", replace(self.limits, copies=1)):
+            b.whole.start()
+            with self.reading("b", "c"):
+                told = self.order("a", "change", "abc", "a", **{"role": "primary", "from": "primary", "to": "secondary"})
+            self.assertEqual(told, {"done": True})
+            b.whole.notice({"journal": "9", "fence": 100})
+            nonce = value(b.database.row("SELECT nonce FROM sm.state"))
+            slots = [{"shard": self.shard, "cell": "secondary", "load": 1}]
+            b.whole.restore({"journal": "9", "fence": 100, "base": 120, "nonce": f"{nonce:x}", "slots": slots})
+            self.assertEqual(b.database.row("SELECT known, settled, copies FROM sm.state"), {"known": 1, "settled": 100, "copies": 2})
+            b.whole.fence({"journal": "9", "base": 200})
+            b.whole.settle({"journal": "9", "base": 200, "nonce": None, "slots": slots})
+            self.assertEqual(b.database.row("SELECT known, settled, copies FROM sm.state"), {"known": 1, "settled": 200, "copies": 1})
 
     def test_who_counts_by_fewer_is_not_to_lead_next(self):
         reason = "working: b acknowledges what 1 servers have, and a only what 2 have: start b with --copies 2"

@@ -77,9 +77,11 @@ class Records:
         self.tx.execute("UPDATE sm.slots SET told = NULL WHERE told IS NOT NULL")
         return value(self.tx.execute("UPDATE sm.state SET copies = greatest(copies, %s) RETURNING copies", (copies,)).fetchone())
 
-    def put_settled(self, number: int, copies: int) -> None:
-        """Stores at which reopening it is settled. By slots of a later one its writes may be at fewer replicas than before."""
-        self.tx.execute("UPDATE sm.state SET copies = CASE WHEN settled < %s THEN %s ELSE greatest(copies, %s) END, settled = %s", (number, copies, copies, number))
+    def put_settled(self, number: int, copies: int, may_fall: bool) -> None:
+        """Stores at which reopening it is settled. By the settle of a later one its writes may be at fewer replicas than before. By a restore they are not: who
+        leads may have told controllers since the reopening, and have looked here, before this server was restored."""
+        self.tx.execute("UPDATE sm.state SET copies = CASE WHEN %s AND settled < %s THEN %s ELSE greatest(copies, %s) END, settled = %s",
+                        (may_fall, number, copies, copies, number))
 
     def put_base(self, base: Base, heard: int) -> None:
         """Stores the base."""

@@ -140,7 +140,7 @@ class Whole:
                 if answer == Answer.TAKEN:
                     number = told.fence if isinstance(told, Restoration) else told.number
                     it.put_base(base, number)
-                    it.put_settled(number, self.server.limits.copies)
+                    it.put_settled(number, self.server.limits.copies, may_fall=not isinstance(told, Restoration))
                     for shard in sorted(after if was.known else {*after, *self.adopted(tx)}):
                         self.store(tx, shard, before.get(shard, Slot()), after.get(shard, agent.VACANT), number)
         for shard in after:
