@@ -3,6 +3,7 @@ import random
 from collections import Counter
 
 from fixtures import program
+from smplan.control_begins import emptied_by
 from smplan.fleet import PRIMARY, SECONDARY, Fleet, primary_of
 from smplan.model import document_of, plan_of
 from smplan.placement import Placement, opening_findings
@@ -130,11 +131,18 @@ def step(cells, server, it):
         cells[server] = it["role"]
 
 
+def is_refused(document):
+    """Whether `smplan-control run` does not begin a document's plan, since a shard's last replica may be dropped before another is added."""
+    shards = [{"shard": it["name"], "cells": it["cells"]} for it in document["shards"]]
+    return emptied_by({"do": "begin", "plan": document["plan"]}, shards) is not None
+
+
 def check_leg(leg, limits, least, runs):
     """A plan is accepted, ends as is told, and keeps to its limits."""
     document = leg.document()
     answer = program("run" if runs else "check", document)
     need(answer.startswith("accepted: "), answer)
+    need(not is_refused(document), "a controller refuses it")
     check_ways(leg, document["plan"], limits, least)
     at_once = most_at_once(plan_of(document["plan"]), document_of(document))
     need(at_once is None or at_once.in_all <= limits.streams, "too many copies at once", at_once)
