@@ -16,6 +16,7 @@ import asyncio
 import json
 import random
 import time
+from collections import defaultdict
 from dataclasses import asdict, dataclass
 from pathlib import Path
 from typing import TextIO
@@ -229,10 +230,10 @@ class Generator:
         line = {"op": "set", "shard": shard, "key": key, "value": number, "bytes": size}
         await self.ask(router, name, shard, line, f"{name}-{key}-{number}", "SET", key, f"{number}:{dice.randbytes(size // 2).hex()}", seconds=30)
 
-    async def get_text(self, router: Router, name: str, key: str, **more: bool) -> None:
-        """Reads a text."""
+    async def get_text(self, router: Router, name: str, key: str, **more: bool) -> object:
+        """Reads a text; returns its number, None if there is no reply."""
         shard = key.partition(":")[0]
-        await self.ask(router, name, shard, {"op": "get", "shard": shard, "key": key, **more}, None, "GET", key, seconds=30)
+        return await self.ask(router, name, shard, {"op": "get", "shard": shard, "key": key, **more}, None, "GET", key, seconds=30)
 
     async def scout(self, number: int) -> None:
         """Reads any shard at any server. Who answers has to have the right to, and to have all that was
@@ -284,22 +285,31 @@ class Generator:
         return line["end"]
 
     async def read_all(self) -> None:
-        """Reads every list, for the checkers."""
+        """Reads everything, for the checkers."""
         router = self.router(random.Random(0))
         router.stray = 0
-        await asyncio.gather(*(self.read_key(router, shard, number) for shard in self.load.shards for number in range(self.load.keys)))
-        for shard in self.load.shards if self.load.comparers else ():
-            await self.look(router, "end", shard, final=True)
+        texts = defaultdict(list)
         for key in self.text_keys():
-            await self.get_text(router, "end", key, final=True)
+            texts[key.partition(":")[0]].append(key)
+        await asyncio.gather(*(self.read_shard(router, it, texts[it]) for it in self.load.shards))
         router.close()
         self.history.flush()
 
-    async def read_key(self, router: Router, shard: str, number: int) -> None:
+    async def read_shard(self, router: Router, shard: str, texts: list[str]) -> None:
+        """Reads all of a shard, up to the first request that has no reply in time: one that nobody serves does not hold the end up for longer than
+        one request may take."""
+        replies = await asyncio.gather(*(self.read_key(router, shard, number) for number in range(self.load.keys)))
+        if None not in replies and self.load.comparers:
+            replies.append(await self.look(router, "end", shard, final=True))
+        for key in texts:
+            if None not in replies:
+                replies.append(await self.get_text(router, "end", key, final=True))
+
+    async def read_key(self, router: Router, shard: str, number: int) -> object:
         """Reads one list of a shard."""
         key = f"{shard}:k{number}"
         line = {"op": "read", "shard": shard, "key": key, "final": True}
-        await self.ask(router, "end", shard, line, None, "LRANGE", key, "0", "-1", seconds=30)
+        return await self.ask(router, "end", shard, line, None, "LRANGE", key, "0", "-1", seconds=30)
 
     def figures(self) -> dict:
         """What there was."""

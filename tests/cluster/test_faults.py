@@ -358,6 +358,24 @@ class MovingTest(unittest.IsolatedAsyncioTestCase):
                 await asyncio.gather(*tasks, return_exceptions=True)
 
 
+class LastReadsTest(unittest.IsolatedAsyncioTestCase):
+    """What clients read at the end."""
+
+    async def test_a_shard_that_nobody_serves_is_given_up_at_its_first_read(self):
+        generator, asked = Generator(Cluster(), Load(("s", "t"), keys=1, largest=900), io.StringIO()), []
+
+        async def request(shard, identity, *command, **more):
+            asked.append(command[1])
+            if shard == "s":
+                raise TimeoutError
+            return {"LRANGE": [], "GET": b"1:x" if "text" in command[1] else None}[command[0]]
+
+        generator.router = lambda dice: SimpleNamespace(request=request, figures=SimpleNamespace(sent=0), close=lambda: None)
+        await generator.read_all()
+        self.assertEqual(sorted(asked), ["s:k0", "t:k0", "t:r", "t:text0"])
+        self.assertEqual(generator.failures, 1)
+
+
 class OperatorTest(unittest.IsolatedAsyncioTestCase):
     """Three controllers: k0 follows, k1 is stopped, and k2 leads."""
 
