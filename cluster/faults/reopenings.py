@@ -68,12 +68,13 @@ class ReopeningStory(Story):
 
     def rest_before(self, state: Line) -> float:
         """After how many seconds the operator confirms what is proposed: servers that stay as they are recorded, since they are down, and have not told
-        what they have, are waited for if they are up by now."""
+        what they have, are waited for if they are up by now. With a lease controllers wait themselves for those that are given up."""
         reopening = state.get("reopening") or {}
         waiting = reopening["waiting"] if reopening.get("is") == "confirm" else []
         if any(self.cluster.processes[it].is_running for it in waiting):
             return self.operator.patience / 4
-        return 0.0 if waiting and not reopening["proposal"]["lost"] else CONFIRMING
+        is_waited_for = self.cluster.lease > 0 and not waiting
+        return 0.0 if is_waited_for or (waiting and not reopening["proposal"]["lost"]) else CONFIRMING
 
     async def confirm(self, state: Line) -> None:
         """Confirms what a reopening proposes, if it waits for that: a controller leaves some of it to the operator."""

@@ -93,6 +93,12 @@ class OperatorTest(unittest.IsolatedAsyncioTestCase):
         rests = [[self.story([], [], is_up)[0].rest_before(it) for it in (state, proposed(["a"], []), proposed(["a"], ["s00"]), proposed([], ["s00"]))] for is_up in (True, False)]
         self.assertEqual(rests, [[2.0, 60.0, 60.0, 2.0], [2.0, 0.0, 2.0, 2.0]])
 
+    def test_with_a_lease_it_rests_for_none_but_those_that_are_named(self):
+        story, _ = self.story([], [])
+        story.cluster.lease = 4.0
+        rests = [story.rest_before(it) for it in (proposed(["a"], []), proposed(["a"], ["s00"]), proposed([], ["s00"]))]
+        self.assertEqual(rests, [60.0, 60.0, 0.0])
+
     async def test_who_was_left_as_recorded_is_emptied_by_one_more_reopening(self):
         story, sent = self.story([recorded(True)] * 2 + [recorded(False)], [])
         await story.reopen_emptied("a", recorded(True))
