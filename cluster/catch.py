@@ -7,6 +7,7 @@ import shutil
 import sys
 import time
 from dataclasses import replace
+from pathlib import Path
 
 from cluster.controllers.bugs import BUGS as CONTROLLER_BUGS
 from cluster.faults.parts import COPIES, HANDOVERS, LATE, LEADERS, LEASED, MAP, MEMBERS, REOPENING_AT_WORK, of_rule, storm_of
@@ -76,8 +77,8 @@ WORKERS_OF = {"fence-while-passed": 1, "cut-unheeded": 1, "commit-after-fence": 
 MOVES_OF = {"commit-after-fence": 1}
 
 
-# The time of a lease, if a bug is about that.
-LEASE_OF = {"lease-unheeded": 2.0, "confirm-before-lease-ends": 2.0}
+# The time of a lease, if a bug is about that: somewhat longer than a reopening takes.
+LEASE_OF = {"lease-unheeded": 4.0, "confirm-before-lease-ends": 4.0}
 
 
 # How many servers have each write before it is acknowledged, if a bug is about that.
@@ -105,13 +106,16 @@ async def first_violation(bug: str, seed: int, told: argparse.Namespace) -> str 
                         is_busy=told.busy,
                         ending=75.0 if told.busy else 25.0, patience=120.0 if told.busy else 40.0,
                         lease=told.lease or LEASE_OF.get(bug, 0.0), store=told.store, is_slow=told.recipe)
+    run = Run(settings)
     try:
-        result = await Run(settings).run()
+        result = await run.run()
         found = most_telling(result.verdict.faults)
         return found if found is not None else LEFT_OUT if result.counts["losses left out"] else None
     except (NotReady, NotOpened, NoLeader, Failed, OSError, TimeoutError) as why:
-        return f"{NO_END}: {type(why).__name__} {why}"
+        return f"{NO_END}: {type(why).__name__} {why}; {run.where()}"
     finally:
+        if told.keep:
+            shutil.copytree(directory, told.keep / f"{bug}-{seed}", dirs_exist_ok=True, ignore=shutil.ignore_patterns("*.sock", "etcd-*", "member"))
         shutil.rmtree(directory, ignore_errors=True)
 
 
@@ -144,6 +148,7 @@ def main() -> int:
     parser.add_argument("--recipe", action="store_true", help="have the parts, rates, waits and moves that are made for the bug, if there are some")
     parser.add_argument("--storm", action="store_true", help="have the parts of a run of a storm, and nothing that is made for the bug")
     parser.add_argument("--sound", action="store_true", help="plant no bug: nothing is to be found then")
+    parser.add_argument("--keep", type=Path, metavar="DIR", help="keep logs and histories there, in a folder for each run")
     add_session(parser)
     told = parser.parse_args()
     missed = []
