@@ -42,9 +42,10 @@ MAP = ("drain", "kill_leader", "freeze_leader", "restart_server", "lose_answers_
 
 
 def of_rule(names: tuple[str, ...], seed: int) -> Parts:
-    """Parts drawn by a seed from those that a rule names: four, or two if a server is given up."""
-    dice = random.Random(f"rule {seed}")
-    return evenly(dice.choices(names, k=2 if set(names) & {*LOSSES, *OF_THREE, *LEASED} else 4))
+    """Parts drawn by a seed from those that a rule names, each of them before one comes again: four, or two if a server is given up."""
+    dice, left = random.Random(f"rule {seed}"), 2 if set(names) & {*LOSSES, *OF_THREE, *LEASED} else 4
+    rounds = [dice.sample(names, min(len(names), left - done)) for done in range(0, left, len(names))]
+    return evenly([name for it in rounds for name in it])
 
 
 def storm_of(seed: int) -> Parts:

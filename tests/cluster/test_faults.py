@@ -426,6 +426,7 @@ class PartsTest(unittest.TestCase):
                 drawn_names = [name for _, name in of_rule(names, seed)]
                 self.assertLessEqual(set(drawn_names), set(names), bug)
                 self.assertLessEqual(sum(it in LOSSES for it in drawn_names), 2, bug)
+                self.assertEqual(len(set(drawn_names)), min(len(names), len(drawn_names)), bug)
         self.assertLessEqual(set(RULE_OF), {*CONTROLLER_BUGS, *SERVER_BUGS})
 
     def test_a_draw_is_by_its_seed(self):
