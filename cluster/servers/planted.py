@@ -138,6 +138,14 @@ class ExecutingPrepared(Requests):
         return (Answer.EXECUTE, Request()) if is_early else super().route(shard, how)
 
 
+class ExecutingAtWork(Requests):
+    """Executes while the order to hand over is at work."""
+
+    def route(self, shard: Shard, how: Request) -> tuple[Answer, Request]:
+        is_at_work = shard.slot.cell == Cell.PRIMARY and shard.work is not None and shard.work.order.call == Call.PREPARE_DROP
+        return (Answer.EXECUTE, Request()) if is_at_work else super().route(shard, how)
+
+
 class WithoutIdentities(Requests):
     """Keeps no identities."""
 
@@ -356,7 +364,8 @@ def with_parts(kind: type[Server] = Server, **parts: type) -> type[Server]:
 PLANTED = {
     "no-numbers": with_parts(orders=WithoutNumbers), "execute-prepared": with_parts(requests=ExecutingPrepared),
     "slot-deleted": with_parts(orders=DeletingSlots),
-    "commit-before-copy": with_parts(orders=CommittingBeforeCopy), "drop-while-writing": with_parts(orders=NotHolding),
+    "commit-before-copy": with_parts(orders=CommittingBeforeCopy),
+    "drop-while-writing": with_parts(orders=NotHolding, requests=ExecutingAtWork),
     "tail-not-copied": with_parts(orders=NotWaitingForCut, following=WithoutTail), "no-identities": with_parts(requests=WithoutIdentities),
     "restore-without-nonce": with_parts(reopenings=RestoringWithoutNonce),
     "commit-after-fence": with_parts(orders=CommittingBehindFence, reopenings=KeepingWork),
@@ -400,7 +409,7 @@ class LateNewOwners(Server):
 
 
 SLOW = {
-    "drop-while-writing": with_parts(SlowRequests, orders=NotHolding),
+    "drop-while-writing": with_parts(SlowRequests, orders=NotHolding, requests=ExecutingAtWork),
     "change-while-writing": type("Slow", (SlowRequests,), {"longest": 0.1, "longest_passed": 0.1, "orders_type": ChangingWhileWriting}),
     "fence-while-passed": with_parts(SlowPassed, reopenings=NotWaitingForPassed, orders=Slow),
     "add-without-cut": with_parts(LateNewOwners, orders=NotWaitingForCut),
