@@ -139,11 +139,11 @@ class ExecutingPrepared(Requests):
 
 
 class ExecutingAtWork(Requests):
-    """Executes while the order to hand over is at work."""
+    """Executes while an order is at work that lets requests run."""
 
     def route(self, shard: Shard, how: Request) -> tuple[Answer, Request]:
-        is_at_work = shard.slot.cell == Cell.PRIMARY and shard.work is not None and shard.work.order.call == Call.PREPARE_DROP
-        return (Answer.EXECUTE, Request()) if is_at_work else super().route(shard, how)
+        is_let = shard.slot.cell == Cell.PRIMARY and shard.work is not None and self.server.orders.lets_run(shard.work.order)
+        return (Answer.EXECUTE, Request()) if is_let else super().route(shard, how)
 
 
 class WithoutIdentities(Requests):
@@ -371,8 +371,8 @@ PLANTED = {
     "commit-after-fence": with_parts(orders=CommittingBehindFence, reopenings=KeepingWork),
     "settle-twice": with_parts(reopenings=SettlingTwice), "add-without-cut": with_parts(orders=NotWaitingForCut),
     "fence-while-passed": with_parts(reopenings=NotWaitingForPassed), "cut-unheeded": with_parts(requests=NotHeedingCuts),
-    "change-while-writing": with_parts(orders=ChangingWhileWriting), "acknowledge-alone": with_parts(sources=Alone),
-    "impatient": with_parts(sources=Impatient),
+    "change-while-writing": with_parts(orders=ChangingWhileWriting, requests=ExecutingAtWork),
+    "acknowledge-alone": with_parts(sources=Alone), "impatient": with_parts(sources=Impatient),
     "answer-before-done": with_parts(orders=AnsweringBefore), "heed-nothing": Deaf, "copy-without-identities": with_parts(sources=WithoutPart),
     "copy-counts-twice": with_parts(following=CountingTwice), "copy-without-meanwhile": with_parts(following=WithoutMeanwhile),
     "copy-without-values": with_parts(sources=WithoutValues), "joined-at-once": with_parts(sources=JoiningAtOnce),
@@ -395,6 +395,12 @@ class SlowRequests(Server):
         return random.random() * (self.longest_passed if how.is_passed else self.longest)
 
 
+class SlowChanges(SlowRequests):
+    """Requests run for a tenth of a second."""
+
+    longest, longest_passed = 0.1, 0.1
+
+
 class SlowPassed(SlowRequests):
     """Passed requests run for long."""
 
@@ -410,7 +416,7 @@ class LateNewOwners(Server):
 
 SLOW = {
     "drop-while-writing": with_parts(SlowRequests, orders=NotHolding, requests=ExecutingAtWork),
-    "change-while-writing": type("Slow", (SlowRequests,), {"longest": 0.1, "longest_passed": 0.1, "orders_type": ChangingWhileWriting}),
+    "change-while-writing": with_parts(SlowChanges, orders=ChangingWhileWriting, requests=ExecutingAtWork),
     "fence-while-passed": with_parts(SlowPassed, reopenings=NotWaitingForPassed, orders=Slow),
     "add-without-cut": with_parts(LateNewOwners, orders=NotWaitingForCut),
     "commit-after-fence": with_parts(orders=SlowBehindFence, reopenings=KeepingWork),
