@@ -6,6 +6,8 @@ import os
 import signal
 import subprocess
 import time
+from collections.abc import AsyncIterator
+from contextlib import asynccontextmanager
 
 from smplan.control import Line
 
@@ -63,16 +65,40 @@ class AbsenceStory(ServerStory, LossStory):
             self.counts["servers stopped"] += 1
 
     async def stop_store(self) -> None:
-        """Stops the store of a server three times, as a disk does that is slow now and then. The server itself runs on."""
+        """Stops the store of a server three times, as a disk does that is slow now and then. The server itself runs on, and its primaries change roles
+        with secondaries, while they are used."""
         async with self.restarting:
-            name = self.dice.choice(self.alive)
+            name, state = self.dice.choice(self.alive), await self.state()
             self.tell(f"the disk of {name} is slow")
-            for _ in range(3):
-                self.signal_store(name, signal.SIGSTOP)
-                await asyncio.sleep(self.dice.uniform(0.3, 1.5))
-                self.signal_store(name, signal.SIGCONT)
-                await asyncio.sleep(0.3)
+            with self.left_alone(name, state):
+                for turn in range(3):
+                    for shard in self.primaries(state, name)[turn:turn + 1]:
+                        await self.take_primary(shard, name)
+                    await self.stop_store_once(name, self.dice.uniform(0.3, 1.5))
             self.counts["stores stopped"] += 1
+
+    async def stop_store_once(self, name: str, seconds: float) -> None:
+        """Stops the store of a server for a moment, and lets it run for another one."""
+        self.signal_store(name, signal.SIGSTOP)
+        try:
+            await asyncio.sleep(seconds)
+        finally:
+            self.signal_store(name, signal.SIGCONT)
+        await asyncio.sleep(0.3)
+
+    @asynccontextmanager
+    async def slow_store(self, name: str) -> AsyncIterator[None]:
+        """Stops the store of a server again and again while something is done."""
+        async def stop_again() -> None:
+            while True:
+                await self.stop_store_once(name, self.dice.uniform(0.3, 0.6))
+
+        stopping = asyncio.create_task(stop_again())
+        try:
+            yield
+        finally:
+            stopping.cancel()
+            await asyncio.wait([stopping])
 
     async def stop_two(self) -> None:
         """Stops two servers for longer than others wait for them, both secondaries of one shard if there is one."""

@@ -71,8 +71,8 @@ class HandoverStory(OutsideStory):
     # Handovers while the new owner hears little.
 
     async def reopen_amid_passing(self) -> bool:
-        """Reopens while requests are passed on, and orders are at work: the new owners have all writes up to the cuts."""
-        return await self.in_handovers(self.undisturbed, self.reopen_at_work)
+        """Reopens while requests are passed on, and orders are at work: the new owners have all writes up to the cuts, and their disk is slow."""
+        return await self.in_handovers(self.undisturbed, self.reopen_slowly)
 
     async def reopen_behind_cut(self) -> bool:
         """Reopens while requests are passed on to new owners that have not heard of the cuts: the old owners keep the shards."""
@@ -156,11 +156,18 @@ class HandoverStory(OutsideStory):
         await meanwhile.enter_async_context(self.slowed(*(f"peer {new} {it}" for it in olds), shortest=0.15, drop=0.5))
 
     async def let_pass(self, found: Handovers) -> bool:
-        """Lets requests be passed on for a while."""
+        """Lets requests be passed on for a while, and then orders through, before the connections last again."""
         self.tell(f"connections break, while {', '.join(sorted(found.olds))} are handed over to {found.new}")
         self.counts["handovers with broken connections"] += len(found.olds)
         await asyncio.sleep(1.0)
+        await self.cluster.tell_proxies(links=self.orders_to(found.new), hold=[])
+        await asyncio.sleep(1.0)
         return True
+
+    async def reopen_slowly(self, found: Handovers) -> bool:
+        """Reopens at work while the new owner's disk is slow: requests that were passed on are at work there as the fence comes."""
+        async with self.slow_store(found.new):
+            return await self.reopen_at_work(found)
 
     async def reopen_at_work(self, found: Handovers) -> bool:
         """Reopens as soon as an order is at work at one of the other servers, where copies are slow meanwhile."""
@@ -168,8 +175,21 @@ class HandoverStory(OutsideStory):
         others = [it for it in self.alive if it not in (found.new, *found.olds.values())]
         self.counts["reopenings in a handover"] += 1
         async with self.slowed(*(f"peer {it} " for it in others or self.alive)):
+            await self.begin_copy(others or self.alive)
             await self.wait_for_work(others or self.alive)
             return await self.reopen(without(found.state, self.document, self.lost), [], f"handovers to {found.new} stand still")
+
+    async def begin_copy(self, targets: list[str]) -> None:
+        """Moves a secondary to one of these servers, if there is one that rests, and room for it."""
+        state = await self.state()
+        rooms = {it: room for it, room in self.mover.rooms(state).items() if it in targets}
+        for shard in state.get("shards", []):
+            has = {it["server"]: it["state"] for it in shard["cells"]}
+            source = next((it for it, word in has.items() if word == "secondary"), None)
+            target = next((it for it, room in rooms.items() if it not in has and room >= shard["load"]), None)
+            if source and target and "primary" in has.values() and shard["shard"] not in self.mover.busy:
+                await self.operator.do({"do": "begin", "plan": plan_of([move_stream(shard, source, target)]), "name": self.name("copy")})
+                return
 
     # Handovers that stand still.
 

@@ -131,7 +131,7 @@ class LossStory(ReopeningStory):
     @contextmanager
     def left_alone(self, server: str, state: Line, are_used: bool = True) -> Iterator[None]:
         """Has the shards whose primary a server has stay there while something is done. Clients use them as if they were moved, unless they are not to."""
-        shards = {it["shard"] for it in state["shards"] if any(cell["server"] == server and cell["state"] == "primary" for cell in it["cells"])} - self.mover.busy
+        shards = {it["shard"] for it in self.primaries(state, server)} - self.mover.busy
         self.mover.busy |= shards
         self.mover.passed |= set() if are_used else shards
         try:
@@ -211,6 +211,10 @@ class LossStory(ReopeningStory):
         """The server that has most primaries, none if no epoch is in force."""
         counts = Counter(cell["server"] for shard in state.get("shards", []) for cell in shard["cells"] if cell["state"] == "primary")
         return max(sorted(set(counts) - self.lost), key=lambda it: counts[it], default=None)
+
+    def primaries(self, state: Line, server: str) -> list[Line]:
+        """The shards whose primary a server has."""
+        return [it for it in state.get("shards", []) if any(cell["server"] == server and cell["state"] == "primary" for cell in it["cells"])]
 
     def first_follower(self, state: Line, server: str | None) -> str | None:
         """A server that has a secondary of a shard whose primary a server has."""
