@@ -85,6 +85,8 @@ LEASE_OF = {"lease-unheeded": 4.0, "confirm-before-lease-ends": 4.0}
 COPIES_OF = {"leave-not-asked": 2, "copied-too-early": 2, "acknowledges-alone": 2}
 
 
+# How long a run may take beside its harm, in seconds.
+LONGEST = 600.0
 # The words for a run that gave no verdict, and for one that did not come to what is harmful.
 NO_END, LEFT_OUT = "the run did not come to its end", "nothing, and a loss was left out"
 
@@ -108,7 +110,8 @@ async def first_violation(bug: str, seed: int, told: argparse.Namespace) -> str 
                         lease=told.lease or LEASE_OF.get(bug, 0.0), store=told.store, is_slow=told.recipe)
     run = Run(settings)
     try:
-        result = await run.run()
+        async with asyncio.timeout(LONGEST + told.seconds):
+            result = await run.run()
         found = most_telling(result.verdict.faults)
         return found if found is not None else LEFT_OUT if result.counts["losses left out"] else None
     except (NotReady, NotOpened, NoLeader, Failed, OSError, TimeoutError) as why:
