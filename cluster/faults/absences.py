@@ -20,6 +20,8 @@ from .servers import ServerStory
 
 # How long a server or its store is stopped, in seconds: shorter and longer than others wait for it.
 STOPS = (1.0, 2.5, 4.5)
+# For how many seconds a slow store runs between two stops.
+RUNS = 0.3
 # How many bytes a file may still grow when a disk is full.
 LAST_BYTES = 3000
 # How often the operator reopens so that a server with a new disk has nothing, if it does not tell in time that it has no slots.
@@ -84,7 +86,7 @@ class AbsenceStory(ServerStory, LossStory):
             await asyncio.sleep(seconds)
         finally:
             self.signal_store(name, signal.SIGCONT)
-        await asyncio.sleep(0.3)
+        await asyncio.sleep(RUNS)
 
     @asynccontextmanager
     async def slow_store(self, name: str) -> AsyncIterator[None]:

@@ -15,6 +15,8 @@ from .reopenings import ReopeningStory, without
 
 # For how many seconds a secondary does not hear its primary, so that writes go on without it.
 ABSENT = 4.5
+# Within how many seconds a server that is killed is to be up again, so that writes do not go on without it, and how often this is tried.
+IN_TIME, RESTARTS = 2.0, 3
 # A shard that a server has, its state and its last write.
 Replica = tuple[str, str, int]
 
@@ -68,7 +70,8 @@ class LossStory(ReopeningStory):
     async def may_lose(self) -> bool:
         """Waits until a server may be given up: each shard has all its replicas, and, unless each write is at two servers anyway, all of them have all writes. Whether it
         may."""
-        if await self.wait_until_whole() and (fewest(self.cluster.shape) > 1 or await self.wait_until_caught_up()):
+        seconds = max(20.0, self.operator.patience / 4)
+        if await self.wait_until_whole(seconds) and (fewest(self.cluster.shape) > 1 or await self.wait_until_caught_up(seconds)):
             return True
         self.tell("no server is given up: some shard lacks a replica, or one that has all writes")
         self.counts["losses left out"] += 1
@@ -160,16 +163,25 @@ class LossStory(ReopeningStory):
             if server is None or follower is None:
                 return
             with self.left_alone(server, state):
-                await self.cluster.processes[follower].kill()
-                begun = time.monotonic()
-                await self.cluster.processes[follower].start()
-                # (writes go on without a secondary that has been away for three seconds: the loss of the primary would take them along)
-                if time.monotonic() - begun > 2.0:
+                if not await self.restart_in_time(follower):
                     self.counts["losses left out"] += 1
                     return
                 await self.lose(server, f"while {follower}, which was restarted, catches up")
             self.counts["primaries lost while a restarted replica catches up"] += 1
             await self.reopen(without(await self.state(), self.document, self.lost), [server], f"{server} died")
+
+    async def restart_in_time(self, name: str) -> bool:
+        """Kills a server, and starts it again within two seconds, for which a busy machine may need some tries; tells whether it did. (Writes go on
+        without a secondary that has been away for three seconds: the loss of the primary would take them along.)"""
+        for _ in range(RESTARTS):
+            await self.cluster.processes[name].kill()
+            begun = time.monotonic()
+            await self.cluster.processes[name].start()
+            if time.monotonic() - begun <= IN_TIME:
+                return True
+            if not await self.wait_until_caught_up():
+                return False
+        return False
 
     async def lose_beside_absent(self) -> None:
         """Gives a secondary up for good, under load, while writes go on without another one of the shard."""

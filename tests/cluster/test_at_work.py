@@ -1,0 +1,98 @@
+"""Parts of a story in which orders, fences and losses meet what is at work: slow disks, copies that are begun, restarts in time."""
+import asyncio
+import signal
+import unittest
+from contextlib import asynccontextmanager
+from types import SimpleNamespace
+from unittest.mock import AsyncMock, patch
+
+from cluster.faults.handovers import Handovers, HandoverStory
+from cluster.launch.moving import Mover
+from cluster.launch.shape import Shape
+
+PRIMARY, SECONDARY = "primary", "secondary"
+
+
+def row(shard, **cells):
+    """A shard as it is recorded."""
+    return {"shard": shard, "load": 1, "listed": None, "cells": [{"server": it, "state": word} for it, word in cells.items()]}
+
+
+def recorded(*rows):
+    """What is recorded: each server has room for one replica more."""
+    servers = [{"server": it, "room": 9, "load": 8, "held": 0, "permit": None} for it in "abc"]
+    return {"is": "open", "servers": servers, "shards": list(rows)}
+
+
+class AtWorkTest(unittest.IsolatedAsyncioTestCase):
+    """A story over three servers, whose lines and signals are noted."""
+
+    def setUp(self):
+        self.done, self.state = [], recorded(row("s", a=PRIMARY, b=SECONDARY), row("t", a=PRIMARY, b=SECONDARY), row("u", b=PRIMARY, c=SECONDARY))
+        self.process = SimpleNamespace(kill=AsyncMock(), start=AsyncMock(), is_running=True)
+        self.operator = SimpleNamespace(patience=1.0, do=self.do, ask=AsyncMock(side_effect=lambda line: {"state": self.state}))
+        cluster = SimpleNamespace(shape=Shape(servers=3, controllers=1), processes={it: self.process for it in "abc"}, tell_proxies=self.tell_proxies,
+                                  proxies=SimpleNamespace(rates={}))
+        self.story = HandoverStory(cluster, self.operator, Mover(self.operator, 1), 1, lambda text: None)
+        self.story.signal_store = lambda name, number: self.done.append((name, number))
+
+    async def do(self, line):
+        self.done.append([(it["do"], it["server"]) for it in line["plan"]["streams"][0]["code"] if "server" in it])
+        return {"begun": {}}
+
+    async def tell_proxies(self, **message):
+        self.done.append(message)
+        return {}
+
+    async def test_primaries_change_roles_while_their_disk_is_slow(self):
+        self.story.dice = SimpleNamespace(choice=lambda names: "a", uniform=lambda low, high: 0.0)
+        with patch("cluster.faults.absences.RUNS", 0.0):
+            await self.story.stop_store()
+        swap, stop = [("change", "a"), ("change", "b")], [("a", signal.SIGSTOP), ("a", signal.SIGCONT)]
+        self.assertEqual(self.done, [swap, *stop, swap, *stop, *stop])
+        self.assertFalse(self.story.mover.busy)
+
+    async def test_a_disk_that_was_slow_runs_in_the_end(self):
+        with patch("cluster.faults.absences.RUNS", 0.0):
+            async with self.story.slow_store("b"):
+                await asyncio.sleep(0.05)
+        self.assertEqual([number for _, number in self.done], [signal.SIGSTOP, signal.SIGCONT])
+
+    async def test_orders_come_through_before_connections_last_again(self):
+        found = Handovers("c", {"s": "a"}, [], self.state)
+        with patch("asyncio.sleep", AsyncMock()):
+            self.assertTrue(await self.story.let_pass(found))
+        self.assertEqual(self.done, [{"links": ["order k0 c"], "hold": []}])
+
+    async def test_a_copy_is_begun_of_a_shard_that_rests(self):
+        self.story.mover.busy = {"s"}
+        await self.story.begin_copy(["c"])
+        self.assertEqual(self.done, [[("add", "c"), ("drop", "b")]])
+        self.state = recorded(row("u", b=PRIMARY, c=SECONDARY))
+        await self.story.begin_copy(["c"])
+        self.assertEqual(len(self.done), 1)
+
+    async def test_a_reopening_amid_passing_finds_a_slow_disk(self):
+        doing = []
+
+        @asynccontextmanager
+        async def slow_store(name):
+            doing.append(name)
+            yield
+            doing.append("runs")
+
+        async def reopen(document, lost, why):
+            doing.append("reopen")
+            return True
+
+        self.story.slow_store, self.story.reopen, self.story.wait_for_work = slow_store, reopen, AsyncMock()
+        self.assertTrue(await self.story.reopen_slowly(Handovers("c", {"s": "a"}, [], self.state)))
+        self.assertEqual(doing, ["c", "reopen", "runs"])
+
+    async def test_a_restart_that_takes_too_long_is_made_again(self):
+        self.story.wait_until_caught_up = AsyncMock(side_effect=[True, False])
+        with patch("cluster.faults.losses.IN_TIME", -1.0):
+            self.assertFalse(await self.story.restart_in_time("b"))
+        self.assertEqual(self.process.start.await_count, 2)
+        self.assertTrue(await self.story.restart_in_time("b"))
+        self.assertEqual(self.process.start.await_count, 3)
