@@ -232,7 +232,7 @@ class Run:
         server = self.story.dice.choice(self.story.alive)
         self.tell(f"drain {server}")
         begun = time.monotonic_ns()
-        is_done = await self.mover.empty(server, 120.0 if self.settings.is_busy else 30.0)
+        is_done = await self.mover.empty(server, self.operator.patience / 2 if self.settings.is_busy else 30.0)
         self.spans["while a server is drained"].append((begun, time.monotonic_ns()))
         self.tell(f"{server} is empty after {(time.monotonic_ns() - begun) / 1e9:.1f} s" if is_done else f"{server} could not be emptied")
         self.mover.avoided.discard(server)

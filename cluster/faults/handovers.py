@@ -41,7 +41,7 @@ class HandoverStory(OutsideStory):
         async with self.restarting, self.reopening:
             if not await self.may_lose():
                 return False
-            until = time.monotonic() + self.operator.patience
+            until = time.monotonic() + self.operator.patience / 2
             while time.monotonic() < until:
                 found = await self.lose_in_handover(target, how == "fenced")
                 if found is not None:
@@ -118,7 +118,7 @@ class HandoverStory(OutsideStory):
     async def in_handovers(self, harm: Harm, act: Callable[[Handovers], Awaitable[bool]]) -> bool:
         """Begins handovers, and acts once requests are passed on, while no order gets to the new owner, and harm is done to it; tells whether it came to that."""
         async with self.reopening:
-            until = time.monotonic() + self.operator.patience
+            until = time.monotonic() + self.operator.patience / 2
             while time.monotonic() < until:
                 async with AsyncExitStack() as meanwhile:
                     found = await self.passing_handovers(meanwhile, harm)
