@@ -241,7 +241,7 @@ class Run:
         """Lets messages through again, and ends the clients, which read everything at the end."""
         await self.cluster.tell_proxies(rates={"drop": 0.0, "repeat": 0.0, "delay": 0.0})
         await asyncio.sleep(1.0)
-        await self.cluster.processes["clients"].end_input(120.0)
+        await self.cluster.processes["clients"].end_input(240.0)
         await asyncio.sleep(1.0)
 
     async def show(self) -> None:
