@@ -163,10 +163,11 @@ class LossStory(ReopeningStory):
             if server is None or follower is None:
                 return
             with self.left_alone(server, state):
-                if not await self.restart_in_time(follower):
-                    self.counts["losses left out"] += 1
-                    return
-                await self.lose(server, f"while {follower}, which was restarted, catches up")
+                async with self.slowed(f"peer {follower} {server}", shortest=0.6, longest=0.2, drop=0.0):
+                    if not await self.restart_in_time(follower):
+                        self.counts["losses left out"] += 1
+                        return
+                    await self.lose(server, f"while {follower}, which was restarted, catches up")
             self.counts["primaries lost while a restarted replica catches up"] += 1
             await self.reopen(without(await self.state(), self.document, self.lost), [server], f"{server} died")
 

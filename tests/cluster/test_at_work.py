@@ -96,3 +96,16 @@ class AtWorkTest(unittest.IsolatedAsyncioTestCase):
         self.assertEqual(self.process.start.await_count, 2)
         self.assertTrue(await self.story.restart_in_time("b"))
         self.assertEqual(self.process.start.await_count, 3)
+
+    async def test_a_restarted_secondary_follows_late_until_its_primary_is_lost(self):
+        self.story.may_lose, self.story.reopen = AsyncMock(return_value=True), AsyncMock()
+
+        async def lose(server, how):
+            self.done.append(server)
+
+        self.story.lose = lose
+        await self.story.lose_beside_restart()
+        slow, lost, usual = self.done
+        self.assertEqual((slow["links"], lost, usual["links"]), (("peer b a",), "a", ("peer b a",)))
+        self.assertEqual((slow["rates"]["shortest"], usual["rates"]["shortest"]), (0.6, 0.0))
+        self.assertEqual(self.process.start.await_count, 1)
