@@ -77,8 +77,8 @@ WORKERS_OF = {"fence-while-passed": 1, "cut-unheeded": 1, "commit-after-fence": 
 MOVES_OF = {"commit-after-fence": 1}
 
 
-# The time of a lease, if a bug is about that: somewhat longer than a reopening takes.
-LEASE_OF = {"lease-unheeded": 4.0, "confirm-before-lease-ends": 4.0}
+# The time of a lease, if a bug is about that: longer than a reopening takes on a busy machine.
+LEASE_OF = {"lease-unheeded": 6.0, "confirm-before-lease-ends": 6.0}
 
 
 # How many servers have each write before it is acknowledged, if a bug is about that.
