@@ -71,9 +71,10 @@ class LossStory(ReopeningStory):
         """Waits until a server may be given up: each shard has all its replicas, and, unless each write is at two servers anyway, all of them have all writes. Whether it
         may."""
         seconds = max(20.0, self.operator.patience / 4)
-        if await self.wait_until_whole(seconds) and (fewest(self.cluster.shape) > 1 or await self.wait_until_caught_up(seconds)):
+        is_whole = await self.wait_until_whole(seconds)
+        if is_whole and (fewest(self.cluster.shape) > 1 or await self.wait_until_caught_up(seconds)):
             return True
-        self.tell("no server is given up: some shard lacks a replica, or one that has all writes")
+        self.tell(f"no server is given up: {'a replica lacks writes' if is_whole else 'some shard lacks a replica'}")
         self.counts["losses left out"] += 1
         return False
 
