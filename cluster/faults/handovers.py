@@ -172,11 +172,12 @@ class HandoverStory(OutsideStory):
     async def reopen_at_work(self, found: Handovers) -> bool:
         """Reopens as soon as an order is at work at one of the other servers, where copies are slow meanwhile."""
         self.tell(f"reopen, while {', '.join(sorted(found.olds))} are handed over to {found.new}")
-        others = [it for it in self.alive if it not in (found.new, *found.olds.values())]
+        olds = set(found.olds.values())
+        others = [it for it in self.alive if it not in (found.new, *olds)] or sorted(olds)
         self.counts["reopenings in a handover"] += 1
-        async with self.slowed(*(f"peer {it} " for it in others or self.alive)):
-            await self.begin_copy(others or self.alive)
-            await self.wait_for_work(others or self.alive)
+        async with self.slowed(*(f"peer {it} " for it in others)):
+            await self.begin_copy(others)
+            await self.wait_for_work(others)
             return await self.reopen(without(found.state, self.document, self.lost), [], f"handovers to {found.new} stand still")
 
     async def begin_copy(self, targets: list[str]) -> None:
