@@ -22,12 +22,23 @@ sending: set[asyncio.Task[None]] = set()
 
 def release(link: Link) -> None:
     """Has the copies that a link kept come now, and keeps no more."""
-    for line in link.copies or []:
+    send_again(link, link.copies)
+    link.copies = None
+
+
+def release_orders(link: Link) -> None:
+    """Has the orders that a link kept come now, and keeps no more."""
+    send_again(link, link.orders)
+    link.orders = None
+
+
+def send_again(link: Link, lines: list[bytes] | None) -> None:
+    """Sends lines to the far end of a link once more."""
+    for line in lines or []:
         link.count("copied")
         task = asyncio.create_task(send_by_itself(line, link))
         sending.add(task)
         task.add_done_callback(sending.discard)
-    link.copies = None
 
 
 # How long the proxies rest between two looks, and by how much longer this is if other work on the machine keeps them from running, in seconds.
@@ -73,6 +84,10 @@ async def run(told: dict) -> None:
                     link.copies = link.copies or []
                 elif "copies" in message:
                     release(link)
+                elif message.get("orders"):
+                    link.orders = link.orders or []
+                elif "orders" in message:
+                    release_orders(link)
                 elif "rates" in message:
                     link.dice.rates = replace(link.dice.rates, **message["rates"])
                 else:

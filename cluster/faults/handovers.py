@@ -116,11 +116,12 @@ class HandoverStory(OutsideStory):
                 self.mover.busy -= set(found.olds)
 
     async def in_handovers(self, harm: Harm, act: Callable[[Handovers], Awaitable[bool]]) -> bool:
-        """Begins handovers, and acts once requests are passed on, while no order gets to the new owner, and harm is done to it; tells whether it came to that."""
+        """Begins handovers, and acts once requests are passed on, while no order gets to the new owner, and harm is done to it; tells whether it came to
+        that. Behind it all orders of that time come once more."""
         async with self.reopening:
             until = time.monotonic() + self.operator.patience / 2
             while time.monotonic() < until:
-                async with AsyncExitStack() as meanwhile:
+                async with self.orders_again(), AsyncExitStack() as meanwhile:
                     found = await self.passing_handovers(meanwhile, harm)
                     if found is not None:
                         return await act(found)

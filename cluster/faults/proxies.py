@@ -18,7 +18,7 @@ Relay = Callable[[Reader, Writer, Reader, Writer, "Link"], Awaitable[None]]
 class Link:
     """A way through a proxy. Nothing gets through if it is cut, and nothing comes back if it is mute. If it is a hole nothing comes through either
     way, and its connections stand. A message that has all texts of `held` does not get through (a line) or waits (a request of HTTP). If there are
-    `copies`, each message that is seldom sent is kept among them, to come again."""
+    `copies`, each message that is seldom sent is kept among them, to come again, and each order if there are `orders`."""
 
     name: str
     dice: Dice
@@ -29,10 +29,17 @@ class Link:
     is_hole: bool = False
     held: tuple[bytes, ...] = ()
     copies: list[bytes] | None = None
+    orders: list[bytes] | None = None
 
     def holds(self, message: bytes) -> bool:
         """Whether a message is one of those that are held."""
         return bool(self.held) and all(it in message for it in self.held)
+
+    def keep(self, line: bytes) -> None:
+        """Keeps a copy of a line, if copies of its kind are kept."""
+        for kept, is_of_kind in ((self.copies, is_rare(line)), (self.orders, b'"order"' in line[:40])):
+            if kept is not None and is_of_kind:
+                kept.append(line)
 
     def count(self, what: str) -> None:
         """Counts what befell a message."""
@@ -81,8 +88,8 @@ async def relay_lines(reader: Reader, writer: Writer, link: Link, outlives: bool
         if link.is_cut or link.is_hole or (is_back and link.is_mute) or link.holds(line[:40]) or link.dice.drops():
             continue
         send(line, link.dice.lateness())
-        if outlives and link.copies is not None and is_rare(line):
-            link.copies.append(line)
+        if outlives:
+            link.keep(line)
         if link.dice.repeats(is_rare(line)):
             send(line, link.dice.lateness_of_copy())
         await writer.drain()

@@ -148,6 +148,16 @@ class Story:
         finally:
             await self.cluster.tell_proxies(links=links, hold=[])
 
+    @asynccontextmanager
+    async def orders_again(self) -> AsyncIterator[None]:
+        """Has all orders that are sent while something is done come once more behind it."""
+        links = self.orders_to(*self.cluster.shape.server_names)
+        await self.cluster.tell_proxies(links=links, orders=True)
+        try:
+            yield
+        finally:
+            await self.cluster.tell_proxies(links=links, orders=False)
+
     async def proxies_count(self, what: str) -> int:
         """How often the proxies have done this."""
         return (await self.cluster.tell_proxies(counts=True))["counts"].get(what, 0)

@@ -64,6 +64,13 @@ class AtWorkTest(unittest.IsolatedAsyncioTestCase):
             self.assertTrue(await self.story.let_pass(found))
         self.assertEqual(self.done, [{"links": ["order k0 c"], "hold": []}])
 
+    async def test_orders_come_once_more_behind_a_handover(self):
+        self.story.passing_handovers = AsyncMock(side_effect=lambda *_: self.done.append("passing"))
+        self.operator.patience = 0.01
+        self.assertFalse(await self.story.in_handovers(None, None))
+        links = ["order k0 a", "order k0 b", "order k0 c"]
+        self.assertEqual(self.done, [{"links": links, "orders": True}, "passing", {"links": links, "orders": False}])
+
     async def test_a_copy_is_begun_of_a_shard_that_rests(self):
         self.story.mover.busy = {"s"}
         await self.story.begin_copy(["c"])

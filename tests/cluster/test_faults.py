@@ -19,7 +19,7 @@ from cluster.catch import PARTS, PARTS_OF, RULE_OF, most_telling
 from cluster.clients.__main__ import load_of
 from cluster.clients.load import LONGEST_TEXT, Generator, Load, text_sizes, told_of
 from cluster.controllers.bugs import BUGS as CONTROLLER_BUGS
-from cluster.faults.__main__ import release
+from cluster.faults.__main__ import release, release_orders
 from cluster.faults.dice import Dice, Rates
 from cluster.faults.handovers import HandoverStory
 from cluster.faults.leaders import LeaderStory
@@ -102,16 +102,18 @@ class ProxyTest(unittest.IsolatedAsyncioTestCase):
             writer.close()
 
         await self.serve(take)
-        link = self.link("order k a", copies=[])
+        link = self.link("order k a", copies=[], orders=[])
         _, writer = await self.connect("lines", link)
-        lines = [b'{"id":1,"restore":{}}\n', b'{"id":2,"order":{}}\n']
+        lines = [b'{"id":1,"restore":{}}\n', b'{"id":2,"order":{}}\n', b'{"id":3,"audit":{}}\n']
         writer.writelines(lines)
-        await until(lambda: len(found) == 2)
-        self.assertEqual(link.copies, lines[:1])
-        writer.close()
-        release(link)
         await until(lambda: len(found) == 3)
-        self.assertEqual((found[2], link.copies), (lines[0], None))
+        self.assertEqual((link.copies, link.orders), (lines[:1], lines[1:2]))
+        writer.close()
+        for place, act in enumerate((release, release_orders)):
+            act(link)
+            await until(lambda: len(found) == 4 + place)
+            self.assertEqual(found[3 + place], lines[place])
+        self.assertEqual((link.copies, link.orders), (None, None))
 
     async def test_copy_outlives_connection(self):
         found, has_ended = [], asyncio.Event()
