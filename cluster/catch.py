@@ -77,8 +77,9 @@ WORKERS_OF = {"fence-while-passed": 1, "cut-unheeded": 1, "commit-after-fence": 
 MOVES_OF = {"commit-after-fence": 1}
 
 
-# The time of a lease, if a bug is about that: longer than a reopening takes on a busy machine.
-LEASE_OF = {"lease-unheeded": 6.0, "confirm-before-lease-ends": 6.0}
+# The time of a lease, if a bug is about that, and by how much it is longer on a busy machine: a reopening is to take less.
+LEASE_OF = {"lease-unheeded": 4.0, "confirm-before-lease-ends": 4.0}
+LONGER_IF_BUSY = 3.0
 
 
 # How many servers have each write before it is acknowledged, if a bug is about that.
@@ -107,7 +108,7 @@ async def first_violation(bug: str, seed: int, told: argparse.Namespace) -> str 
                         WORKERS_OF.get(recipe, 3), MOVES_OF.get(recipe, 4), pause=told.pause, is_quiet=True, swaps=SWAPS_OF.get(recipe, 0.2),
                         is_busy=told.busy,
                         ending=75.0 if told.busy else 25.0, patience=120.0 if told.busy else 40.0,
-                        lease=told.lease or LEASE_OF.get(bug, 0.0), store=told.store, is_slow=told.recipe)
+                        lease=told.lease or LEASE_OF.get(bug, 0.0) * (LONGER_IF_BUSY if told.busy else 1.0), store=told.store, is_slow=told.recipe)
     run = Run(settings)
     try:
         async with asyncio.timeout(LONGEST + told.seconds):
