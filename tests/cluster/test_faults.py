@@ -7,6 +7,7 @@ import logging
 import tempfile
 import time
 import unittest
+from argparse import Namespace
 from collections import Counter
 from pathlib import Path
 from random import Random
@@ -15,7 +16,7 @@ from unittest.mock import AsyncMock, MagicMock, patch
 
 from scripted import until, until_at_rest
 
-from cluster.catch import PARTS, PARTS_OF, RULE_OF, most_telling
+from cluster.catch import LEFT_OUT, NO_END, PARTS, PARTS_OF, RULE_OF, is_late, most_telling, try_once
 from cluster.clients.__main__ import load_of
 from cluster.clients.load import LONGEST_TEXT, Generator, Load, text_sizes, told_of
 from cluster.controllers.bugs import BUGS as CONTROLLER_BUGS
@@ -441,6 +442,17 @@ class PartsTest(unittest.TestCase):
     def test_what_a_checker_found_is_told_first(self):
         slow = ["plans that have not come to their end: p", "the map names a for s, and is to name b"]
         self.assertEqual([most_telling(it) for it in ([*slow, "servers: a"], slow, [])], ["servers: a", slow[1], None])
+        late = ["servers: b s00 in the end: it has 13 writes of 16", "clients: s:k0: nobody could read it at the end", *slow]
+        self.assertEqual(most_telling([*late, "a has another state than the journal"]), "a has another state than the journal")
+        self.assertEqual([is_late(it) for it in (late[0], 'the audit of a: {"audit": {"is": "differs"}}', "the audit of a: null")], [True, False, True])
+
+    def test_what_is_late_counts_if_it_is_not_without_the_bug(self):
+        late, told = "plans that have not come to their end: p", Namespace(sound=False)
+        for runs, found in (((late, None), late), ((late, LEFT_OUT), late), ((late, late), f"{NO_END}: {late}; without the bug: {late}"),
+                            (("servers: a",), "servers: a"), ((LEFT_OUT,), LEFT_OUT), ((None,), None)):
+            with patch("cluster.catch.first_violation", AsyncMock(side_effect=runs)) as run:
+                self.assertEqual(try_once("bug", 1, told), found)
+                self.assertEqual([it.args[2].sound for it in run.await_args_list], [False, True][:len(runs)])
 
     def test_servers_restarted_without_leave_lose_their_slots(self):
         names = [name for _, name in PARTS_OF["restart-without-approval"]]
