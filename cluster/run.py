@@ -122,7 +122,8 @@ class Run:
         self.begun = time.monotonic()
         self.cluster = LocalCluster(settings.directory, settings.shape, settings.program, settings.rates, settings.bugs, pause=settings.pause,
                                     lease=settings.lease, store=settings.store, is_slow=settings.is_slow,
-                                    notes_syncs=any(name == "cut_to_last_sync" for _, name in settings.parts), copies=settings.copies)
+                                    notes_syncs=any(name == "cut_to_last_sync" for _, name in settings.parts), copies=settings.copies,
+                                    is_busy=settings.is_busy)
         self.operator = Operator(self.cluster.pages, settings.patience or (240.0 if settings.is_busy else 90.0))
         self.mover = Mover(self.operator, settings.shape.seed, settings.swaps, settings.is_abrupt)
         self.story = HandoverStory(self.cluster, self.operator, self.mover, settings.shape.seed, self.tell)

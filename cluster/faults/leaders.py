@@ -90,7 +90,7 @@ class LeaderStory(MemberStory, ReopeningStory):
             return
         self.tell(f"answers of etcd to {leader}, which leads, are lost")
         async with self.muted(f"etcd {leader} "):
-            await asyncio.sleep(self.dice.uniform(1.0, 4.0))
+            await asyncio.sleep(self.dice.uniform(0.5, 2.0) * self.cluster.leading)
         self.counts["leaders without etcd's answers"] += 1
 
     async def ask_too_much(self) -> None:
@@ -106,13 +106,13 @@ class LeaderStory(MemberStory, ReopeningStory):
 
     # Writes of the map that come late.
 
-    async def freeze_leader(self, seconds: float = 4.0, reopens: bool = False) -> None:
+    async def freeze_leader(self, reopens: bool = False) -> None:
         """Stops the leading controller, while it writes the map, until it is deposed; then lets it go on. Its write is held on its way until another one leads,
         and it hears late that its lease has ended. If it `reopens`, the next leader does, before the write arrives and that one goes on."""
         async with self.stopping:
             leader = await self.leader()
             if leader is not None:
-                await self.freeze(leader, seconds, reopens)
+                await self.freeze(leader, 2.0 * self.cluster.leading, reopens)
 
     async def freeze(self, leader: str, seconds: float, reopens: bool) -> None:
         """Stops a controller while it writes the map, and lets it go on."""

@@ -79,7 +79,10 @@ class ServerStory(Story):
             return True
 
     async def is_up(self, name: str, permit: int) -> bool:
-        """Ends a restart, which is refused as long as the server has no slots: a plan that names it would keep it from being restored. Tells whether it is up."""
+        """Ends a restart, which is refused as long as the server has no slots: a plan that names it would keep it from being restored. Tells whether it is up.
+        (One that nobody approved has no end.)"""
+        if not permit:
+            return True
         until = time.monotonic() + self.operator.patience
         while time.monotonic() < until:
             reply = await self.operator.restarted(permit)

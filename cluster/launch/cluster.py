@@ -19,6 +19,8 @@ ROOT = Path(__file__).resolve().parents[2]
 # (compiled once for all processes of all runs; they need the standard library alone)
 ENVIRONMENT = {"PYTHONPATH": f"{ROOT / 'python'}:{ROOT}", "PYTHONDONTWRITEBYTECODE": "", "PYTHONPYCACHEPREFIX": str(ROOT / "build" / "pycache")}
 PYTHON = (sys.executable, "-S", "-m")
+# For how many seconds a controller leads without word of etcd, at rest and on a busy machine.
+LEADING, LEADING_IF_BUSY = 2, 5
 # What befalls messages, by the kind of link; see cluster.faults.
 CALM: dict[str, dict[str, float]] = {}
 ROUGH = {
@@ -65,8 +67,10 @@ class LocalCluster:
 
     def __init__(self, directory: Path, shape: Shape, program: str, rates: dict = CALM, bugs: tuple[str, ...] = (),
                  servers: str = "cluster.servers", pause: float = 0.01, lease: float = 0.0, store: str = "redis", is_slow: bool = False, notes_syncs: bool = False,
-                 copies: int = 1) -> None:
+                 copies: int = 1, is_busy: bool = False) -> None:
         self.store, self.is_slow, self.copies = store, is_slow, copies
+        # For how many seconds a controller leads without word of etcd.
+        self.leading = LEADING_IF_BUSY if is_busy else LEADING
         # Whether it is noted how much of a log is synced.
         syncs = library(ROOT / "build") if notes_syncs and store == "redis" else None
         self.notes_syncs = syncs is not None
@@ -75,7 +79,7 @@ class LocalCluster:
         self.moving = directory / "moving"
         self.processes = Processes(directory / "logs", Nursery([*PYTHON, "cluster.launch.nursery"], ENVIRONMENT | ({VARIABLE: str(syncs)} if syncs is not None else {})))
         self.free = Ports()
-        self.members = add_etcd(self.processes, self.free, directory)
+        self.members = add_etcd(self.processes, self.free, directory, is_busy=is_busy)
         self.proxies = Proxies(shape.seed, rates, self.free.take(1)[0], self.free)
         self.ports = {name: ServerPorts(*self.free.take(3)) for name in shape.server_names}
         self.numbers = {name: it for it, name in enumerate(shape.server_names)}
@@ -121,7 +125,7 @@ class LocalCluster:
         """Adds a controller."""
         self.processes.add_copy(
             name, "cluster.controllers", "--name", name, "--cluster", str(self.cluster_file(name)), "--program", self.program,
-            "--listen", f"127.0.0.1:{self.asks[name]}", "--http", f"127.0.0.1:{self.pages[name]}", "--confirm",
+            "--listen", f"127.0.0.1:{self.asks[name]}", "--http", f"127.0.0.1:{self.pages[name]}", "--confirm", "--lease", str(self.leading),
             *(it for bug in self.bugs if bug not in SERVER_BUGS for it in ("--bug", bug)),
         )
 
