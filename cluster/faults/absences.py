@@ -90,9 +90,10 @@ class AbsenceStory(ServerStory, LossStory):
 
     @asynccontextmanager
     async def slow_store(self, name: str) -> AsyncIterator[None]:
-        """Stops the store of a server again and again while something is done."""
+        """Stops the store of a server three times while something is begun: not for as long as that takes, which would be without an end if it waited for
+        the store."""
         async def stop_again() -> None:
-            while True:
+            for _ in range(3):
                 await self.stop_store_once(name, self.dice.uniform(0.3, 0.6))
 
         stopping = asyncio.create_task(stop_again())

@@ -103,13 +103,14 @@ class Requests:
         deadline = time.monotonic() + limits.WAITING
         while True:
             async with shard.lock:
+                self.refuse_late(shard, deadline)
                 if how.is_passed:
                     await self.heed_cut(shard, how)
                 answer, onward = self.route(shard, how)
                 if answer == Answer.EXECUTE:
                     shard.running += 1
             if answer == Answer.EXECUTE:
-                return await self.run(shard, identity, command, how)
+                return await self.run(shard, identity, command, how, deadline)
             if answer == Answer.PASS_ON:
                 return await self.pass_on(shard, identity, command, onward)
             if answer == Answer.NOT_HERE:
@@ -117,7 +118,13 @@ class Requests:
             if not await shard.look_again(deadline):
                 raise ErrorReply(f"TRYAGAIN {name}")
 
-    async def run(self, shard: Shard, identity: str | None, command: tuple[str, ...], how: Request) -> bytes:
+    def refuse_late(self, shard: Shard, deadline: float) -> None:
+        """Refuses a request that has waited too long for the shard's lock: its client has asked again by now, or is about to, and a server with more of
+        them than it can execute would execute none that anybody waits for."""
+        if time.monotonic() > deadline:
+            raise ErrorReply(f"TRYAGAIN {shard.name}")
+
+    async def run(self, shard: Shard, identity: str | None, command: tuple[str, ...], how: Request, deadline: float) -> bytes:
         """Executes a request that counts as running, and returns its reply once all who are alive have the shard's
         writes."""
         term = shard.term
@@ -125,6 +132,7 @@ class Requests:
             if thinking := self.server.think(shard, how):
                 await asyncio.sleep(thinking)
             async with shard.lock:
+                self.refuse_late(shard, deadline)
                 if shard.term != term or self.may_not_serve():
                     raise ErrorReply(f"TRYAGAIN {shard.name}")
                 reply = await self.execute(shard, identity, command, how)

@@ -9,6 +9,9 @@ from unittest.mock import AsyncMock, patch
 from cluster.faults.handovers import Handovers, HandoverStory
 from cluster.launch.moving import Mover
 from cluster.launch.shape import Shape
+from cluster.servers.requests import Requests
+from cluster.servers.shard import Shard
+from smplan.agent import Answer, Request, Slot
 
 PRIMARY, SECONDARY = "primary", "secondary"
 
@@ -57,6 +60,13 @@ class AtWorkTest(unittest.IsolatedAsyncioTestCase):
             async with self.story.slow_store("b"):
                 await asyncio.sleep(0.05)
         self.assertEqual([number for _, number in self.done], [signal.SIGSTOP, signal.SIGCONT])
+
+    async def test_a_disk_is_slow_for_a_while_alone(self):
+        self.story.dice = SimpleNamespace(uniform=lambda low, high: 0.0)
+        with patch("cluster.faults.absences.RUNS", 0.0):
+            async with self.story.slow_store("b"):
+                await asyncio.sleep(0.2)
+        self.assertEqual([number for _, number in self.done], 3 * [signal.SIGSTOP, signal.SIGCONT])
 
     async def test_orders_come_through_before_connections_last_again(self):
         found = Handovers("c", {"s": "a"}, [], self.state)
@@ -116,3 +126,25 @@ class AtWorkTest(unittest.IsolatedAsyncioTestCase):
         self.assertEqual((slow["links"], lost, usual["links"]), (("peer b a",), "a", ("peer b a",)))
         self.assertEqual((slow["rates"]["shortest"], usual["rates"]["shortest"]), (0.6, 0.0))
         self.assertEqual(self.process.start.await_count, 1)
+
+
+class LateRequestsTest(unittest.IsolatedAsyncioTestCase):
+    """Requests that wait for a shard's lock."""
+
+    async def asked(self, seconds):
+        """A request's reply, or the error, if the lock is held for so long before it; and whether it was executed."""
+        shard, requests = Shard("s", Slot()), object.__new__(Requests)
+        requests.store, requests.execute = SimpleNamespace(shards={"s": shard}), AsyncMock(return_value=b"done")
+        requests.route, requests.may_not_serve = lambda shard, how: (Answer.EXECUTE, Request()), lambda: False
+        requests.server = SimpleNamespace(think=lambda shard, how: 0, sources=SimpleNamespace(replicated=AsyncMock()))
+        async with shard.lock:
+            task = asyncio.create_task(requests.request("s", None, ("GET", "k")))
+            await asyncio.sleep(seconds)
+        (reply,) = await asyncio.gather(task, return_exceptions=True)
+        self.assertEqual(shard.running, 0)
+        return str(reply), requests.execute.await_count
+
+    async def test_who_has_waited_too_long_is_to_ask_again(self):
+        with patch("cluster.servers.limits.WAITING", 0.1):
+            self.assertEqual(await self.asked(0.2), ("TRYAGAIN s", 0))
+        self.assertEqual(await self.asked(0.0), ("b'done'", 1))
