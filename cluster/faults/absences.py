@@ -89,19 +89,14 @@ class AbsenceStory(ServerStory, LossStory):
         await asyncio.sleep(RUNS)
 
     @asynccontextmanager
-    async def slow_store(self, name: str) -> AsyncIterator[None]:
-        """Stops the store of a server three times while something is begun: not for as long as that takes, which would be without an end if it waited for
-        the store."""
-        async def stop_again() -> None:
-            for _ in range(3):
-                await self.stop_store_once(name, self.dice.uniform(0.3, 0.6))
-
-        stopping = asyncio.create_task(stop_again())
+    async def stopped_store(self, name: str) -> AsyncIterator[None]:
+        """Stops the store of a server for a moment, in which something is begun: requests are at work by then."""
+        stopping = asyncio.create_task(self.stop_store_once(name, self.dice.uniform(0.8, 1.2)))
+        await asyncio.sleep(RUNS)
         try:
             yield
         finally:
-            stopping.cancel()
-            await asyncio.wait([stopping])
+            await stopping
 
     async def stop_two(self) -> None:
         """Stops two servers for longer than others wait for them, both secondaries of one shard if there is one."""

@@ -3,8 +3,8 @@ from __future__ import annotations
 
 import asyncio
 import time
-from collections.abc import AsyncIterator, Awaitable, Callable
-from contextlib import AsyncExitStack, asynccontextmanager
+from collections.abc import AsyncIterator, Awaitable, Callable, Iterator
+from contextlib import AsyncExitStack, asynccontextmanager, contextmanager, nullcontext
 from dataclasses import dataclass
 
 from smplan.control import Line
@@ -135,10 +135,20 @@ class HandoverStory(OutsideStory):
                 return None
             await meanwhile.enter_async_context(self.held(['"order"'], *self.orders_to(found.new)))
             await harm(meanwhile, found.new, set(found.olds.values()))
+        meanwhile.enter_context(self.used(set(found.olds)))
         if not await self.wait_for_cells(found.olds, "forwarding"):
             return None
         await asyncio.sleep(0.4)
         return found
+
+    @contextmanager
+    def used(self, shards: set[str]) -> Iterator[None]:
+        """Has clients use shards, and the mover leave them alone, while something is done."""
+        self.mover.busy |= shards
+        try:
+            yield
+        finally:
+            self.mover.busy -= shards
 
     async def undisturbed(self, meanwhile: AsyncExitStack, new: str, olds: set[str]) -> None:
         """Does no harm."""
@@ -167,10 +177,9 @@ class HandoverStory(OutsideStory):
 
     async def reopen_slowly(self, found: Handovers) -> bool:
         """Reopens at work while the new owner's disk is slow: requests that were passed on are at work there as the fence comes."""
-        async with self.slow_store(found.new):
-            return await self.reopen_at_work(found)
+        return await self.reopen_at_work(found, True)
 
-    async def reopen_at_work(self, found: Handovers) -> bool:
+    async def reopen_at_work(self, found: Handovers, is_slow: bool = False) -> bool:
         """Reopens as soon as an order is at work at one of the other servers, where copies are slow meanwhile."""
         self.tell(f"reopen, while {', '.join(sorted(found.olds))} are handed over to {found.new}")
         olds = set(found.olds.values())
@@ -179,7 +188,8 @@ class HandoverStory(OutsideStory):
         async with self.slowed(*(f"peer {it} " for it in others)):
             await self.begin_copy(others)
             await self.wait_for_work(others)
-            return await self.reopen(without(found.state, self.document, self.lost), [], f"handovers to {found.new} stand still")
+            async with self.stopped_store(found.new) if is_slow else nullcontext():
+                return await self.reopen(without(found.state, self.document, self.lost), [], f"handovers to {found.new} stand still")
 
     async def begin_copy(self, targets: list[str]) -> None:
         """Moves a secondary to one of these servers, if there is one that rests, and room for it."""

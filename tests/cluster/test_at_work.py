@@ -55,18 +55,12 @@ class AtWorkTest(unittest.IsolatedAsyncioTestCase):
         self.assertEqual(self.done, [swap, *stop, swap, *stop, *stop])
         self.assertFalse(self.story.mover.busy)
 
-    async def test_a_disk_that_was_slow_runs_in_the_end(self):
-        with patch("cluster.faults.absences.RUNS", 0.0):
-            async with self.story.slow_store("b"):
-                await asyncio.sleep(0.05)
-        self.assertEqual([number for _, number in self.done], [signal.SIGSTOP, signal.SIGCONT])
-
-    async def test_a_disk_is_slow_for_a_while_alone(self):
-        self.story.dice = SimpleNamespace(uniform=lambda low, high: 0.0)
-        with patch("cluster.faults.absences.RUNS", 0.0):
-            async with self.story.slow_store("b"):
-                await asyncio.sleep(0.2)
-        self.assertEqual([number for _, number in self.done], 3 * [signal.SIGSTOP, signal.SIGCONT])
+    async def test_a_disk_stops_for_a_moment_in_which_something_is_begun(self):
+        self.story.dice = SimpleNamespace(uniform=lambda low, high: 0.1)
+        with patch("cluster.faults.absences.RUNS", 0.05):
+            async with self.story.stopped_store("b"):
+                self.assertEqual(self.done, [("b", signal.SIGSTOP)])
+        self.assertEqual(self.done[1:], [("b", signal.SIGCONT)])
 
     async def test_orders_come_through_before_connections_last_again(self):
         found = Handovers("c", {"s": "a"}, [], self.state)
@@ -93,7 +87,7 @@ class AtWorkTest(unittest.IsolatedAsyncioTestCase):
         doing = []
 
         @asynccontextmanager
-        async def slow_store(name):
+        async def stopped_store(name):
             doing.append(name)
             yield
             doing.append("runs")
@@ -102,9 +96,27 @@ class AtWorkTest(unittest.IsolatedAsyncioTestCase):
             doing.append("reopen")
             return True
 
-        self.story.slow_store, self.story.reopen, self.story.wait_for_work = slow_store, reopen, AsyncMock()
-        self.assertTrue(await self.story.reopen_slowly(Handovers("c", {"s": "a"}, [], self.state)))
-        self.assertEqual(doing, ["c", "reopen", "runs"])
+        self.story.stopped_store, self.story.reopen, self.story.wait_for_work = stopped_store, reopen, AsyncMock()
+        found = Handovers("c", {"s": "a"}, [], self.state)
+        self.assertTrue(await self.story.reopen_slowly(found))
+        self.assertTrue(await self.story.reopen_at_work(found))
+        self.assertEqual(doing, ["c", "reopen", "runs", "reopen"])
+
+    async def test_what_is_handed_over_is_used_until_something_was_done(self):
+        found = Handovers("c", {"s": "a"}, [], self.state)
+
+        @asynccontextmanager
+        async def held_handovers(most):
+            yield found
+
+        self.story.held_handovers, self.story.wait_for_cells, busy = held_handovers, AsyncMock(return_value=True), []
+
+        async def act(found):
+            busy.append(set(self.story.mover.handed_over))
+            return True
+
+        self.assertTrue(await self.story.in_handovers(self.story.undisturbed, act))
+        self.assertEqual((busy, self.story.mover.busy), ([{"s"}], set()))
 
     async def test_a_restart_that_takes_too_long_is_made_again(self):
         self.story.wait_until_caught_up = AsyncMock(side_effect=[True, False])
