@@ -2,9 +2,10 @@
 from __future__ import annotations
 
 import asyncio
+import json
 from collections import Counter
-from dataclasses import dataclass
-from typing import List, Sequence
+from dataclasses import dataclass, replace
+from typing import Any, Dict, List, Sequence
 
 from .control import StoreLost, StoreRefused
 from .control_etcd import Entry, Etcd, EtcdFault, EtcdRefused, end_of, has_value, is_absent, put
@@ -20,16 +21,35 @@ class JournalLost(StoreLost):
     """Lines that were stored are not there any longer, as after a restore of an etcd from a backup."""
 
 
+class JournalEnded(StoreLost):
+    """The journal has ended, and another one goes on in its place, below other keys."""
+
+    def __init__(self, text: str) -> None:
+        super().__init__("this journal has ended, and another one goes on")
+        self.folder = str(json.loads(text)["folder"])
+
+
 @dataclass(frozen=True)
 class Keys:
-    """The keys of one service in etcd."""
+    """The keys of one service in etcd. Each journal has a folder, the first one and each that goes on from another."""
 
     prefix: str = "smplan/"
+    folder: str = "journal/"
 
     @property
     def journal(self) -> str:
         """What the keys of all lines begin with."""
-        return f"{self.prefix}journal/"
+        return f"{self.prefix}{self.folder}"
+
+    @property
+    def end(self) -> str:
+        """The key behind all lines of a journal that has ended. It says where another one goes on. (Who does not know of it finds a line that is none.)"""
+        return f"{self.journal}~"
+
+    @property
+    def origins(self) -> str:
+        """What the keys begin with that say what a journal goes on from, each by its number."""
+        return f"{self.prefix}origin/"
 
     @property
     def leader(self) -> str:
@@ -61,7 +81,9 @@ class EtcdJournal:
                 return lines
 
     def behind(self, found: List[Entry], place: int, last: str, may_lag: bool) -> List[str]:
-        """Returns the lines behind a place, of what was read from it on. That line has to be as it was, and there is no gap."""
+        """Returns the lines behind a place, of what was read from it on. That line has to be as it was, and there is no gap. Fails if the journal has ended."""
+        if found and found[-1].key == self.keys.end:
+            raise JournalEnded(found[-1].value)
         if place and not found and may_lag:
             return []
         if place and (not found or (found[0].key, found[0].value) != (self.keys.line(place), last)):
@@ -109,16 +131,29 @@ class EtcdJournal:
     async def attempt(self, ahead: Sequence[str], lines: Sequence[str]) -> bool:
         """Tries one transaction; whether it is known to have gone through. The line before has to be there."""
         place, last = self.place + len(ahead), ahead[-1] if ahead else self.last
-        guards = [is_absent(self.keys.line(place + 1)), has_value(self.keys.leader, self.leader)]
-        guards += [has_value(self.keys.line(place), last)] if place else []
         try:
-            return await self.etcd.transact(guards, [put(self.keys.line(place + 1 + it), line) for it, line in enumerate(lines)])
+            return await self.etcd.transact(self.guards(place, last), [put(self.keys.line(place + 1 + it), line) for it, line in enumerate(lines)])
         except EtcdRefused:
             raise
         except EtcdFault:
             self.counts[UNANSWERED] += 1
             await asyncio.sleep(0.02)
             return False
+
+    def guards(self, place: int, last: str) -> List[Dict[str, Any]]:
+        """What has to be so when something is stored behind a line: it is the last one of a journal that has not ended, and this one leads."""
+        guards = [is_absent(self.keys.line(place + 1)), is_absent(self.keys.end), has_value(self.keys.leader, self.leader)]
+        return guards + ([has_value(self.keys.line(place), last)] if place else [])
+
+    async def end(self, keys: Keys, first: str) -> bool:
+        """Ends the journal, and makes another one begin with a line, by one transaction. Whether it went through; a fault leaves that open."""
+        text = json.dumps({"folder": keys.folder})
+        return await self.etcd.transact([*self.guards(self.place, self.last), is_absent(keys.line(1))], [put(self.keys.end, text), put(keys.line(1), first)])
+
+    def go_on(self, folder: str) -> None:
+        """Begins anew, with the journal that goes on from this one."""
+        self.keys = replace(self.keys, folder=folder)
+        self.place, self.last, self.bytes = 0, "", 0
 
     async def need_leadership(self) -> None:
         """Fails if another one leads."""

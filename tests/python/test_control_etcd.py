@@ -20,7 +20,7 @@ from cluster.wire import Cluster
 from smplan import control_commands
 from smplan.control import Pace, StoreLost, StoreRefused
 from smplan.control_etcd import EtcdRefused, encoded
-from smplan.control_etcd_journal import Keys
+from smplan.control_etcd_journal import JournalEnded, Keys
 from smplan.control_etcd_lease import Lease
 from smplan.control_etcd_map import EtcdMap
 from smplan.control_store import Trial, check
@@ -167,6 +167,34 @@ class LostLinesTest(unittest.IsolatedAsyncioTestCase):
         for fresh in (reader, EtcdJournal(etcd, "k2")):
             with self.assertRaisesRegex(JournalLost, "line 4 of the journal is not there"):
                 await fresh.read(may_lag=True)
+
+    async def test_behind_the_end_nothing_is_stored(self):
+        etcd, writer, reader = await self.journals()
+        keys = replace(writer.keys, folder="journal.1/")
+        self.assertFalse(await EtcdJournal(etcd, "k1").end(keys, "x"))
+        etcd.faults.append("unanswered")
+        with self.assertRaises(EtcdFault):
+            await writer.end(keys, "x")
+        self.assertFalse(await writer.end(keys, "y"))
+        for doing in (writer.append(["d"]), reader.read(), reader.read(may_lag=True), EtcdJournal(etcd, "k0").append(["d"])):
+            with self.assertRaises(JournalEnded) as ended:
+                await doing
+        for at in range(1, 4):
+            del etcd.keys[key_of(at)]
+        with self.assertRaises(JournalEnded):
+            await reader.read()
+        reader.go_on(ended.exception.folder)
+        self.assertEqual((await reader.read(), reader.place, reader.bytes), (["x"], 1, 1))
+        writer.go_on(ended.exception.folder)
+        self.assertEqual(await writer.append(["e"]), ["x", "e"])
+        self.assertNotIn(key_of(4), etcd.keys)
+
+    async def test_lines_on_their_way_do_not_come_behind_the_end(self):
+        etcd, writer, _ = await self.journals()
+        late = EtcdJournal(etcd, "k0")
+        await late.read()
+        self.assertTrue(await writer.end(replace(writer.keys, folder="journal.1/"), "x"))
+        self.assertFalse(await late.attempt([], ["d"]))
 
     async def test_services_side_by_side(self):
         etcd = FakeEtcd()
