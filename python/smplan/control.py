@@ -182,6 +182,8 @@ class Controller:
         self.answers: Counter[Tuple[str, str]] = Counter()
         self.times = Times()
         self.proposal: Optional[Line] = None
+        # told of each stored line and its reply
+        self.noted: Callable[[str, Line], None] = lambda text, reply: None
         self.lost: Optional[Exception] = None
         self.queue: List[Waiting] = []
         self.has_lines = asyncio.Event()
@@ -330,6 +332,7 @@ class Controller:
         replies = [(text, self.session.feed(text, self.heed)) for text in fed]
         for text, reply in replies:
             answer = await reply
+            self.noted(text, answer)
             mine = waiting.get(text)
             if mine is not None and not mine.done():
                 mine.set_result(answer)
@@ -338,8 +341,8 @@ class Controller:
 
     async def follow(self, lines: Sequence[str]) -> None:
         """Feeds stored lines of others. Their replies are not acted on."""
-        for reply in [self.session.feed(text) for text in lines]:
-            await reply
+        for text, reply in [(text, self.session.feed(text)) for text in lines]:
+            self.noted(text, await reply)
 
     # Replies.
 

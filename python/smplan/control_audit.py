@@ -12,12 +12,12 @@ from pathlib import Path
 from typing import Any, Dict, Iterator, List, Optional, Tuple
 
 from . import program
+from .control_rotated import CLOSED, HEAD
 from .failure import Failure
 from .words import counted
 
 Line = Dict[str, Any]
 
-HEAD = '{"journal":"smpland","format":2}'
 NO_SUM = "0" * 64
 # The most plans in a document of `smplan play`.
 MOST_PLANS = 16
@@ -45,7 +45,7 @@ def read_journal(text: str) -> Read:
     """Reads a journal of `smpland JOURNAL`, or lines as a host of `smpland -` has stored them."""
     lines = text.split("\n")
     read = Read(is_torn=lines[-1] != "")
-    if lines[0] != HEAD:
+    if lines[0] not in (HEAD, CLOSED):
         whole = lines[:-1] if object_of(lines[-1]) is None else lines
         read.lines = [it for it in whole if it.strip()]
         return read

@@ -13,7 +13,7 @@ from .failure import Failure
 
 # Each module adds its commands with `add_parser(subparsers)`.
 MODULES = [
-    "control_run", "control_operate", "control_restart", "control_reopen", "control_servers", "control_resize", "control_shards", "control_repair", "control_drain",
+    "control_run", "control_operate", "control_restart", "control_reopen", "control_servers", "control_resize", "control_shards", "control_repair", "control_rotate", "control_drain",
     "control_watch", "control_audit", "gate_command", "control_campaign", "control_rolling",
 ]
 

@@ -25,6 +25,8 @@ from .control_fleet import FleetFile, HttpFleet
 from .control_http import Page, Route, Server, serve
 from .control_map import MapFile
 from .control_metrics import metric, metrics_of
+from .control_rotation import Rotation
+from .control_rotation_file import FileRotation
 from .control_serve import line_of, routes_of
 from .failure import Failure
 
@@ -56,6 +58,7 @@ class Settings:
     token: Optional[str] = None
     tls: Optional[ssl.SSLContext] = None
     pace: Pace = Pace()
+    rotate_at: Optional[int] = None
 
 
 async def keep(lines: Sequence[str]) -> Sequence[str]:
@@ -78,6 +81,7 @@ class Running:
         self.stopping = asyncio.Event()
         self.looking: Optional["asyncio.Task[None]"] = None
         self.told: Set[Tuple[Any, ...]] = set()
+        self.rotation: Rotation = FileRotation(self, settings.rotate_at)
 
     async def run(self) -> int:
         """Runs until it is told to stop, 0, or its session ends: as that has ended, or 3."""
@@ -87,6 +91,7 @@ class Running:
         status = 3
         try:
             self.server = await serve(self.settings.host, self.settings.port, self.routes(), self.settings.token, self.settings.tls)
+            await self.rotation.begin()
             await self.adopt_map()
             await controller.lead()
             await self.open()
@@ -100,6 +105,11 @@ class Running:
         finally:
             ended = await self.end()
         return ended if status and ended in PASSED_ON else status
+
+    async def ask(self, line: Line) -> Line:
+        """Asks the session."""
+        assert self.controller is not None
+        return await self.controller.ask(line)
 
     def listen_to_signals(self) -> None:
         """Stops at SIGTERM and SIGINT, reads the fleet's file anew at SIGHUP."""
@@ -149,6 +159,7 @@ class Running:
             if controller.lost is not None:
                 raise controller.lost
             await controller.refresh()
+            await self.rotation.step()
             if self.looking is None or self.looking.done():
                 self.looking = asyncio.create_task(self.owner.look())
             self.tell_of_messages()
@@ -188,9 +199,9 @@ class Running:
         """What is served."""
         assert self.controller is not None
         routes = routes_of(self.controller)
-        return {**routes, "POST /do": self.logged(self.beginning(routes["POST /do"])), "POST /restarted": self.logged(routes["POST /restarted"]),
+        return {**routes, "POST /do": self.logged(self.remembering(self.beginning(routes["POST /do"]))), "POST /restarted": self.logged(routes["POST /restarted"]),
                 "POST /restore": self.restore, "POST /base": self.base, "GET /document": self.told_document, "GET /healthz": self.health, "GET /fleet": self.told_fleet,
-                "GET /metrics": self.metrics}
+                "GET /metrics": self.metrics, "GET /rotate": self.told_rotation, "POST /rotate": self.rotate}
 
     def logged(self, route: Route) -> Route:
         """A route that logs what an operator does. What is opened has a map."""
@@ -224,6 +235,39 @@ class Running:
                 return Page.of({"refused": {"kind": "LastReplica", "shard": emptied, "text": text}})
             return await route(body)
         return answer
+
+    def remembering(self, route: Route) -> Route:
+        """A route that knows the names which the last epoch of the journal before this one has."""
+        async def answer(body: bytes) -> Page:
+            try:
+                reply = await self.rotation.again(line_of(body))
+            except (ValueError, SessionEnded):  # (the route says so)
+                reply = None
+            return await route(body) if reply is None else Page.of(reply)
+        return answer
+
+    async def told_rotation(self, _: bytes) -> Page:
+        """How the rotation of the journal stands. Who does not lead does not know."""
+        controller = self.controller
+        assert controller is not None
+        try:
+            told = await self.rotation.told()
+            leads = controller.leads and controller.lost is None
+            return Page.of(told) if leads else Page.of({"fault": "this controller does not lead"}, 409)
+        except SessionEnded as why:
+            return Page.of({"fault": str(why)}, 503)
+
+    async def rotate(self, body: bytes) -> Page:
+        """Has the journal end once all is at rest, `{"wait":60}` seconds long."""
+        try:
+            wait = float(line_of(body)["wait"])
+        except (ValueError, LookupError, TypeError) as why:
+            return Page.of({"fault": f"this says not how long to wait: {why}"}, 400)
+        page = await self.told_rotation(b"")
+        if page.status != 200:
+            return page
+        self.rotation.ask_for(wait)
+        return await self.told_rotation(b"")
 
     async def shards(self) -> List[Line]:
         """The shards as they are recorded; none before something is open."""
@@ -306,6 +350,8 @@ class Running:
         try:
             if state["is"] == "new":
                 raise Unknown("nothing is opened yet")
+            if "shards" not in state:  # (the first reopening of a journal is under way)
+                return Page.of({"fault": "a reopening is under way, and nothing was opened before"}, 503)
             if self.settings.document is None:
                 raise Unknown("this session does not tell what shards want, and --open names no document that does")
             return Page.of(document_of_state(state, self.settings.document))
@@ -339,6 +385,14 @@ def address_of(text: str) -> Tuple[str, int]:
     return found.hostname, found.port
 
 
+def size_of(text: str) -> int:
+    """Reads a size: bytes, or as 64M."""
+    number, unit = (text[:-1], text[-1].upper()) if text[-1:].upper() in ("K", "M", "G") else (text, "")
+    if not number.isdecimal() or int(number) == 0:
+        raise argparse.ArgumentTypeError(f"{text} is no size as 64M")
+    return int(number) << {"": 0, "K": 10, "M": 20, "G": 30}[unit]
+
+
 def read_document(path: Optional[str]) -> Optional[Line]:
     """Reads the document to open, if one is named. (The session says whether it is one.)"""
     if path is None:
@@ -357,7 +411,8 @@ def settings_of(told: argparse.Namespace) -> Settings:
     token = read_token(told.token)
     if token is None and not is_loopback(host):
         raise Failure(f"whoever reaches {host}:{port} can move everything: name a --token FILE, or a loopback address")
-    return Settings(told.fleet, tuple(shlex.split(told.session)), host, port, read_document(told.open), token, read_certificate(told.tls), Pace(timeout=told.timeout))
+    return Settings(told.fleet, tuple(shlex.split(told.session)), host, port, read_document(told.open), token, read_certificate(told.tls), Pace(timeout=told.timeout),
+                    told.rotate_at)
 
 
 def etcd_of(told: argparse.Namespace) -> "Optional[EtcdSettings]":
@@ -419,6 +474,7 @@ def add_parser(subparsers: Any) -> None:
     parser.add_argument("--open", metavar="DOCUMENT", help="what there is, if nothing was opened yet")
     parser.add_argument("--token", metavar="FILE", help="its text is shown by whoever asks, and to servers, as Authorization: Bearer")
     parser.add_argument("--tls", nargs=2, metavar=("CERT", "KEY"), help="serve by TLS")
+    parser.add_argument("--rotate-at", type=size_of, metavar="SIZE", help="once the journal has this size, as 64M, begin a new one at rest, as `rotate` does")
     parser.add_argument("--timeout", type=at_least(0.1), default=5.0, metavar="SECONDS", help="how long a server may take to answer (5)")
     among = parser.add_argument_group("one of several controllers, over a journal in etcd; the session is 'smpland -'")
     among.add_argument("--etcd", action="append", metavar="URL", help="a member of etcd; may be given again")

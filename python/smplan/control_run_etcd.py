@@ -11,11 +11,12 @@ from typing import List, Optional, Tuple
 
 from .control import Controller, Session, SessionEnded, StoreLost
 from .control_etcd import Etcd, EtcdFault, end_of, members_of
-from .control_etcd_journal import MOST_BYTES, UNANSWERED, EtcdJournal, JournalLost, Keys
+from .control_etcd_journal import MOST_BYTES, UNANSWERED, EtcdJournal, JournalEnded, JournalLost, Keys
 from .control_etcd_lease import Lease
 from .control_etcd_map import EtcdMap
 from .control_http import serve
 from .control_metrics import metric
+from .control_rotation_etcd import EtcdRotation, Names
 from .control_run import PASSED_ON, Running, Settings
 
 log = logging.getLogger("smplan.run")
@@ -52,20 +53,26 @@ class AmongOthers(Running):
         self.fleet.owner = self.map
         self.mirrored = etcd.client()
         self.read_at = time.monotonic()
+        self.turning = EtcdRotation(self, settings.rotate_at)
+        self.rotation = self.turning
 
     async def run(self) -> int:
         """Follows and leads until it is told to stop, 0; its session ends, as that has ended, or 3; or etcd has lost lines, 6."""
         session = await Session.start(self.settings.program, is_apart=True)
         self.controller = Controller(session, self.fleet, self.journal.append, replace(self.settings.pace, batch_bytes=MOST_BYTES))
+        self.controller.noted = self.turning.names.take
         self.listen_to_signals()
         mirror, status = asyncio.create_task(self.mirror()), 3
         try:
             self.server = await serve(self.settings.host, self.settings.port, self.routes(), self.settings.token, self.settings.tls)
             log.info("%s follows, listens at %s:%d", self.etcd.name, self.settings.host, self.server.port)
             while not self.stopping.is_set():
-                await self.follow()
-                if not self.stopping.is_set() and await self.lease.campaign():
-                    await self.lead()
+                try:
+                    await self.follow()
+                    if not self.stopping.is_set() and await self.lease.campaign():
+                        await self.lead()
+                except JournalEnded as why:
+                    await self.go_on(why.folder)
             log.info("stops")
             status = 0
         except JournalLost as why:
@@ -91,6 +98,17 @@ class AmongOthers(Running):
         except EtcdFault as why:
             log.debug("%s", why)
         await self.rest_for(seconds)
+
+    async def go_on(self, folder: str) -> None:
+        """Follows the journal that goes on from the one before, by a session of its own."""
+        assert self.controller is not None
+        if self.controller.session.fed:
+            await self.controller.session.close()
+            self.controller.session = await Session.start(self.settings.program, is_apart=True)
+        self.journal.go_on(folder)
+        self.turning.names = Names()
+        self.controller.noted = self.turning.names.take
+        log.info("the journal has ended, and goes on below %s", self.journal.keys.journal)
 
     def journal_figures(self) -> List[str]:
         """The size of the journal as far as this controller has read it, and how long ago it was at its end."""
@@ -120,6 +138,7 @@ class AmongOthers(Running):
         why: Optional[BaseException] = None
         try:
             await controller.follow(await self.journal.read())
+            await self.turning.begin()
             await self.adopt_map()
             await controller.lead()
             await self.open()
@@ -127,6 +146,7 @@ class AmongOthers(Running):
             while not self.stopping.is_set() and not keeping.done() and controller.lost is None:
                 await self.rest_for(0.5)
                 await controller.refresh()
+                await self.turning.step()
                 self.tell_of_messages()
             why = controller.lost
         except (EtcdFault, StoreLost, SessionEnded) as fault:

@@ -37,7 +37,7 @@ class ScriptedServer:
                 """Tells nobody."""
 
         self.http = ThreadingHTTPServer(("127.0.0.1", 0), Handler)
-        self.http.daemon_threads = True
+        self.http.daemon_threads, self.http.handle_error = True, lambda request, client: None
         self.port = self.http.server_address[1]
         self.thread = threading.Thread(target=self.http.serve_forever, args=(0.05,), daemon=True)
         self.thread.start()

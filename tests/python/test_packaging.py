@@ -121,11 +121,11 @@ class Installed(unittest.TestCase):
 
     def test_each_command_has_an_example_and_its_exit_statuses(self):
         commands = next(it.choices for it in control_commands.parser()._actions if isinstance(it.choices, dict))
-        self.assertLess({"run", "begin", "state", "restart", "reopen", "resize", "add-server", "remove-server", "add-shard", "remove-shard", "repair", "controllers", "drain", "watch", "metrics", "audit-journal", "gate"}, set(commands))
+        self.assertLess({"run", "begin", "state", "restart", "reopen", "resize", "add-server", "remove-server", "add-shard", "remove-shard", "repair", "rotate", "controllers", "drain", "watch", "metrics", "audit-journal", "gate"}, set(commands))
         for name, parser in commands.items():
             text = " ".join(parser.format_help().split())
             with self.subTest(name):
                 self.assertRegex(text, "[Ee]xample:? ")
                 self.assertIn("Exit status", text)
-        for name in ("begin", "state", "restart", "reopen", "resize", "add-server", "remove-server", "add-shard", "remove-shard", "repair", "controllers", "drain", "watch"):
+        for name in ("begin", "state", "restart", "reopen", "resize", "add-server", "remove-server", "add-shard", "remove-shard", "repair", "rotate", "controllers", "drain", "watch"):
             self.assertIn("--json", commands[name].format_help(), name)
