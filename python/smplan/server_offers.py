@@ -99,7 +99,9 @@ class Offers:
 
     def take(self, it: Records, shard: str, offer: Line) -> bool:
         """Takes an offer, unless the list here has changed since it was asked for, or is greater. Whether all that the source has is here, in the
-        source's view."""
+        source's view. Without a copy it takes the answer to a question of this life alone: another offer may be of before the copy was lost."""
+        if not it.has_copy(shard) and offer.get("asked") != self.server.whole.life:
+            return False
         here, source = it.mark(shard), Mark(*offer["mark"])
         if "copy" in offer and Mark(*offer["after"]) == here and not here.has_more_than(source):
             self.load(it, shard, offer)
@@ -114,22 +116,36 @@ class Offers:
         shard = line["shard"]
         with self.server.storage.transaction() as tx:
             it = Records(tx)
-            told = self.refused(it, line)
-            if told is None and self.server.live(shard).leaving:
-                told = {Told.LATER.value: "it leaves"}
-            if told is None and not it.has_copy(shard) and self.fewer(it, line):
-                told = {Told.LATER.value: self.fewer(it, line)}
-            if told is None:
+            told, is_lacking = self.refused(it, line), not it.has_copy(shard)
+            why = "it leaves" if self.server.live(shard).leaving else self.fewer(it, line) if is_lacking else ""
+            if told is None and why:
+                told = {Told.LATER.value: why}
+            if told is None and not is_lacking:
                 has_all, mark = self.take(it, shard, line), it.mark(shard)
                 if has_all and line["cut"] is not None:
                     it.put_slot(shard, agent.seal(it.slot(shard), *line["cut"]))
                 told = {Told.HAS.value: True} if has_all else {Told.LACKS.value: astuple(mark)}
                 if not has_all and mark.has_more_than(Mark(*line["mark"])):
                     told = {Told.LATER.value: "it has more"}
-            if Told.HAS.value in told:
-                told["settled"] = it.counting()[0]
+            settled = {"settled": it.counting()[0]} if told and Told.HAS.value in told else {}
+        told = self.copied(shard, line["from"]) if told is None else {**told, **settled}
         self.server.wake()
         return told
+
+    def copied(self, shard: str, source: int) -> Line:
+        """Copies a shard anew from a source that has sent something, and tells that one where the copy ends."""
+        live = self.server.live(shard)
+        if not live.copying.acquire(blocking=False):
+            return {Told.LATER.value: "it copies"}
+        try:
+            self.catch_up(shard, source)
+        except (OSError, ValueError) as why:
+            return {Told.LATER.value: str(why)}
+        finally:
+            live.copying.release()
+        with self.server.storage.transaction() as tx:
+            it = Records(tx)
+            return {Told.LACKS.value: astuple(it.mark(shard))} if it.has_copy(shard) else {Told.LATER.value: LOST.format(shard)}
 
     def fewer(self, it: Records, offer: Line) -> str:
         """Why nothing is copied from a source whose acknowledged writes are at more servers than this one's, if so: this one may lead the shard next."""
@@ -181,12 +197,12 @@ class Offers:
         return self.offer(it, shard, after) if mark.has_more_than(after) and not it.differs(shard, after) else {"less": astuple(mark)}
 
     def asked(self, shard: str, source: int, after: Mark, beside: bool = False) -> Line:
-        """Asks a source for what is lacking behind a mark."""
+        """Asks a source for what is lacking behind a mark. The offer is noted with the life in which it was asked for."""
         with self.server.storage.transaction() as tx:
-            it = Records(tx)
+            it, life = Records(tx), self.server.whole.life
             line = {"shard": shard, "from": self.server.number, "journal": f"{it.base().journal:x}", "heard": it.heard(), "after": astuple(after),
                     "beside": beside}
-        return self.server.ask(source, "copy", line, self.limits.working)
+        return {**self.server.ask(source, "copy", line, self.limits.working), "asked": life}
 
     def catch_up(self, shard: str, source: int) -> None:
         """Takes all that a source has, if it is to be followed; OSError if it gives nothing."""
@@ -200,5 +216,8 @@ class Offers:
             raise OSError(f"{self.server.name_of(source)}: {offer['said']}")
         with self.server.storage.transaction() as tx:
             it = Records(tx)
+            why = "" if it.has_copy(shard) else self.fewer(it, offer)
+            if why:
+                raise OSError(why)
             if follows(it.slot(shard), it.mark(shard).position) and not self.take(it, shard, offer):
                 raise OSError(f"{self.server.name_of(source)} has sent something else meanwhile")

@@ -62,7 +62,7 @@ class Live:
     """A shard in memory. Requests that run belong to a term; if it ends, they are not acknowledged. Writes up to `acknowledged` are at all who are
     alive. Up to the place `noted` goes all that was here when it began to lead; `told` is the last reopening since which a controller knows that
     enough servers have that. No order that holds requests back begins before `rest_until`. Who is `leaving` asks for leave under this number; `leave` is
-    that of the question that was answered."""
+    that of the question that was answered. `copying` is held while a copy is asked for in place of one that was lost."""
 
     running: int = 0
     term: int = 0
@@ -77,6 +77,7 @@ class Live:
     noted: Optional[int] = None
     told: Optional[int] = None
     links: Dict[int, Link] = field(default_factory=dict)
+    copying: threading.Lock = field(default_factory=threading.Lock)
 
     def begin_anew(self) -> None:
         """Forgets what other servers have, since who executes is another one, or may be."""

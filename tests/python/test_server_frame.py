@@ -705,8 +705,12 @@ def empty_handover(kind):
     b.restore(kv_rules.JOURNAL, 0, 0, b.base().nonce, {kv_rules.SHARD: Slot(cell=Cell.PREPARED, party=1, handover=1, load=1)})
     kv_rules.want(kv_rules.push(b, "r1", "x", Request(handover=1, cut=0, party=1, is_passed=1)), Answer.NOT_YET)
     a.shards.clear()
+    add = kv_rules.order(5, Call.ADD, role=Role.PRIMARY)
+    with kv_rules.lost(a, "answer"):  # (it asks for a copy)
+        a.streams.keep_up()
+    kv_rules.want(kv_rules.answered(b, add), False)
     a.streams.keep_up()
-    kv_rules.want((kv_rules.answered(b, kv_rules.order(5, Call.ADD, role=Role.PRIMARY)), kv_rules.push(b, "r1", "x")), (True, "x"))
+    kv_rules.want((b.work(kv_rules.SHARD, add), kv_rules.push(b, "r1", "x")), (True, "x"))
     kv_rules.want([(it.value(kv_rules.SHARD, "k"), it.kept(lambda kept: kept.views("s"))) for it in (b, c)], 2 * [("x", [(1, 0)])])
 
 

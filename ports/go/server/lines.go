@@ -69,6 +69,7 @@ type offerLine struct {
 	Copy    *copyLine  `json:"copy,omitempty"`
 	Less    *mark      `json:"less,omitempty"`
 	Said    string     `json:"said,omitempty"`
+	asked   uint64     // (the life in which it was asked for, if it was)
 }
 
 // copyLine is a whole copy, with the writes that are kept.

@@ -94,8 +94,11 @@ func (it *Server) append(kept records, shard string, line offerLine) error {
 }
 
 // takeOffer takes an offer, unless the list here has changed since it was asked for, or is greater, and returns whether all that the source has is
-// here, in the source's view.
+// here, in the source's view. Without a copy it takes the answer to a question of this life alone: another offer may be of before the copy was lost.
 func (it *Server) takeOffer(kept records, shard string, line offerLine) (has bool, err error) {
+	if !kept.hasCopy(shard) && line.asked != it.lifeNow() {
+		return false, nil
+	}
 	if len(line.Views) == 0 {
 		line.Views = views{{0, 0}}
 	}
@@ -132,21 +135,32 @@ func refused(kept records, line offerLine) *followLine {
 	return nil
 }
 
+// unready is what a server answers of whose offer it takes nothing now, if so.
+func (it *Server) unready(kept records, line offerLine) *followLine {
+	if answer := refused(kept, line); answer != nil {
+		return answer
+	}
+	if it.isLeaving(line.Shard) {
+		return &followLine{Later: "it leaves"}
+	}
+	if err := it.fewer(kept, line); err != nil && !kept.hasCopy(line.Shard) {
+		return &followLine{Later: err.Error()}
+	}
+	return nil
+}
+
 // taken takes what a source sends, and tells it what is here.
 func (it *Server) taken(line offerLine) (any, error) {
 	var answer *followLine
+	isLacking := false
 	err := it.transact(func(kept records) error {
-		if answer = refused(kept, line); answer == nil && it.isLeaving(line.Shard) {
-			answer = &followLine{Later: "it leaves"}
-		}
-		if err := it.fewer(kept, line); answer == nil && err != nil && !kept.hasCopy(line.Shard) {
-			answer = &followLine{Later: err.Error()}
-		}
+		answer = it.unready(kept, line)
 		settled := kept.counting().Settled
 		if answer != nil && answer.Has {
 			answer.Settled = &settled
 		}
-		if answer != nil {
+		isLacking = answer == nil && !kept.hasCopy(line.Shard)
+		if answer != nil || isLacking {
 			return nil
 		}
 		has, err := it.takeOffer(kept, line.Shard, line)
@@ -166,8 +180,39 @@ func (it *Server) taken(line offerLine) (any, error) {
 		}
 		return nil
 	})
+	if isLacking {
+		answer = it.copied(line.Shard, line.From)
+	}
 	it.with(line.Shard, func(*live) {})
 	return answer, err
+}
+
+// copied copies a shard anew from a source that has sent something, and tells that one where the copy ends.
+func (it *Server) copied(shard string, source uint32) *followLine {
+	isBusy := false
+	it.with(shard, func(live *live) { isBusy, live.isCopying = live.isCopying, true })
+	if isBusy {
+		return &followLine{Later: "it copies"}
+	}
+	defer it.with(shard, func(live *live) { live.isCopying = false })
+	if err := it.catchUp(shard, source); err != nil {
+		return &followLine{Later: err.Error()}
+	}
+	answer := &followLine{Later: lostCopy(shard)}
+	it.transact(func(kept records) error {
+		if here := kept.mark(shard); kept.hasCopy(shard) {
+			answer = &followLine{Lacks: &here}
+		}
+		return nil
+	})
+	return answer
+}
+
+// lifeNow returns a number that is another one after each start, and whenever the slots were set or lost.
+func (it *Server) lifeNow() uint64 {
+	it.mutex.Lock()
+	defer it.mutex.Unlock()
+	return it.life
 }
 
 // fewer returns why nothing is copied from a source whose acknowledged writes are at more servers than this one's, if so: this one may lead the shard
@@ -242,14 +287,17 @@ func lostCopy(shard string) string {
 	return "it has lost its copy of " + shard + ": give it up as lost"
 }
 
-// asked asks a source for what is lacking here.
+// asked asks a source for what is lacking here. The offer is noted with the life in which it was asked for.
 func (it *Server) asked(shard string, source uint32, beside bool) (offer offerLine, err error) {
 	var line askLine
+	var life uint64
 	it.transact(func(kept records) error {
+		life = it.lifeNow()
 		line = askLine{shard, it.number(), fmt.Sprintf("%x", kept.base().Journal), kept.heard(), kept.mark(shard), beside}
 		return nil
 	})
 	err = it.ask(source, "copy", line, &offer, it.Limits.Working)
+	offer.asked = life
 	if err == nil && offer.Said != "" {
 		err = fmt.Errorf("%s: %s", it.nameOf(source), offer.Said)
 	}
@@ -278,6 +326,9 @@ func (it *Server) catchUp(shard string, source uint32) error {
 	return it.transact(func(kept records) error {
 		if !follows(kept.slot(shard), kept.mark(shard).Position) {
 			return nil
+		}
+		if err := it.fewer(kept, offer); err != nil && !kept.hasCopy(shard) {
+			return err
 		}
 		if has, err := it.takeOffer(kept, shard, offer); err != nil || !has {
 			return fmt.Errorf("%s has sent something else meanwhile: %v", it.nameOf(source), err)

@@ -85,6 +85,7 @@ type live struct {
 	noted        *uint64
 	told         *uint64
 	links        map[uint32]*link
+	isCopying    bool // (it asks for a copy in place of one that was lost)
 }
 
 // beginAnew forgets what other servers have, since who executes is another one, or may be.

@@ -112,10 +112,11 @@ func TestANewOwnerHearsOfTheCutWithAllUpToIt(t *testing.T) {
 		return nil
 	})
 	for _, hasCut := range []bool{false, true} {
+		owner.with("s", func(live *live) { live.isCopying = !hasCut })
 		if hasCut {
 			wantSame(t, source.push("s", 2, 0, false), hasAll)
 		} else {
-			wantTaken(t, source, owner, markOf(source), `{"lacks":[0,"",0]}`, "[[0 0]]")
+			wantTaken(t, source, owner, markOf(source), `{"later":"it copies"}`, "[[0 0]]")
 		}
 		owner.transact(func(kept records) error { wantSame(t, kept.slot("s").HasCut, hasCut); return nil })
 		where, _, _, err := owner.route(requestLine{Shard: "s", Command: json.RawMessage("1")}, &smplan.Pass{Party: 1, Handover: 1})
