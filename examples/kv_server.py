@@ -285,7 +285,7 @@ class Server(Store):
                 return answer
             self.store_base(base)
             number = told.number if isinstance(told, Settlement) else told.fence
-            self.copies = self.store_copies(self.given, self.reopened() < number)
+            self.copies = self.store_copies(self.given, isinstance(told, Settlement))
             self.db.execute("REPLACE INTO reopened VALUES (1, ?)", (number,))
             self.questions, self.named = {}, {}
             for shard, slot in {**{it: agent.VACANT for it in self.copied()}, **slots}.items():

@@ -117,10 +117,10 @@ class Records:
         self.tx.put("frame/settled", json.dumps([settled, max(copies, before)]))
         return max(copies, before)
 
-    def put_settled(self, number: int, copies: int) -> None:
-        """Stores of which reopening it takes slots. By those of a later one its writes may be at fewer servers than before."""
-        settled, before = self.counting()
-        self.tx.put("frame/settled", json.dumps([number, copies if settled < number else max(copies, before)]))
+    def put_settled(self, number: int, copies: int, is_settle: bool) -> None:
+        """Stores of which reopening it takes slots. Only a settle is taken before its reopening is in force: by no restore its writes are at fewer
+        servers than before."""
+        self.tx.put("frame/settled", json.dumps([number, copies if is_settle else max(copies, self.counting()[1])]))
 
     def fleet(self) -> Dict[str, Any]:
         """The servers that it knows: their numbers and addresses."""

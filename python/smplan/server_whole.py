@@ -121,7 +121,7 @@ class Whole:
                 return answer
             number = told.fence if isinstance(told, Restoration) else told.number
             it.put_base(base, number)
-            it.put_settled(number, self.server.copies)
+            it.put_settled(number, self.server.copies, isinstance(told, Settlement))
             tx.delete("frame/new")
             for shard, slot in {**{one: VACANT for one in it.copies()}, **slots}.items():
                 is_chosen = isinstance(told, Settlement) and before.get(shard, Slot()).cell != Cell.PRIMARY

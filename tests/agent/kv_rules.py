@@ -706,6 +706,36 @@ def started_with_fewer(kind):
     want_kept(answer, b, c)
 
 
+class FallsAtARestore(Server):
+    """Counts by what it is started with once it is restored."""
+    def restore(self, *words):
+        is_taken = super().restore(*words)
+        self.copies = self.given if is_taken else self.copies
+        return is_taken
+
+
+def restored_with_fewer(kind):
+    """Server b was carried over at a reopening, and takes its slots once a, which led, has looked who may lead next."""
+    a, b, c = three(kind, copies=2)
+    push(a, "r1", "x")
+    for server, cell in ((a, Cell.PRIMARY), (c, Cell.SECONDARY)):
+        server.fence(JOURNAL, 100)
+        want(server.settle(JOURNAL, 100, None, {SHARD: Slot(cell=cell, load=1)}), True)
+    want(a.tell_copies(SHARD)["copies"], 2)
+    b.given = 1
+    b.start()
+    drop = order(101, Call.DROP, fence=100)
+    a.order(SHARD, drop, 1, (1, 2, 3))
+    want(a.work(SHARD, drop), True)
+    with b.db:
+        b.heed(JOURNAL, 100)
+    restore(b, Cell.SECONDARY, 100)
+    want(answered(b, order(102, Call.CHANGE, role=Role.SECONDARY, new_role=Role.PRIMARY, fence=100)), True)
+    with lost(c, "pull"):
+        answer = push(b, "r2", "y")
+    want_kept(answer, c)
+
+
 class HandsToAnybody(Server):
     """Lets one lead next that counts by fewer copies."""
     def count_by_as_many(self, others):
@@ -836,8 +866,8 @@ RULES = ((CommitsFirst, crash_amid_copy), (KeepsTheRest, late_after_settle), (Fo
          (KeepsWork, crash_and_repeat), (DeletesAtDrop, late_order), (ComesBackEmpty, lost_state),
          (KeepsItsNonce, given_up), (TakesWhatItLost, lost_disk), (AcknowledgesAlone, lost_for_good), (AsksForOne, acknowledged_at_one),
          (TellsAtOnce, copies_told_at_one), (CountsTheGivenUp, given_up_and_counted), (CountsAnew, started_with_fewer),
-         (HandsToAnybody, handed_to_fewer), (CopiesFromAnybody, copied_by_fewer), (SendsFirst, crash_with_a_write_sent),
-         (ShowsAtOnce, read_of_what_is_lost),
+         (FallsAtARestore, restored_with_fewer), (HandsToAnybody, handed_to_fewer), (CopiesFromAnybody, copied_by_fewer),
+         (SendsFirst, crash_with_a_write_sent), (ShowsAtOnce, read_of_what_is_lost),
          (ForgetsTheOldOwner, old_owner_is_down), (ForgetsAtLeave, killed_behind_leave))
 
 

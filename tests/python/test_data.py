@@ -84,7 +84,7 @@ class Service:
         for _ in range(steps):
             line, = orders
             order, it = order_of(line, NUMBERS), self.servers[line["server"]]
-            it.order("s", order, NUMBERS[line["primary"]], {NUMBERS[at] for at in line["replicas"]})
+            it.order("s", order, NUMBERS.get(line["primary"], 0), {NUMBERS[at] for at in line["replicas"]})
             assert it.work("s", order)
             orders = self.say({"do": "answered", "plan": line["plan"], "stream": line["stream"], "number": line["number"]})["orders"]
 
@@ -115,6 +115,12 @@ class Service:
                 part = assignment_of(line)
                 assert self.servers[line["server"]].settle(part.journal, part.number, part.nonce, slots_of(line, NUMBERS))
             self.say({"do": "settled", "server": line["server"], "base": base})
+
+
+def plan(code, **rights):
+    """A plan of one stream."""
+    holds = {"cells": [], "crowns": [], "room": [], "spare": [], **rights}
+    return {"budget": 1, "format": 1, "signals": [], "streams": [{"budget": 1, "code": code, "holds": holds}]}
 
 
 class LossesTest(unittest.TestCase):
@@ -150,6 +156,31 @@ class LossesTest(unittest.TestCase):
                 self.assertEqual((proposal["lost"], primary_of(proposal)), ([] if copies > 1 and is_back else ["s"], "c" if is_back else "b"))
                 it.settle(proposal)
                 self.assertEqual(it.servers["c" if is_back else "b"].value("s", "k"), "xy" if is_back else "x")
+
+    def test_who_was_carried_over_counts_by_as_many_once_it_is_restored(self):
+        """It tells the primary that is dropped the number of before the reopening, takes its slots, and leads."""
+        it = Service(self, 2)
+        a, b, c = (it.servers[name] for name in "abc")
+        self.assertEqual(it.push("a", "x"), "x")
+        it.go_down("b")
+        it.settle(it.reopen("abcd"))
+        self.assertEqual(it.tell_copies(), {"copied": {"shard": "s", "copies": 2}})
+        b.given, it.peers[2] = 1, b
+        b.start()
+        lead, spare = {"lead": "at", "listed": "a", "server": "a", "shard": "s"}, {"shard": "s", "amount": 1}
+        steps = [{"do": "unlist", "shard": "s"}, {"do": "drop", "shard": "s", "server": "a"}]
+        line, = it.say({"do": "begin", "plan": plan(steps, crowns=[lead], spare=[spare]), "name": "drop"})["orders"]  # (the map's owner unlists it)
+        it.move(it.say({"do": "answered", "plan": line["plan"], "stream": line["stream"], "number": line["number"]})["orders"], 1)
+        with b.db:
+            b.heed(JOURNAL, it.say({"do": "orders"})["notice"][0]["fence"])
+        self.assertEqual((it.restore("b"), it.come_up("b")), (True, {"up": "b"}))
+        lead, cell = {"lead": "gone", "listed": None, "shard": "s"}, {"server": "b", "shard": "s", "state": "secondary"}
+        steps = [{"do": "change", "shard": "s", "server": "b", "to": "primary"}]
+        it.move(it.say({"do": "begin", "plan": plan(steps, cells=[cell], crowns=[lead]), "name": "promote"})["orders"], 1)
+        del it.peers[3]
+        said = it.push("b", "y")
+        it.peers[3] = c
+        self.assertEqual((said, it.push("b", "y"), c.value("s", "k")), (Answer.NOT_YET, "xy", "xy"))
 
     def test_what_a_settle_does_not_bring_serves_nobody(self):
         it = Service(self)

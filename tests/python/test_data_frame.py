@@ -198,12 +198,78 @@ class Service:
             test.assertIn(text, kept.values(), f"{text!r} was acknowledged, {lost} are lost, and {proposal} names nothing")
 
 
+def plan(step, cells=(), crowns=()):
+    """A plan of a step with the map's, which it needs these rights for."""
+    publication = {"do": "publish" if step.get("to") == "primary" else "unlist", "shard": "s"}
+    code = [step, publication] if step.get("to") == "primary" else [publication, step]
+    holds = {"cells": list(cells), "crowns": list(crowns), "room": [], "spare": []}
+    return {"budget": 1, "format": 1, "signals": [], "streams": [{"budget": 1, "code": code, "holds": holds}]}
+
+
+DEMOTE = plan({"do": "change", "shard": "s", "server": "v1", "to": "secondary"}, crowns=[{"lead": "at", "listed": "v1", "server": "v1", "shard": "s"}])
+PROMOTE = plan({"do": "change", "shard": "s", "server": "v2", "to": "primary"}, [{"server": "v2", "shard": "s", "state": "secondary"}],
+               [{"lead": "gone", "listed": None, "shard": "s"}])
+
+
+class FallsAtARestore(Member):
+    """Counts by fewer copies once it has taken slots of a later reopening, by a restore, too."""
+
+    def answer(self, path, line):
+        told = super().answer(path, line)
+        if path == "/restore":
+            self.kept(lambda it: it.tx.put("frame/settled", json.dumps([it.counting()[0], self.copies])))
+        return told
+
+
 class TakesAnyOffer(Member):
     """Takes an offer that it has not asked for, too, if it has no copy."""
 
     def follow(self, line):
         self.kept(lambda it: self.offers.take(it, line["shard"], {**line, "asked": self.whole.life}))
         return super().follow(line)
+
+
+class FewerCopiesTest(unittest.TestCase):
+    """N falls by a settle alone: each is taken before its reopening is in force, and so before anybody looks who may lead next."""
+
+    def lead_next(self, kind):
+        """v2 is down at a reopening, which carries it over, and starts to count by 1. v1 tells of two copies, and is a secondary. Then v2 takes its
+        slots, and leads. If it acknowledges a write alone, it is lost. What it has answered."""
+        it = Service(self, kind, cap=1)
+        self.assertEqual(it.push("v1", "x"), "x")
+        it.go_down("v2")
+        it.settle(it.reopen(BY_NAME))
+        it.start("v2", 1)
+        self.assertEqual(it.tell_copies(), {"copied": {"shard": "s", "copies": 2}})
+        self.assertEqual(it.go(it.begin(DEMOTE, "demote")), [])
+        it.notice("v2")
+        self.assertEqual(it.go(it.begin(PROMOTE, "promote")), [])
+        it.silence("v1", "v3")
+        said = it.push("v2", "y")
+        it.hear("v1", "v3")
+        if said == "xy":
+            it.want_kept(self, "xy", "v2")
+        return it, said
+
+    def test_nobody_counts_by_fewer_copies_once_it_is_restored(self):
+        it, said = self.lead_next(Member)
+        self.assertEqual((said, it.counting("v2")[1]), ("not_yet", 2))
+        it.settle(it.reopen(BY_NAME))
+        self.assertEqual([it.counting(name)[1] for name in ("v1", "v2")], [2, 1])
+        with self.assertRaisesRegex(AssertionError, "'xy' was acknowledged"):
+            self.lead_next(FallsAtARestore)
+
+    def test_no_settle_is_taken_behind_its_reopening(self):
+        it = Service(self)
+        it.go_down("v2")
+        it.start("v2", 1)
+        late = it.confirm(it.reopen(BY_NAME))["v2"]
+        it.silence("v2")
+        self.assertEqual(it.fence(BY_NAME), {"waiting": ["v2"]})
+        it.hear("v2")
+        it.settle(it.reopen(BY_NAME))
+        settled = it.counting("v2")
+        self.assertEqual((it.servers["v2"].answer("/settle", late), it.counting("v2")), ({"said": "ignored"}, settled))
 
 
 class LateOfferTest(unittest.TestCase):

@@ -1039,7 +1039,7 @@ class RulesTest(unittest.TestCase):
                 a.tell()
         self.assertEqual((len(a.lines), "AboveWant" in told.call_args.args[0]), (1, True))
 
-    def test_nobody_counts_by_fewer_copies_until_a_later_reopening(self):
+    def test_nobody_counts_by_fewer_copies_until_it_is_settled(self):
         class Once(Twice):
             wanted = 1
 
@@ -1057,8 +1057,8 @@ class RulesTest(unittest.TestCase):
             self.assertEqual(server.kept(lambda it: it.counting()), (0, 2))
             server.settle(kv_rules.JOURNAL, 100, None, {"s": Slot(cell=cell, load=1)})
         self.assertEqual((again.kept(lambda it: it.counting()), b.kept(lambda it: it.counting())), ((100, 1), (100, 2)))
-        b.kept(lambda it: it.put_settled(100, 1))  # (as by a restore)
-        self.assertEqual(b.kept(lambda it: it.counting()), (100, 2))
+        b.kept(lambda it: it.put_settled(200, 1, False))  # (as by a restore)
+        self.assertEqual(b.kept(lambda it: it.counting()), (200, 2))
         with kv_rules.lost(b, "follow"):
             self.assertEqual(kv_rules.push(again, "r2", "y"), "xy")
 

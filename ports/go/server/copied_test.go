@@ -182,26 +182,26 @@ func TestWhoWasNotSettledAtTheLastReopeningDoesNotCount(t *testing.T) {
 	servers := beside(t, "12", "1")
 	it := leads(servers, 2)
 	it.Limits.Waiting = 200 * time.Millisecond
-	it.transact(func(kept records) error { kept.putSettled(100, 2); return nil })
+	it.transact(func(kept records) error { kept.putSettled(100, 2, true); return nil })
 	if it.replicate("s", 2, 0, nil) {
 		t.Fatal("one is counted that was given up")
 	}
-	servers[1].transact(func(kept records) error { kept.putSettled(100, 2); return nil })
+	servers[1].transact(func(kept records) error { kept.putSettled(100, 2, true); return nil })
 	it.with("s", func(live *live) { live.link(2).askAnew() })
 	if !it.replicate("s", 2, 0, nil) {
 		t.Fatal("nobody counts")
 	}
 }
 
-func TestCopiesGetFewerOnlyByALaterReopening(t *testing.T) {
+func TestCopiesGetFewerOnlyByASettle(t *testing.T) {
 	it := beside(t, "1")[0]
 	it.transact(func(kept records) error {
 		found := []any{kept.putCopies(2), kept.putCopies(1)}
-		for _, number := range []uint64{0, 100, 100} {
-			kept.putSettled(number, 1)
+		for _, isSettle := range []bool{false, true} {
+			kept.putSettled(100, 1, isSettle)
 			found = append(found, kept.counting())
 		}
-		wantSame(t, found, "[2 2 {0 2} {100 1} {100 1}]")
+		wantSame(t, found, "[2 2 {100 2} {100 1}]")
 		return nil
 	})
 	if _, err := New(Settings{Name: "x", Copies: -1}, digits{}, opened(t, t.TempDir()+"/store")); err == nil {

@@ -8,6 +8,35 @@ import (
 	"hammerecru.example/smplan"
 )
 
+// restoredAt restores a secondary that was silent at reopening 100, and is started to count by 1.
+func restoredAt(t *testing.T, it *Server) {
+	fence := uint64(100)
+	it.Copies = 1
+	if _, err := it.notice(wholeLine{Journal: "7", Fence: &fence}); err != nil {
+		t.Fatal(err)
+	}
+	var nonce string
+	it.transact(func(kept records) error { nonce = fmt.Sprintf("%x", kept.base().Nonce); return nil })
+	line := wholeLine{Journal: "7", Fence: &fence, Base: 120, Nonce: &nonce, Slots: []slotLine{{Shard: "s", Cell: "secondary"}}}
+	if _, err := it.restore(line); err != nil {
+		t.Fatal(err)
+	}
+}
+
+func TestWhoWasCarriedOverCountsByAsManyOnceItIsRestored(t *testing.T) {
+	servers := beside(t, "12", "12", "12")
+	it, carried := leads(servers, 2), servers[1]
+	for _, settled := range []*Server{it, servers[2]} {
+		settled.transact(func(kept records) error { kept.putSettled(100, 2, true); return nil })
+	}
+	carried.transact(func(kept records) error { kept.putCopies(2); return nil })
+	order := smplan.Order{Call: smplan.Call{Kind: smplan.Change, To: smplan.SecondaryRole}}
+	_, err := it.prepare(orderLine{Shard: "s", Replicas: []string{"a", "b", "c"}}, order)
+	wantSaid(t, err, "") // (it may lead next)
+	restoredAt(t, carried)
+	carried.transact(func(kept records) error { wantSame(t, []any{kept.counting()}, "[{100 2}]"); return nil })
+}
+
 // offered is what a server offers to one that has nothing.
 func offered(it *Server) (line offerLine) {
 	it.transact(func(kept records) (err error) { line, err = it.offer(kept, "s", mark{}); return err })

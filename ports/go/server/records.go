@@ -164,9 +164,10 @@ func (it records) putCopies(copies int) int {
 	return found.Copies
 }
 
-// putSettled stores of which reopening it takes slots. By those of a later one its writes may be at fewer servers than before.
-func (it records) putSettled(number uint64, copies int) {
-	if before := it.counting(); before.Settled >= number && before.Copies > copies {
+// putSettled stores of which reopening it takes slots. Only a settle is taken before its reopening is in force: by no restore its writes are at
+// fewer servers than before.
+func (it records) putSettled(number uint64, copies int, isSettle bool) {
+	if before := it.counting(); !isSettle && before.Copies > copies {
 		copies = before.Copies
 	}
 	it.store("frame/settled", counting{number, copies})

@@ -182,7 +182,7 @@ func (it *Server) take(line wholeLine) (reception smplan.Reception, err error) {
 			heard = told.Fence
 		}
 		kept.putBase(base, heard)
-		kept.putSettled(heard, it.Copies)
+		kept.putSettled(heard, it.Copies, told.Kind == smplan.Settle)
 		kept.Delete("frame/new")
 		for _, shard := range kept.copies() {
 			if _, ok := after[shard]; !ok {
