@@ -57,13 +57,13 @@ class Server(Store):
         return self.copy_of(shard, after), after
 
     def pull(self, shard, source, reopened=0):
-        """Takes what a source has, if it is to be followed. Returns the copy's mark then, durable; None if it is no replica that was settled at the
-        source's last reopening, or asks for leave."""
+        """Takes what a source has, if it is to be followed: in place of a lost copy nothing of one that counts by more. Returns the copy's mark then,
+        durable; None if it is no replica that was settled at the source's last reopening, or asks for leave."""
         slot, mark = self.slot(shard), self.mark(shard)
         if slot.cell not in FOLLOWING or self.reopened() < reopened or shard in self.questions:
             return None
         if slot.cell == Cell.SECONDARY or (slot.party == source and not self.serves(shard)):
-            offer = self.peers[source].offer(shard, mark)
+            offer = self.peers[source].offer(shard, mark) if mark or self.peers[source].count_by() <= self.copies else None
             with self.db:
                 if offer and self.mark(shard) == mark:
                     self.store_copy(shard, *offer)

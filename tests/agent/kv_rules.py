@@ -666,7 +666,7 @@ def copies_told_at_one(kind):
     a, b, c = three(kind)
     with lost(b, "pull"), lost(c, "pull"):
         push(a, "r1", "x")
-        a.copies = 2
+        a.copies = b.copies = c.copies = 2
         want(a.tell_copies(SHARD), None)
     want((a.tell_copies(SHARD)["copies"], b.tell_copies(SHARD), b.value(SHARD, "k")), (2, None, "x"))
 
@@ -772,6 +772,26 @@ def copied_by_fewer(kind):
     want(b.work(SHARD, HANDOVER[0]), True)
 
 
+class PullsFromAnybody(Server):
+    """Copies in place of a lost copy from one that counts by more copies."""
+    def pull(self, *words):
+        copies, self.copies = self.copies, 9
+        told = super().pull(*words)
+        self.copies = copies
+        return told
+
+
+def new_disk_and_fewer(kind):
+    a, _, c = three(kind, copies=2)
+    push(a, "r1", "x")
+    b = kind(2, a.peers, copies=1, is_new=False)
+    restore(b, Cell.SECONDARY)
+    want((push(a, "r2", "y"), c.value(SHARD, "k"), b.mark(SHARD)), ("xy", "xy", None))
+    b.given = 2
+    b.start()
+    want((push(a, "r3", "z"), b.value(SHARD, "k")), ("xyz", "xyz"))
+
+
 class SendsFirst(Server):
     """Sends a write to others before it is durable here."""
     def write(self, shard, request, command):
@@ -867,7 +887,7 @@ RULES = ((CommitsFirst, crash_amid_copy), (KeepsTheRest, late_after_settle), (Fo
          (KeepsItsNonce, given_up), (TakesWhatItLost, lost_disk), (AcknowledgesAlone, lost_for_good), (AsksForOne, acknowledged_at_one),
          (TellsAtOnce, copies_told_at_one), (CountsTheGivenUp, given_up_and_counted), (CountsAnew, started_with_fewer),
          (FallsAtARestore, restored_with_fewer), (HandsToAnybody, handed_to_fewer), (CopiesFromAnybody, copied_by_fewer),
-         (SendsFirst, crash_with_a_write_sent), (ShowsAtOnce, read_of_what_is_lost),
+         (PullsFromAnybody, new_disk_and_fewer), (SendsFirst, crash_with_a_write_sent), (ShowsAtOnce, read_of_what_is_lost),
          (ForgetsTheOldOwner, old_owner_is_down), (ForgetsAtLeave, killed_behind_leave))
 
 
