@@ -214,7 +214,7 @@ class BuiltRules(SmallRules):
     away: ClassVar[frozenset[str]] = REPLACED | NOT_SMALL | NOT_BUILT
 
     # Servers.
-    number_until_slots: bool = rule("A server acknowledges by its number until it takes slots of a later reopening.")
+    number_until_slots: bool = rule("A server acknowledges by its number until it takes a later reopening's settle.")
     leave_of_settled_view: bool = rule(
         "Without another primary no replica gets leave whose view is above the last reopening at which it was settled: "
         "it waits for a newer message."
