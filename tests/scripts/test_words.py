@@ -31,5 +31,10 @@ class WordsTest(unittest.TestCase):
         files = {f"{crate}/src/{file}.rt": text for crate in crates for file, text in (("lib", "pub use it::OpenFault;\n"), ("it", "pub struct OpenFault;\n"))}
         self.assertEqual(self.found(files), (0, []))
 
+    def test_a_definition_that_two_crates_may_share(self):
+        files = {f"{crate}/specs/It.antt": "abbrev pub slot_at : Type 0\n" for crate in ("sm_reopening", "smpland_state")}
+        self.assertEqual(self.found(files), (0, []))
+        self.assertEqual(self.found(files | {"one/specs/It.antt": "abbrev pub slot_at : Type 0\n"})[0], 1)
+
     def test_a_tree_without_definitions(self):
         self.assertEqual(found_by("check/words", {"crates/one/src/lib.rt": ""})[0], 1)
