@@ -346,6 +346,7 @@ class RotateStory(QuickStory, ScriptedStory):
         self.killed()
         self.run_controller()
         self.check(("reopen", "--go-on", "--yes"), 0, "open: epoch 1; at their floor: s")
+        self.until(lambda: "a rotation is under way" not in self.control("rotate", "--dry-run")[1])
         self.check(("rotate", "--dry-run"), 0, "epoch 2")
 
     def test_a_journal_ends_by_itself(self):
