@@ -103,7 +103,7 @@ def is_late(fault: str) -> bool:
 
 
 def most_telling(faults: list[str]) -> str | None:
-    """Returns what a checker found, if it found anything. What a busy machine alone may bring comes last."""
+    """Returns the most telling fault that a checker found; faults that a busy machine alone may bring come last."""
     return min(faults, key=lambda it: (is_late(it), not it.startswith(("servers: ", "clients: ")), it.startswith("plans that have not")), default=None)
 
 

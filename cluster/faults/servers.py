@@ -79,8 +79,8 @@ class ServerStory(Story):
             return True
 
     async def is_up(self, name: str, permit: int) -> bool:
-        """Ends a restart, which is refused as long as the server has no slots: a plan that names it would keep it from being restored. Tells whether it is up.
-        (One that nobody approved has no end.)"""
+        """Ends a restart, and tells whether the server is up. The end is refused as long as the server has no slots: a plan that names it would keep it
+        from being restored. A restart that nobody approved has no end."""
         if not permit:
             return True
         until = time.monotonic() + self.operator.patience
